@@ -11,7 +11,7 @@ IsOfTarget (Partial path) = ⊥
 IsOfTarget (Content fault) = ⊥
 IsOfTarget Memory = Unit {0}
 
--- if the error is one of the new file, it has this path
+-- if the error is `Partial`, it has this path
 abbrev pub HasPath : {E : Type 0} → ReplaceFault E → List ℕ → Type 0
 HasPath Target path = Unit {0}
 HasPath (Partial it) path = string_bytes it ≡ path
@@ -25,7 +25,7 @@ IsMemory (Partial path) = ⊥
 IsMemory (Content fault) = ⊥
 IsMemory Memory = Unit {0}
 
--- if the error is one of the content, the content's writer may return it
+-- if the error is `Content`, the content's writer may return its error
 abbrev pub IsFaultOf : {E : Type 0} → (E → Type 0) → ReplaceFault E → Type 0
 IsFaultOf HasFault Target = Unit {0}
 IsFaultOf HasFault (Partial path) = Unit {0}

@@ -21,11 +21,11 @@ IsFile Other = ⊥
 abbrev pub CanBeReplaced : (List ℕ → Entry) → List ℕ → Type 0
 CanBeReplaced entries path = elim (entries path) [ Missing ↦ Unit {0} | File bytes ↦ Unit {0} | Link target ↦ IsFile (entries target) | Other ↦ ⊥ ]
 
--- the writer returned so for some file before and after its call
+-- `Returns` holds for the file before and after some call of the writer
 abbrev pub IsReturned : {F : Type 0} → (F → F → Type 0) → Type 0
 IsReturned {F} Returns = (before after : F) × Returns before after
 
--- the writer was called on an empty file and returned so, and the file then had these bytes
+-- the writer was called on an empty file, `Returns` holds for the file before and after the call, and the file then had these bytes
 pub record IsWritten {F : Type 0} (IsKnown : Type 0) (taken : F → Option (List ℕ)) (Returns : F → F → Type 0) (bytes : Option (List ℕ)) : Type 0 where
   pub before : F
   pub after : F

@@ -2,7 +2,7 @@
 use Rattle.atomic_file.specs.declared.replace.StepFault.{StepFault}
 use Rattle.atomic_file.specs.declared.replace.StepFault.TheVariants.{Target, Partial, Content}
 
--- if the error is one of the content, the content's writer may return it
+-- if the error is `Content`, the content's writer may return its error
 abbrev pub IsStepFaultOf : {E : Type 0} → (E → Type 0) → StepFault E → Type 0
 IsStepFaultOf HasFault Target = Unit {0}
 IsStepFaultOf HasFault Partial = Unit {0}

@@ -49,7 +49,7 @@ pub trait FileSystem {
     /// The file was synced to the disk after its last write.
     ghost is_synced: { Self.NewFile → Type 0 };
 
-    /// The file has the owner and the mode of the file with this path, if there is one.
+    /// The attributes of the file with this path were copied to the new file, as `copy_attributes` does, if there is such a file.
     ghost is_like: { Self → List ℕ → Self.NewFile → Type 0 };
 
     /// What the path names.
@@ -65,9 +65,13 @@ pub trait FileSystem {
     /// Whether this user may write the file.
     fn is_writable(&self, path: &str) -> bool;
 
-    /// Opens and locks a new file, which is created if the path names nothing; its content stays. Fails if another process holds the lock.
-    /// If `is_private` is true and the file is created, no other user may read it.
-    fn open_new(&mut self, path: &str, is_private: bool) -> Result<Self::NewFile, FileFault>
+    /// Opens and locks the file with this path, which is created if the path names nothing. The content of an existing file stays. Fails
+    /// if another process holds the lock. If `is_private` is true and the file is created, no other user may read it.
+    fn open_or_create_locked(
+        &mut self,
+        path: &str,
+        is_private: bool,
+    ) -> Result<Self::NewFile, FileFault>
         // The path names a file or nothing.
         requires kind { is_known → IsFileOrMissing (entry_at self.old path.now) }
         // All other paths name what they named before.
@@ -95,7 +99,7 @@ pub trait FileSystem {
     /// Sets the mode of the file to that of the file with this path, and the owner too if the system permits it. Does nothing if the path
     /// names nothing, and fails if it names anything but a file.
     fn copy_attributes(&self, path: &str, file: &mut Self::NewFile) -> Result<(), FileFault>
-        // With `Ok` the file has the owner and the mode of the file with this path.
+        // With `Ok` the attributes were copied.
         ensures like { OnOk result (is_like self.now path.now file.new) }
         // A synced file remains synced.
         ensures synced { is_synced file.old → is_synced file.new }
@@ -108,7 +112,7 @@ pub trait FileSystem {
         requires synced { is_synced file.now }
         // The open file has this path.
         requires named { is_named self.old from.now file.now }
-        // The file has the owner and the mode of the file that it replaces.
+        // The attributes of the file that it replaces were copied to it.
         requires like { is_like self.old to.now file.now }
         // The path names a file or nothing.
         requires kind { is_known → IsFileOrMissing (entry_at self.old to.now) }

@@ -12,7 +12,7 @@ use crate::{ContentFault, FileFault, FileKind, FileSystem};
 use std::alloc::Global;
 
 /// The suffix of the path of the new file.
-const SUFFIX: &str = ".oscip-partial";
+const PARTIAL_SUFFIX: &str = ".oscip-partial";
 
 /// Why the content of a file wasn't replaced.
 #[derive(Drop)]
@@ -71,8 +71,8 @@ fn find_target<F: FileSystem>(
     ensures kind { IfOk result (λ found. F.is_known → IsFileOrMissing (F.entry_at files.now (string_bytes found.0))) }
 {
     match files.kind(path)? {
-        FileKind::Missing => Ok((copy_of(alloc, path)?, false)),
-        FileKind::File => Ok((copy_of(alloc, path)?, true)),
+        FileKind::Missing => Ok((copy_string(alloc, path)?, false)),
+        FileKind::File => Ok((copy_string(alloc, path)?, true)),
         FileKind::Link => {
             let target = files.target(alloc, path)?;
             match files.kind(target.as_str())? {
@@ -84,13 +84,13 @@ fn find_target<F: FileSystem>(
     }
 }
 
-fn copy_of(alloc: Global, path: &str) -> Result<String, FileFault>
+fn copy_string(alloc: Global, path: &str) -> Result<String, FileFault>
     ensures { IfOk result (λ copy. string_bytes copy ≡ path.now) }
 {
     String::from_str(alloc, path).map_err(|_| FileFault::Memory)
 }
 
-/// The path of the file to replace, which this user may write if it exists, and that of the new file.
+/// The path of the file to replace, which this user may write if it exists, and the path of the new file.
 fn find_paths<F: FileSystem>(alloc: Global, files: &F, path: &str) -> Result<Paths, FileFault>
     ensures target { IfOk result (λ paths. F.is_known → string_bytes paths.target ≡ target_of (F.entry_at files.now) path.now) }
     ensures partial { IfOk result (λ paths. string_bytes paths.partial ≡ partial_path (string_bytes paths.target)) }
@@ -101,8 +101,8 @@ fn find_paths<F: FileSystem>(alloc: Global, files: &F, path: &str) -> Result<Pat
     if is_file && !files.is_writable(target.as_str()) {
         return Err(FileFault::System);
     }
-    let mut partial = copy_of(alloc, target.as_str())?;
-    let Ok(()) = partial.push_str(SUFFIX) else {
+    let mut partial = copy_string(alloc, target.as_str())?;
+    let Ok(()) = partial.push_str(PARTIAL_SUFFIX) else {
         return Err(FileFault::Memory);
     };
     Ok(Paths {
@@ -113,7 +113,7 @@ fn find_paths<F: FileSystem>(alloc: Global, files: &F, path: &str) -> Result<Pat
 }
 
 /// Opens and locks the new file, if its path names nothing or a file, and the open file still has this path once the lock is held.
-fn open_new<F: FileSystem>(files: &mut F, paths: &Paths) -> Option<F::NewFile>
+fn open_or_create_locked<F: FileSystem>(files: &mut F, paths: &Paths) -> Option<F::NewFile>
     ensures named { IfSome result (λ file. F.is_named files.new (string_bytes paths.now.partial) file) }
     ensures others { F.is_known → KeepsOthers (F.entry_at files.old) (F.entry_at files.new) (string_bytes paths.now.partial) }
 {
@@ -122,7 +122,7 @@ fn open_new<F: FileSystem>(files: &mut F, paths: &Paths) -> Option<F::NewFile>
         Ok(FileKind::Missing | FileKind::File) => {}
         _ => return None,
     }
-    let Ok(file) = files.open_new(partial, paths.is_file) else {
+    let Ok(file) = files.open_or_create_locked(partial, paths.is_file) else {
         return None;
     };
     if files.names(partial, &file) {
@@ -158,12 +158,11 @@ fn write_content<F, E: Drop, W: FnOnce(&mut F) -> Result<(), ContentFault<E>>>(
 
 /// Truncates the new file, calls the content's writer, syncs the file, and copies the attributes of the target. Fails if the file no longer
 /// has its path before it is truncated, or at the end.
-fn write_new<F: FileSystem, E: Drop, W: FnOnce(&mut F::NewFile) -> Result<(), ContentFault<E>>>(
-    files: &F,
-    paths: &Paths,
-    file: &mut F::NewFile,
-    write: W,
-) -> Result<(), StepFault<E>>
+fn write_new_file<
+    F: FileSystem,
+    E: Drop,
+    W: FnOnce(&mut F::NewFile) -> Result<(), ContentFault<E>>,
+>(files: &F, paths: &Paths, file: &mut F::NewFile, write: W) -> Result<(), StepFault<E>>
     requires can { W.IsAlwaysCallable write }
     requires named { F.is_named files.now (string_bytes paths.now.partial) file.old }
     ensures synced { OnOk result (F.is_synced file.new) }
@@ -184,7 +183,7 @@ fn write_new<F: FileSystem, E: Drop, W: FnOnce(&mut F::NewFile) -> Result<(), Co
 }
 
 /// Removes the new file if it still has its path.
-fn remove_new<F: FileSystem>(files: &mut F, paths: &Paths, file: &F::NewFile)
+fn remove_new_file<F: FileSystem>(files: &mut F, paths: &Paths, file: &F::NewFile)
     ensures { F.is_known → KeepsOthers (F.entry_at files.old) (F.entry_at files.new) (string_bytes paths.now.partial) }
 {
     let partial = paths.partial.as_str();
@@ -206,17 +205,17 @@ fn write_and_rename<
     ensures others { OnErr result (F.is_known → KeepsOthers (F.entry_at files.old) (F.entry_at files.new) (string_bytes paths.now.partial)) }
     ensures fault { IfErr result (IsStepFaultOf (λ fault. IsReturned (λ before after. FnOnceReturnsAtMut W.FnOnce write before (Err (Other fault)) after))) }
 {
-    match write_new(files, paths, &mut file, write) {
+    match write_new_file(files, paths, &mut file, write) {
         Ok(()) => {}
         Err(fault) => {
-            remove_new(files, paths, &file);
+            remove_new_file(files, paths, &file);
             return Err(fault);
         }
     }
     match files.rename(paths.partial.as_str(), &file, paths.target.as_str()) {
         Ok(()) => Ok(()),
         Err(_) => {
-            remove_new(files, paths, &file);
+            remove_new_file(files, paths, &file);
             Err(StepFault::Target)
         }
     }
@@ -235,7 +234,7 @@ fn replace_target<
     ensures others { OnErr result (F.is_known → KeepsOthers (F.entry_at files.old) (F.entry_at files.new) (string_bytes paths.now.partial)) }
     ensures fault { IfErr result (IsStepFaultOf (λ fault. IsReturned (λ before after. FnOnceReturnsAtMut W.FnOnce write before (Err (Other fault)) after))) }
 {
-    match open_new(files, paths) {
+    match open_or_create_locked(files, paths) {
         Some(file) => write_and_rename(files, paths, file, write),
         None => Err(StepFault::Partial),
     }
@@ -262,9 +261,9 @@ pub fn replace_file<
     ensures unreplaced { F.is_known → ¬ CanBeReplaced (F.entry_at files.old) path.now → IsErrAnd result (λ fault. IsOfTarget fault × KeepsAll (F.entry_at files.old) (F.entry_at files.new)) }
     // If an allocation of this call itself failed, nothing is changed.
     ensures memory { IfErr result (λ fault. IsMemory fault → F.is_known → KeepsAll (F.entry_at files.old) (F.entry_at files.new)) }
-    // An error of the content is one that its writer returned.
+    // The error in `Content` is an error that the content's writer returned.
     ensures content { IfErr result (IsFaultOf (λ fault. IsReturned (λ before after. FnOnceReturnsAtMut W.FnOnce write before (Err (Other fault)) after))) }
-    // The path in an error is that of the new file.
+    // The path in an error is the path of the new file.
     ensures partial { IfErr result (λ fault. F.is_known → HasPath fault (partial_path (target_of (F.entry_at files.old) path.now))) }
 {
     let paths = match find_paths(alloc, files, path) {

@@ -10,11 +10,11 @@ use std::os::unix::fs::{MetadataExt, OpenOptionsExt, PermissionsExt, fchown};
 use std::rt::Files;
 
 /// The mode of a file that no other user may read.
-const PRIVATE: u32 = 0o600;
-/// The mode of a new file, without the bits of the process's umask.
-const PUBLIC: u32 = 0o666;
+const PRIVATE_FILE_MODE: u32 = 0o600;
+/// The mode of a new file; the system clears the bits of the process's umask.
+const NEW_FILE_MODE: u32 = 0o666;
 /// The permission bits of a mode.
-const PERMISSIONS: u32 = 0o777;
+const PERMISSION_BITS: u32 = 0o777;
 
 /// The file system of `std`.
 #[derive(Drop)]
@@ -56,13 +56,14 @@ fn kind_of(metadata: &Metadata) -> FileKind {
     }
 }
 
-/// Sets the owner and the group of the file to those of another, or the group alone, or neither, as the system permits, and then the mode.
-fn give_attributes(file: &File, metadata: &Metadata) -> Result<(), FileFault> {
+/// Copies the owner and the group from these metadata to the file, or the group alone, or neither, as the system permits; then copies the
+/// mode.
+fn copy_metadata(file: &File, metadata: &Metadata) -> Result<(), FileFault> {
     let (owner, group) = (metadata.uid(), metadata.gid());
     if fchown(file, Some(owner), Some(group)).is_err() {
         let _ = fchown(file, None, Some(group));
     }
-    file.set_permissions(Permissions::from_mode(metadata.mode() & PERMISSIONS))
+    file.set_permissions(Permissions::from_mode(metadata.mode() & PERMISSION_BITS))
         .map_err(|_| FileFault::System)
 }
 
@@ -103,8 +104,16 @@ impl<R: Files<File = File> + AllocGlobal> FileSystem for StdFiles<'_, R> {
         OpenOptions::new().write(true).open(self.0, path).is_ok()
     }
 
-    fn open_new(&mut self, path: &str, is_private: bool) -> Result<StdFile, FileFault> {
-        let mode = if is_private { PRIVATE } else { PUBLIC };
+    fn open_or_create_locked(
+        &mut self,
+        path: &str,
+        is_private: bool,
+    ) -> Result<StdFile, FileFault> {
+        let mode = if is_private {
+            PRIVATE_FILE_MODE
+        } else {
+            NEW_FILE_MODE
+        };
         let opened = OpenOptions::new()
             .write(true)
             .create(true)
@@ -131,7 +140,7 @@ impl<R: Files<File = File> + AllocGlobal> FileSystem for StdFiles<'_, R> {
     fn empty(&self, _path: &str, file: &mut StdFile, is_private: bool) -> Result<(), FileFault> {
         if is_private {
             file.file
-                .set_permissions(Permissions::from_mode(PRIVATE))
+                .set_permissions(Permissions::from_mode(PRIVATE_FILE_MODE))
                 .map_err(|_| FileFault::System)?;
         }
         file.file.set_len(0).map_err(|_| FileFault::System)
@@ -143,7 +152,7 @@ impl<R: Files<File = File> + AllocGlobal> FileSystem for StdFiles<'_, R> {
 
     fn copy_attributes(&self, path: &str, file: &mut StdFile) -> Result<(), FileFault> {
         match fs::symlink_metadata(self.0, path) {
-            Ok(metadata) if metadata.is_file() => give_attributes(&file.file, &metadata),
+            Ok(metadata) if metadata.is_file() => copy_metadata(&file.file, &metadata),
             Err(error) if error.kind() == ErrorKind::NotFound => Ok(()),
             _ => Err(FileFault::System),
         }

@@ -1,4 +1,4 @@
--- Entries that are there, and those that aren't.
+-- Lists of entries, some of which are missing.
 use Rattle.std.proofs.Common.{set, ◌≡◌, ◌<◌, ℕ, List, length, map, sym, ap, ◌∙◌, get_or, arith}
 use Rattle.std.specs.Prelude.{Option, None, Some, Bool, false, cond, count_by, is_none, is_some, not}
 use Rattle.std.proofs.lemmas.List.Sums.{sum_by-set}
@@ -14,7 +14,7 @@ entries_from is_of g entries gathered same size own = record {
   own = λ n d lt. own n (get_or entries n d) (sym (ap (λ es. get_or es n None) same) ∙ get_or-map Some entries n d None lt);
 }
 
--- with one entry more, one less is missing
+-- with one more entry, one fewer is missing
 pub fewer_missing : {E : Type 0} (entries : List (Option E)) (n : ℕ) (e : E) → n < length entries → has_entry entries n ≡ false
     → count_by is_none (set entries n (Some e)) < count_by is_none entries
 fewer_missing entries n e lt none =

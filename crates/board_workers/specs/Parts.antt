@@ -8,12 +8,12 @@ abbrev pub AreSharedPartsOf : {E X : Type 0} → (List ℕ → E → Type 0) →
 AreSharedPartsOf {E = E} is_of shared_of g n parts =
     (c : Core E) × (length c.entries ≡ length g.names) × AreOf is_of g.names c.entries × AreShares shared_of g c n parts
 
--- an entry for each module, by number, that is the entry of the module of this name
+-- the list has the entry of each module, by module number
 pub record AreEntries {E : Type 0} (is_of : List ℕ → E → Type 0) (g : Modules) (entries : List E) : Type 0 where
   pub size : length entries ≡ length g.names
   pub own : (n : ℕ) (d : E) → n < length entries → is_of (list_at g.names n) (slice_index_or entries n d)
 
--- the input of a worker: a module, and the shared parts for its entry
+-- the input of a worker: a module, and the shared parts from which its entry is made
 abbrev pub IsJob : {E X : Type 0} → (List ℕ → E → Type 0) → (E → X) → Modules → ℕ → List X → Type 0
 IsJob is_of shared_of g n parts = (n < length g.names) × AreSharedPartsOf is_of shared_of g n parts
 

@@ -11,7 +11,7 @@ use std::marker::Brand;
 use std::sync::Arc;
 use work_board::{Board, BoardFault, Claim, Graph, NamedTree, WorkEntry};
 
-/// Claims the next module, and returns it with the shared parts for its entry; none if all modules are delivered.
+/// Claims the next module, and returns it with the shared parts from which its entry is made; none if all modules are delivered.
 fn claimed<T: NamedTree, E: WorkEntry>(
     board: &mut Board<'_, T, E>,
 ) -> Result<Option<(u32, Vec<Arc<E::Shared>>)>, AllocError>
@@ -51,7 +51,7 @@ fn store_entry<T: NamedTree, E: WorkEntry>(board: &mut Board<'_, T, E>, number: 
 }
 
 /// Makes and delivers the entry of the next module. Returns false if all are delivered.
-fn step<T: NamedTree, W: Work>(
+fn deliver_next<T: NamedTree, W: Work>(
     board: &mut Board<'_, T, W::Entry>,
     work: &W,
 ) -> Result<bool, AllocError>
@@ -75,7 +75,7 @@ fn step<T: NamedTree, W: Work>(
 }
 
 /// Makes and delivers all missing entries.
-fn deliver_rest<T: NamedTree, W: Work>(
+fn deliver_missing<T: NamedTree, W: Work>(
     board: &mut Board<'_, T, W::Entry>,
     work: &W,
 ) -> Result<(), AllocError>
@@ -86,14 +86,14 @@ fn deliver_rest<T: NamedTree, W: Work>(
     ensures { OnOk result (AreAllDelivered board.new) }
 {
     'steps: loop {
-        if !step(board, work)? {
+        if !deliver_next(board, work)? {
             return Ok(());
         }
     }
 }
 
-/// The entries of a scheduler at which each module has one.
-fn all_entries<E: Drop>(alloc: Global, gathered: Vec<Option<E>>) -> Result<Vec<E>, AllocError>
+/// The entries without the `Option`; none of them is missing.
+fn unwrap_entries<E: Drop>(alloc: Global, gathered: Vec<Option<E>>) -> Result<Vec<E>, AllocError>
     requires { (n : ℕ) → n < length gathered.items → has_entry gathered.items n ≡ true }
     ensures { IfOk result (λ entries. map Some entries.items ≡ gathered.items) }
 {
@@ -107,9 +107,9 @@ fn all_entries<E: Drop>(alloc: Global, gathered: Vec<Option<E>>) -> Result<Vec<E
     Ok(entries)
 }
 
-/// The entries by module number, after all workers have ended. The calling thread makes the missing ones, also of claimed modules.
-/// So an entry is missing only if an allocation failed, here or in a worker that abandoned its module.
-pub(crate) fn finish<T: NamedTree, W: Work>(
+/// The entries by module number, after all workers have ended. The calling thread makes the missing entries, also those of modules that a
+/// worker claimed and didn't deliver. Fails if an allocation fails here, or failed in a worker, which then abandoned its module.
+pub(crate) fn complete_entries<T: NamedTree, W: Work>(
     alloc: Global,
     mut board: Board<'_, T, W::Entry>,
     work: &W,
@@ -123,12 +123,12 @@ pub(crate) fn finish<T: NamedTree, W: Work>(
         return Err(AllocError);
     }
     board.take_back();
-    deliver_rest(&mut board, work)?;
-    all_entries(alloc, board.gather())
+    deliver_missing(&mut board, work)?;
+    unwrap_entries(alloc, board.gather())
 }
 
-/// The entries of a graph's modules by number, for the tree that the type names.
-fn entries_in<T: NamedTree, W: Work>(
+/// The entries of a graph's modules by number. The type parameter `T` names the graph.
+fn entries_by_one_thread<T: NamedTree, W: Work>(
     alloc: Global,
     graph: &Graph,
     work: &W,
@@ -139,7 +139,7 @@ fn entries_in<T: NamedTree, W: Work>(
     ensures { IfOk result (λ entries. AreEntries W.Entry.is_of T.graph entries.items) }
 {
     let board = Board::new(alloc, graph)?;
-    finish::<T, W>(alloc, board, work)
+    complete_entries::<T, W>(alloc, board, work)
 }
 
 /// The entries of a graph's modules by number, made by the calling thread alone. Fails if an allocation fails.
@@ -152,8 +152,8 @@ pub fn entries_by_caller<W: Work>(
     requires acyclic { IsAcyclic graph.now.imports }
     // The work is for the modules of this graph.
     requires work { W.graph work.now ≡ graph.now }
-    // There is an entry for each module, that of the module.
+    // The result has the entry of each module, by module number.
     ensures { IfOk result (λ entries. AreEntries W.Entry.is_of graph.now entries.items) }
 {
-    entries_in::<Brand, W>(alloc, graph, work)
+    entries_by_one_thread::<Brand, W>(alloc, graph, work)
 }

@@ -6,7 +6,7 @@ ghost use Rattle.work_board.specs.Graphs.{IsAcyclic};
 ghost use Rattle.work_board.specs.Cores.{IsOver};
 ghost use Rattle.board_workers.specs.Parts.{AreEntries, IsJob};
 
-use crate::single_thread::finish;
+use crate::single_thread::complete_entries;
 use crate::{BoardGate, Work};
 use std::alloc::{AllocError, Global};
 use std::marker::Brand;
@@ -21,12 +21,12 @@ type Locked<'g, T, E> = Mutex<Board<'g, T, E>>;
 /// A scheduler whose lock is held.
 type Held<'l, 'g, T, E> = MutexGuard<'l, Board<'g, T, E>>;
 
-/// No module is ready.
+/// The outcome of a claim while no module is ready.
 struct Later;
 
-/// Claims a module, and returns it with the shared parts for its entry; none if the work is over. If an allocation fails, the module is
-/// abandoned, so the work is over.
-fn take<T: NamedTree, E: WorkEntry>(
+/// Claims a module, and returns it with the shared parts from which its entry is made; none if the work is over. If an allocation fails,
+/// the module is abandoned, so the work is over.
+fn claim_with_parts<T: NamedTree, E: WorkEntry>(
     board: &mut Board<'_, T, E>,
 ) -> Result<Option<(u32, Vec<Arc<E::Shared>>)>, Later>
     ensures job { IfOk result (λ job. IfSome job (λ j. IsJob E.is_of E.shared_of T.graph j.0 (map arc_value j.1.items))) }
@@ -52,7 +52,7 @@ fn take<T: NamedTree, E: WorkEntry>(
 
 /// Waits for a module to work on. If the work is over, returns the lock, which is still held. The claim and the wait are in one critical
 /// section, so that no notification is missed.
-fn next<'l, 'g, T: NamedTree, E: WorkEntry, R: Wait>(
+fn wait_for_job<'l, 'g, T: NamedTree, E: WorkEntry, R: Wait>(
     rt: &R,
     locked: &'l Locked<'g, T, E>,
     changed: &Condvar,
@@ -62,7 +62,7 @@ fn next<'l, 'g, T: NamedTree, E: WorkEntry, R: Wait>(
 {
     let mut board = locked.lock(rt);
     for _ in rt.forever() {
-        match take(&mut *board) {
+        match claim_with_parts(&mut *board) {
             Ok(Some(job)) => return Ok(job),
             Ok(None) => return Err(board),
             Err(Later) => board = changed.wait(rt, board),
@@ -100,7 +100,7 @@ fn worker<'l, 'g, T: NamedTree, W: Work, G: BoardGate, R: Wait>(
 {
     let mut turn = 0u64;
     for _ in rt.forever() {
-        let (module, parts) = match next(rt, locked, changed) {
+        let (module, parts) = match wait_for_job(rt, locked, changed) {
             Ok(job) => job,
             Err(board) => {
                 changed.notify_all();
@@ -117,7 +117,7 @@ fn worker<'l, 'g, T: NamedTree, W: Work, G: BoardGate, R: Wait>(
 }
 
 /// Starts the other workers, each in a thread, and runs worker 0. Goes on without a thread that can't be started.
-fn run_threads<
+fn run_workers<
     T: NamedTree + Send + Sync,
     W: Work + Sync,
     G: BoardGate + Sync,
@@ -148,8 +148,8 @@ where
     );
 }
 
-/// The entries of a graph's modules by number, for the tree that the type names.
-fn in_tree<
+/// The entries of a graph's modules by number. The type parameter `T` names the graph.
+fn entries_by_workers<
     T: NamedTree + Send + Sync,
     W: Work + Sync,
     G: BoardGate + Sync,
@@ -171,8 +171,8 @@ where
     ensures { IfOk result (λ entries. AreEntries W.Entry.is_of T.graph entries.items) }
 {
     let locked: Locked<'_, T, W::Entry> = Mutex::new(Board::new(alloc, graph)?);
-    run_threads(rt, &locked, workers, work, gate);
-    finish(alloc, locked.into_inner(), work)
+    run_workers(rt, &locked, workers, work, gate);
+    complete_entries(alloc, locked.into_inner(), work)
 }
 
 /// The entries of a graph's modules by number, made by the calling thread and at most `workers - 1` others.
@@ -194,8 +194,8 @@ where
     requires acyclic { IsAcyclic graph.now.imports }
     // The work is for the modules of this graph.
     requires work { W.graph work.now ≡ graph.now }
-    // For every number of workers, every gate and every schedule there is an entry for each module, that of the module.
+    // For every number of workers, every gate and every schedule the result has the entry of each module, by module number.
     ensures { IfOk result (λ entries. AreEntries W.Entry.is_of graph.now entries.items) }
 {
-    in_tree::<Brand, W, G, R>(rt, alloc, graph, workers, work, gate)
+    entries_by_workers::<Brand, W, G, R>(rt, alloc, graph, workers, work, gate)
 }

@@ -9,7 +9,7 @@ use Rattle.byte_sink.specs.declared.sink.SinkFault.{SinkFault}
 use Rattle.byte_sink.specs.Sinks.{AppendsPrefix, Writes}
 use Rattle.byte_sink.specs.Pieces.{WritesAllBut}
 
--- what is gathered after the rest is left too, but for what is written of both
+-- if a text is written up to `rest`, and `rest` with a second text up to `last`, both texts are written up to `last`
 pub joined : (old now new : Option (List ℕ)) (start first second rest last whole : List ℕ) → whole ≡ first ++ second → WritesAllBut old now (start ++ first) rest → WritesAllBut now new (rest ++ second) last
     → WritesAllBut old new (start ++ whole) last
 joined old now new start first second rest last whole e p q = (
@@ -23,16 +23,16 @@ joined old now new start first second rest last whole e p q = (
 pub no_front : (known : Option (List ℕ)) (text : List ℕ) → AppendsPrefix known known text
 no_front known text = ([], text, refl, Appends-nil known)
 
--- a prefix of a text is one of the text with more after it
+-- a prefix of a text is a prefix of the text followed by more
 pub front_more : (old new : Option (List ℕ)) (start first left whole : List ℕ) → whole ≡ first ++ left → AppendsPrefix old new (start ++ first) → AppendsPrefix old new (start ++ whole)
 front_more old new start first left whole e p =
     (p.0, p.1 ++ left, ap (λ (t : List ℕ). start ++ t) e ∙ sym (append_assoc start first left) ∙ ap (λ (t : List ℕ). t ++ left) p.2 ∙ append_assoc p.0 p.1 left, p.3)
 
--- what is written of a text is a prefix of it, and of the text with more after it
+-- what is written of a text is a prefix of the text, and of the text followed by more
 pub some_front : (old new : Option (List ℕ)) (start first rest left whole : List ℕ) → whole ≡ first ++ left → WritesAllBut old new (start ++ first) rest → AppendsPrefix old new (start ++ whole)
 some_front old new start first rest left whole e p = front_more old new start first left whole e (p.0, rest, p.1, p.2)
 
--- more is gathered after the rest, and a prefix of both is written
+-- if a text is written up to `rest`, and a prefix of `rest` with a second text, a prefix of both texts is written
 pub front_joined : (old now new : Option (List ℕ)) (start first second rest left whole : List ℕ) → whole ≡ (first ++ second) ++ left → WritesAllBut old now (start ++ first) rest → AppendsPrefix now new (rest ++ second)
     → AppendsPrefix old new (start ++ whole)
 front_joined old now new start first second rest left whole e p q =
@@ -45,12 +45,12 @@ puts_then old now new text rest (Ok x) p q = rw p.1 (Appends-trans old now new p
 puts_then old now new text rest (Err fault) p q =
     (p.0 ++ q.0, q.1, p.1 ∙ ap (λ (t : List ℕ). p.0 ++ t) q.2 ∙ sym (append_assoc p.0 q.0 q.1), Appends-trans old now new p.0 q.0 p.2 q.3)
 
--- what was gathered, of an equal text
+-- the unwritten rest of an equal text
 pub gathered_as : {T E : Type 0} (old new : Option (List ℕ)) (start first whole rest : List ℕ) (result : Result T E) → first ≡ whole → OnOk result (WritesAllBut old new (start ++ first) rest)
     → OnOk result (WritesAllBut old new (start ++ whole) rest)
 gathered_as old new start first whole rest result e h = subst (λ (t : List ℕ). OnOk result (WritesAllBut old new (start ++ t) rest)) e h
 
--- and a prefix of it
+-- a prefix of an equal text
 pub broken_as : {T E : Type 0} (old new : Option (List ℕ)) (start first whole : List ℕ) (result : Result T E) → first ≡ whole → IfErr result (λ _. AppendsPrefix old new (start ++ first))
     → IfErr result (λ _. AppendsPrefix old new (start ++ whole))
 broken_as old new start first whole result e h = subst (λ (t : List ℕ). IfErr result (λ _. AppendsPrefix old new (start ++ t))) e h
@@ -60,16 +60,16 @@ module _ {X Y : Type 0} (seen : X → Y) (line : Y → List ℕ) where
   abbrev pub lines : List X → List ℕ
   lines xs = flat_map line (map seen xs)
 
-  -- of one member more
+  -- one more element is written
   pub lines_more : (xs : List X) (k : ℕ) (d : X) → k < length xs → lines (take (k + 1) xs) ≡ lines (take k xs) ++ line (seen (get_or xs k d))
   lines_more xs k d l =
       ap (flat_map line) (map_more seen xs k d l) ∙ flat_map-append line (map seen (take k xs)) (seen (get_or xs k d) ∷ [])
       ∙ ap (λ (t : List ℕ). lines (take k xs) ++ t) (append-nil (line (seen (get_or xs k d))))
 
-  -- of the first members, and of those after them
+  -- the elements before an index, and those from the index on
   pub lines_split : (xs : List X) (k : ℕ) → lines xs ≡ lines (take k xs) ++ lines (drop k xs)
   lines_split xs k = ap lines (sym (take-append-drop k xs)) ∙ ap (flat_map line) (map-append seen (take k xs) (drop k xs)) ∙ flat_map-append line (map seen (take k xs)) (map seen (drop k xs))
 
-  -- of the first members, of the next, and of those after it
+  -- the elements before an index, the element at it, and those after it
   pub lines_around : (xs : List X) (k : ℕ) (d : X) → k < length xs → lines xs ≡ (lines (take k xs) ++ line (seen (get_or xs k d))) ++ lines (drop (k + 1) xs)
   lines_around xs k d l = lines_split xs (k + 1) ∙ ap (λ (t : List ℕ). t ++ lines (drop (k + 1) xs)) (lines_more xs k d l)

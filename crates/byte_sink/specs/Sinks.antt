@@ -30,8 +30,8 @@ Takes old new result bytes = MatchResult result (λ k. Appends old new (take k b
 abbrev pub AppendsPrefix : Option (List ℕ) → Option (List ℕ) → List ℕ → Type 0
 AppendsPrefix old new text = (prefix rest : List ℕ) × (text ≡ prefix ++ rest) × Appends old new prefix
 
--- the known bytes grow by all of these bytes if the result is Ok; after an error that `is_of_sink` accepts, by a prefix of them; after
--- any other error they are unchanged
+-- if the result is Ok, the known bytes grow by all of `text`; after an error that `is_of_sink` accepts, by a prefix of `text`; after any
+-- other error they are unchanged
 abbrev pub WritesBy : {T E : Type 0} → (E → Bool) → Option (List ℕ) → Option (List ℕ) → Result T E → List ℕ → Type 0
 WritesBy is_of_sink old new result text =
     MatchResult result (λ _. Appends old new text) (λ fault. MatchBool (is_of_sink fault) (AppendsPrefix old new text) (Keeps old new))

@@ -18,7 +18,7 @@ pub fn flush_if_full<S: Sink>(text: &mut String, sink: &mut S) -> Result<(), Sin
     ensures error_prefix { IfErr result (λ _. AppendsPrefix (S.taken sink.old) (S.taken sink.new) (string_bytes text.old)) }
     // After an error the buffer is unchanged.
     ensures unchanged { OnErr result (string_bytes text.new ≡ string_bytes text.old) }
-    // The count of failures grows by one exactly if the result is Device.
+    // The count of failures grows by one, up to 2^64 - 1, exactly if the result is Device.
     ensures failures { S.failures sink.new ≡ failures_after result (S.failures sink.old) }
 {
     if text.len() >= BUFFER_SIZE {

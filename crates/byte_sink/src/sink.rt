@@ -33,7 +33,7 @@ pub trait Sink {
         ensures some { 0 < length bytes.now → IfOk result (λ k. 0 < k) }
         // The known bytes grow by the accepted prefix, and after an error they are unchanged.
         ensures takes { Takes (taken self.old) (taken self.new) result bytes.now }
-        // The count of failures grows by one exactly if the result is Device.
+        // The count of failures grows by one, up to 2^64 - 1, exactly if the result is Device.
         ensures failures { failures self.new ≡ failures_after result (failures self.old) };
 }
 
@@ -93,7 +93,7 @@ impl<W: io::Write> Sink for ToWrite<W> {
 pub fn write_fully<S: Sink>(sink: &mut S, bytes: &[u8]) -> Result<(), SinkFault>
     // The known bytes grow by all bytes, or after an error by a prefix of them.
     ensures writes { Writes (S.taken sink.old) (S.taken sink.new) result bytes.now }
-    // The count of failures grows by one exactly if the result is Device.
+    // The count of failures grows by one, up to 2^64 - 1, exactly if the result is Device.
     ensures failures { S.failures sink.new ≡ failures_after result (S.failures sink.old) }
 {
     let mut rest = bytes;

@@ -1,4 +1,4 @@
--- Augmenting paths over the arcs of imports, and chains.
+-- Augmenting paths over the arcs of imports, and paths.
 use Rattle.std.proofs.Common.{◌≡◌, ℕ, ◌<◌, Bool, true, false, cond, List, [], ◌∷◌, length, get_or, refl, sym, ap, ◌∙◌, subst, arith}
 use Rattle.std.specs.Prelude.{All}
 use Rattle.std.proofs.lemmas.List.{get_or_default}
@@ -10,15 +10,15 @@ use Rattle.residual_graph.specs.declared.arc.Arc.{Arc}
 use Rattle.residual_graph.specs.declared.arc.ResidualArc.{ResidualArc}
 use Rattle.residual_graph.specs.Graphs.{AreClosed, HasResidual, HasArc, Reaches, head, is_flagged, no_arc, room, tail}
 use Rattle.residual_graph.proofs.Walking.{along}
-use Rattle.cut_check.specs.Reaching.{AreArcs, IsAllowed, any, arc_for}
+use Rattle.cut_check.specs.Reaching.{AreArcs, IsAllowed, any, arc_if_allowed}
 
 -- the arcs of the first k imports
 pub record AreArcsTo (imports : List Priced) (allowed : List Bool) (k : ℕ) (arcs : List Arc) : Type 0 where
   pub size : length arcs ≡ k
-  pub each : (j : ℕ) → j < k → get_or arcs j no_arc ≡ arc_for (get_or imports j any) (get_or allowed j false)
+  pub each : (j : ℕ) → j < k → get_or arcs j no_arc ≡ arc_if_allowed (get_or imports j any) (get_or allowed j false)
 
 -- something can go over an arc forwards where its import may be used, and backwards nowhere
-forward_only : (i : Priced) (allowed forward : Bool) → 0 < room (arc_for i allowed) forward → (forward ≡ true) × (allowed ≡ true)
+forward_only : (i : Priced) (allowed forward : Bool) → 0 < room (arc_if_allowed i allowed) forward → (forward ≡ true) × (allowed ≡ true)
 forward_only i true true h = (refl, refl)
 forward_only i false true h = absurd (omega arith)
 forward_only i allowed false h = absurd (omega arith)
@@ -28,7 +28,7 @@ module _ (imports : List Priced) (allowed : List Bool) (nodes : ℕ) (arcs : Lis
   arcs_between between k d h =
       let size = are.size in
       let in_imports : k < length imports = omega arith in
-      let is : get_or arcs k d ≡ arc_for (get_or imports k any) (get_or allowed k false) = get_or_default arcs k d no_arc h ∙ are.each k in_imports in
+      let is : get_or arcs k d ≡ arc_if_allowed (get_or imports k any) (get_or allowed k false) = get_or_default arcs k d no_arc h ∙ are.each k in_imports in
       rw is (between (get_or imports k any) (k, in_imports, get_or_default imports k (get_or imports k any) any in_imports))
 
   on : (start : ℕ) (s : ResidualArc) → HasArc arcs s → HasResidual arcs s →
@@ -58,7 +58,7 @@ module _ (imports : List Priced) (allowed : List Bool) (nodes : ℕ) (arcs : Lis
       let size = are.size in
       let s : ResidualArc = record { arc = k; forward = true } in
       let i_is : get_or imports k any ≡ i = get_or_default imports k any i in_k ∙ at_k in
-      let arc_is : get_or arcs k no_arc ≡ arc_for i true = are.each k in_k ∙ ap (λ v. arc_for v (get_or allowed k false)) i_is ∙ ap (arc_for i) open_k in
+      let arc_is : get_or arcs k no_arc ≡ arc_if_allowed i true = are.each k in_k ∙ ap (λ v. arc_if_allowed v (get_or allowed k false)) i_is ∙ ap (arc_if_allowed i) open_k in
       let left : HasResidual arcs s = subst (λ (r : Arc). 0 < room r true) (sym arc_is) (omega arith) in
       let tail_is : tail arcs s ≡ m = ap (λ (r : Arc). r.from) arc_is ∙ from_is in
       let head_is : head arcs s ≡ n = ap (λ (r : Arc). r.to) arc_is ∙ to_is in

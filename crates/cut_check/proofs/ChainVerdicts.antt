@@ -1,4 +1,4 @@
--- Of a chain of pins exactly one verdict holds.
+-- Exactly one verdict holds for a path of pinned imports.
 use Rattle.std.proofs.Common.{◌≡◌, ℕ, ◌+◌, ◌-◌, ◌<◌, List, length, get_or, refl, sym, ap, ◌∙◌, arith, inl, inr}
 use Rattle.std.proofs.lemmas.Bool.{cases_eq, cases_lt, cases_order}
 use Rattle.cut_net.specs.Network.{Network}

@@ -1,4 +1,4 @@
--- What sums of amounts say of a flow.
+-- The sums of amounts as inflow and outflow of a flow.
 use Rattle.std.proofs.Common.{◌≡◌, ◌≢◌, ℕ, ◌+◌, ◌≤◌, ◌<◌, Bool, false, cond, length, get_or, take, List, refl, sym, ap, ◌∙◌, subst, arith, inl, inr, Option, sum_by}
 use Rattle.std.specs.Prelude.{Contains}
 use Rattle.std.proofs.lemmas.Bool.{cases_lt, ne_eqb}
@@ -10,7 +10,7 @@ use Rattle.cut_net.specs.Cuts.{entering, leaving}
 use Rattle.cut_net.specs.Pins.{is_pinned}
 use Rattle.cut_net.specs.WellFormed.{AreBetween}
 use Rattle.cut_net.proofs.ListSums.{sum_by-same}
-use Rattle.cut_check.specs.Verdicts.{AreConserved, AreUnder, HasValue, IsFirstOff, IsFirstOver}
+use Rattle.cut_check.specs.Verdicts.{AreConserved, AreWithinWeights, HasValue, IsFirstUnbalanced, IsFirstOverWeight}
 use Rattle.cut_check.specs.Sums.{AreAmounts, AreSums, AreWithin, IsFirstAbove}
 
 -- beyond the last module nothing flows
@@ -27,10 +27,10 @@ module _ (net : Network) (flow : Priced → ℕ) (amounts : List (Option ℕ)) (
   within w i c free =
       subst (λ v. flow v ≤ v.amount) c.2 (subst (λ n. n ≤ (get_or net.imports c.0 i).amount) (are c.0 i c.1) (w c.0 i c.1 (ap (is_pinned net) c.2 ∙ free)))
 
-  pub are_under : AreWithin net amounts (length net.imports) → AreUnder net flow
+  pub are_under : AreWithin net amounts (length net.imports) → AreWithinWeights net flow
   are_under w i c free over = let le = within w i c free in absurd (omega arith)
 
-  pub first_over : (i : Priced) → IsFirstAbove net amounts i → IsFirstOver net flow i.from i.to
+  pub first_over : (i : Priced) → IsFirstAbove net amounts i → IsFirstOverWeight net flow i.from i.to
   first_over i p = record {
     index = p.index;
     import = i;
@@ -58,9 +58,9 @@ module _ (net : Network) (modules a b : ℕ) (between : AreBetween net.imports m
   same_sums : (m : ℕ) → m < modules → get_or into m 0 ≡ get_or out m 0 → entering net.imports flow m ≡ leaving net.imports flow m
   same_sums m in_m e = sym (sums.into_is m in_m) ∙ e ∙ sums.out_is m in_m
 
-  pub first_off : (m : ℕ) → m < modules → m ≢ a → m ≢ b → get_or into m 0 ≢ get_or out m 0 →
-      ((n : ℕ) → n < m → n ≢ a → n ≢ b → get_or into n 0 ≡ get_or out n 0) → IsFirstOff net a b flow m
-  first_off m in_m not_a not_b differ kept = record {
+  pub first_unbalanced : (m : ℕ) → m < modules → m ≢ a → m ≢ b → get_or into m 0 ≢ get_or out m 0 →
+      ((n : ℕ) → n < m → n ≢ a → n ≢ b → get_or into n 0 ≡ get_or out n 0) → IsFirstUnbalanced net a b flow m
+  first_unbalanced m in_m not_a not_b differ kept = record {
     off = (not_a, not_b, λ e. differ (sums.into_is m in_m ∙ e ∙ sym (sums.out_is m in_m)));
     least = λ n lt off. off.2 (same_sums n (omega arith) (kept n lt off.0 off.1));
   }

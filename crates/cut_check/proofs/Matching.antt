@@ -12,7 +12,7 @@ use Rattle.cut_net.specs.Network.{Network}
 use Rattle.cut_net.specs.Lines.{comes_before, IsAscending}
 use Rattle.cut_net.proofs.Ends.{Same, same_from, same_true, same_sym, same_trans, Before, before_from, before_true, apart, one_way, before_same}
 use Rattle.cut_check.specs.Reaching.{any}
-use Rattle.cut_check.specs.Matched.{AreMatched, IsLineAt}
+use Rattle.cut_check.specs.MatchedLines.{AreMatched, IsLineAt}
 
 -- the line of an import among the first lines
 abbrev pub line_among : Priced → List Priced → ℕ → Option ℕ

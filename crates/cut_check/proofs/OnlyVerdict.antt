@@ -1,4 +1,4 @@
--- There is no more than one verdict: what an earlier one denies, each later one has.
+-- At most one verdict holds: each later verdict implies what an earlier one denies.
 use Rattle.std.proofs.Common.{◌≡◌, ℕ, zero, suc, [], ◌∷◌, ◌+◌, ◌≤◌, ◌<◌, List, length, take, refl, sym, ap, ◌∙◌, subst, arith, inl, inr}
 use Rattle.std.specs.Prelude.{Option, Some, slice_get}
 use Rattle.std.proofs.lemmas.Bool.{cases_order}
@@ -8,7 +8,7 @@ use Rattle.cut_net.specs.declared.priced.Priced.{Priced}
 use Rattle.cut_net.specs.Network.{Network}
 use Rattle.cut_net.specs.Lines.{AreImportsInOrder, flow_by}
 use Rattle.cut_net.specs.Pins.{IsRightWithPins}
-use Rattle.cut_check.specs.Verdicts.{AreConserved, AreRead, AreUnder, IsFirstOff, IsFirstOver, IsFirstStray, IsStray, IsCutVerdict}
+use Rattle.cut_check.specs.Verdicts.{AreConserved, AreImportLines, AreWithinWeights, IsFirstUnbalanced, IsFirstOverWeight, IsFirstStray, IsStrayLine, IsCutVerdict}
 use Rattle.cut_check.specs.declared.verdict.Verdict.{Verdict}
 use Rattle.cut_check.specs.declared.verdict.Verdict.TheVariants.{Yes, NoSuchImport, StillChain, WrongWeight, OverWeight, NotKept, WrongValue, NotPinned}
 use Rattle.cut_check.proofs.Parts.{front_in_order}
@@ -53,24 +53,24 @@ module _ (net : Network) (lines : List Priced) where
   not_stray from to o s = let in_lines = slice_get_within lines s.index s.line s.at_index in s.stray (front_in_order net lines (s.index + 1) (omega arith) o)
 
 module _ (net : Network) (flow : Priced → ℕ) where
-  earlier_over : (from to f t : ℕ) (s : IsFirstOver net flow from to) (r : IsFirstOver net flow f t) → s.index < r.index → ⊥
+  earlier_over : (from to f t : ℕ) (s : IsFirstOverWeight net flow from to) (r : IsFirstOverWeight net flow f t) → s.index < r.index → ⊥
   earlier_over from to f t s r lt =
       let in_s = slice_get_within net.imports s.index s.import s.at_index in
       let in_r = slice_get_within net.imports r.index r.import r.at_index in
       let len : length (take r.index net.imports) ≡ r.index = length-take-le r.index net.imports (omega arith) in
       r.before s.import (s.index, omega arith, get_or-take r.index net.imports s.index s.import lt ∙ get_or_from_slice_get net.imports s.index s.import s.import s.at_index) s.free s.over
 
-  over_same : (from to f t : ℕ) → IsFirstOver net flow from to → IsFirstOver net flow f t → Ends from to f t
+  over_same : (from to f t : ℕ) → IsFirstOverWeight net flow from to → IsFirstOverWeight net flow f t → Ends from to f t
   over_same from to f t s r = elim (cases_order s.index r.index) [
     | inl e ↦ same_place net.imports s.index r.index s.import r.import from to f t e s.at_index r.at_index s.ends r.ends
     | inr h ↦ elim h [ inl lt ↦ absurd (earlier_over from to f t s r lt) | inr lt ↦ absurd (earlier_over f t from to r s lt) ]
   ]
 
-  not_over : (from to : ℕ) → AreUnder net flow → IsFirstOver net flow from to → ⊥
+  not_over : (from to : ℕ) → AreWithinWeights net flow → IsFirstOverWeight net flow from to → ⊥
   not_over from to under s =
       under s.import (s.index, slice_get_within net.imports s.index s.import s.at_index, get_or_from_slice_get net.imports s.index s.import s.import s.at_index) s.free s.over
 
-  off_same : (a b m n : ℕ) → IsFirstOff net a b flow m → IsFirstOff net a b flow n → m ≡ n
+  off_same : (a b m n : ℕ) → IsFirstUnbalanced net a b flow m → IsFirstUnbalanced net a b flow n → m ≡ n
   off_same a b m n s r = elim (cases_order m n) [
     | inl e ↦ e
     | inr h ↦ elim h [ inl lt ↦ absurd (r.least m lt s.off) | inr lt ↦ absurd (s.least n lt r.off) ]
@@ -80,20 +80,20 @@ module _ (net : Network) (a b : ℕ) (printed : List Priced) (total : ℕ) (flow
   Is : Verdict → Type 0
   Is v = IsCutVerdict net a b printed total flow v
 
-  no_stray : (from to : ℕ) → AreRead net printed flow → IsStray net printed flow from to → ⊥
+  no_stray : (from to : ℕ) → AreImportLines net printed flow → IsStrayLine net printed flow from to → ⊥
   no_stray from to read (inl s) = not_stray net printed from to read.printed_in_order s
   no_stray from to read (inr (_, s)) = not_stray net flow from to read.flow_in_order s
 
-  strays_same : (from to f t : ℕ) → IsStray net printed flow from to → IsStray net printed flow f t → Ends from to f t
+  strays_same : (from to f t : ℕ) → IsStrayLine net printed flow from to → IsStrayLine net printed flow f t → Ends from to f t
   strays_same from to f t (inl s) (inl r) = stray_same net printed from to f t s r
   strays_same from to f t (inl s) (inr (o, _)) = absurd (not_stray net printed from to o s)
   strays_same from to f t (inr (o, _)) (inl r) = absurd (not_stray net printed f t o r)
   strays_same from to f t (inr (_, s)) (inr (_, r)) = stray_same net flow from to f t s r
 
-  read_of : IsRightWithPins net a b printed total flow → AreRead net printed flow
+  read_of : IsRightWithPins net a b printed total flow → AreImportLines net printed flow
   read_of r = record { printed_in_order = r.printed_in_order; flow_in_order = r.flow_in_order }
 
-  under_of : IsRightWithPins net a b printed total flow → AreUnder net (flow_by flow)
+  under_of : IsRightWithPins net a b printed total flow → AreWithinWeights net (flow_by flow)
   under_of r i c free over = let le = r.is_flow.within i c free in absurd (omega arith)
 
   kept_of : IsRightWithPins net a b printed total flow → AreConserved net a b (flow_by flow)

@@ -1,4 +1,4 @@
--- What the parts of the check say together.
+-- The results of the parts of the check, combined.
 use Rattle.std.proofs.Common.{◌≡◌, ℕ, Result, Ok, Err, ◌≤◌, ◌<◌, Bool, false, not, List, length, get_or, map, take, refl, sym, ap, ◌∙◌, subst, arith, Option, Some, None}
 use Rattle.std.specs.Prelude.{Contains, IfOk, IfSome, slice_get, is_some, unwrap_or, option_map, find}
 use Rattle.std.proofs.lemmas.Bool.{not-true, not_from_false}
@@ -11,7 +11,7 @@ use Rattle.cut_net.specs.Cuts.{Chain, Outside, weight, have_equal_ends}
 use Rattle.cut_net.specs.Lines.{AreImportsInOrder, IsImport, amount_in, removed_by, flow_by}
 use Rattle.cut_net.specs.Pins.{AreWeightsWithPins, IsRemovable}
 use Rattle.cut_net.proofs.Chains.{widened}
-use Rattle.cut_check.specs.Matched.{AreMatched}
+use Rattle.cut_check.specs.MatchedLines.{AreMatched}
 use Rattle.cut_check.specs.Reaching.{IsAllowed}
 use Rattle.cut_check.specs.Sums.{AreAmounts, HaveAmounts, AreTheirWeights}
 use Rattle.cut_check.specs.Sums.{IsFlowVerdict}
@@ -122,7 +122,7 @@ pub if_ok : {A E : Type 0} (P Q : A → Type 0) (r : Result A E) → ((v : A) �
 if_ok P Q (Ok v) more h = more v h
 if_ok P Q (Err e) more h = tt
 
--- the verdict on the flow is the verdict where the printed imports are right
+-- the verdict on the flow is the verdict where the reported imports are right
 pub by_flow : (net : Network) (a b : ℕ) (printed : List Priced) (total : ℕ) (flow : List Priced) → HasCut net a b printed flow → AreWeightsWithPins net printed total →
     (v : Verdict) → IsFlowVerdict net a b (flow_by flow) total v → IsCutVerdict net a b printed total flow v
 by_flow net a b printed total flow cut weigh Yes h = record {

@@ -1,4 +1,4 @@
--- Chains of pins, by their neighbours.
+-- Paths of pinned imports, by consecutive modules.
 use Rattle.std.proofs.Common.{◌≡◌, ℕ, zero, suc, ◌+◌, ◌-◌, ◌<◌, Bool, true, ◌&&◌, List, [], ◌∷◌, length, get_or, sym, ap, ap₂, ◌∙◌, subst, arith, ◌⊎◌, inl, inr}
 use Rattle.std.specs.Prelude.{◌==◌, Contains, find, is_some}
 use Rattle.std.proofs.lemmas.Bool.{both_ways, cases_Bool, cases_eq}
@@ -61,7 +61,7 @@ import_or_none (x ∷ xs) Allowed decide m n =
 pub pinned_or_not : (net : Network) (i : Priced) → (ByPin net i) ⊎ (ByPin net i → ⊥)
 pinned_or_not net i = elim (cases_Bool (is_pinned net i)) [ inl t ↦ inl t | inr f ↦ inr (λ t. both_ways _ f t) ]
 
--- all neighbours are joined
+-- a pinned import leads from each module to the next
 abbrev pub ArePinned : Network → List ℕ → Type 0
 ArePinned net chain = (k : ℕ) → k + 1 < length chain → IsPinnedAt net chain k
 

@@ -1,4 +1,4 @@
--- There is a verdict: each cause is decided, in their order.
+-- A verdict holds: the causes are decidable, in order.
 use Rattle.std.proofs.Common.{◌≡◌, ℕ, zero, suc, ◌+◌, ◌≤◌, ◌<◌, List, [], ◌∷◌, ◌++◌, cond, true, false, length, get_or, take, refl, sym, ap, ◌∙◌, subst, arith, ◌⊎◌, inl, inr, Option, Some, None}
 use Rattle.std.specs.Prelude.{IfSome, find, is_some}
 use Rattle.std.proofs.lemmas.Bool.{both_ways, cases_Bool, cases_eq, cases_lt}
@@ -13,14 +13,14 @@ use Rattle.cut_net.specs.Pins.{is_pinned, AreWeightsWithPins, IsRemovable}
 use Rattle.cut_net.specs.WellFormed.{IsNetwork}
 use Rattle.cut_net.proofs.Chains.{chain_or_none, outside_or_in}
 use Rattle.cut_check.specs.Reaching.{any}
-use Rattle.cut_check.specs.Matched.{IsLineAt}
-use Rattle.cut_check.specs.Verdicts.{AreConserved, AreRead, AreUnder, HasCut, HasVerdict, IsFirstStray, IsOff}
+use Rattle.cut_check.specs.MatchedLines.{IsLineAt}
+use Rattle.cut_check.specs.Verdicts.{AreConserved, AreImportLines, AreWithinWeights, HasCut, HasVerdict, IsFirstStray, IsUnbalanced}
 use Rattle.cut_check.specs.declared.verdict.Verdict.TheVariants.{Yes, NoSuchImport, StillChain, WrongWeight, OverWeight, NotKept, WrongValue}
 use Rattle.cut_check.proofs.Flows.{beyond}
 use Rattle.cut_check.proofs.Matching.{Matching, matching_start, matching_more, matching_end}
 use Rattle.cut_check.proofs.Parts.{read_modules, stray_at}
 
--- a fact that holds below n, or the first place where it doesn't
+-- a fact that holds below n, or the first index where it doesn't
 pub data Below (P : ℕ → Type 0) (n : ℕ) : Type 0 where
   everywhere : ((k : ℕ) → k < n → P k) → Below P n
   first_not : (k : ℕ) → k < n → (P k → ⊥) → ((j : ℕ) → j < k → P j) → Below P n
@@ -79,7 +79,7 @@ in_order_or_stray net lines ascending =
     ]
 
 module _ (net : Network) (a b : ℕ) (printed : List Priced) (total : ℕ) (flow : List Priced) (is_net : IsNetwork net) where
-  at_end : AreConserved net a b (flow_by flow) → AreUnder net (flow_by flow) → AreWeightsWithPins net printed total → HasCut net a b printed flow → HasVerdict net a b (CutOf total printed flow)
+  at_end : AreConserved net a b (flow_by flow) → AreWithinWeights net (flow_by flow) → AreWeightsWithPins net printed total → HasCut net a b printed flow → HasVerdict net a b (CutOf total printed flow)
   at_end kept under weigh cut = elim (cases_eq (entering net.imports (flow_by flow) a + total) (leaving net.imports (flow_by flow) a)) [
     | inr wrong ↦ (WrongValue, (cut, weigh, under, kept, wrong))
     | inl value ↦ (
@@ -100,7 +100,7 @@ module _ (net : Network) (a b : ℕ) (printed : List Priced) (total : ℕ) (flow
 
   -- a module is kept, or off
   KeptAt : ℕ → Type 0
-  KeptAt m = IsOff net a b (flow_by flow) m → ⊥
+  KeptAt m = IsUnbalanced net a b (flow_by flow) m → ⊥
 
   kept_or_off : (m : ℕ) → KeptAt m ⊎ (KeptAt m → ⊥)
   unfolding KeptAt
@@ -115,7 +115,7 @@ module _ (net : Network) (a b : ℕ) (printed : List Priced) (total : ℕ) (flow
     ]
   ]
 
-  is_off : (m : ℕ) → (KeptAt m → ⊥) → IsOff net a b (flow_by flow) m
+  is_off : (m : ℕ) → (KeptAt m → ⊥) → IsUnbalanced net a b (flow_by flow) m
   unfolding KeptAt
   is_off m fails = (
     λ e. fails (λ off. off.0 e),
@@ -123,7 +123,7 @@ module _ (net : Network) (a b : ℕ) (printed : List Priced) (total : ℕ) (flow
     λ e. fails (λ off. off.2 e),
   )
 
-  after_under : AreUnder net (flow_by flow) → AreWeightsWithPins net printed total → HasCut net a b printed flow → HasVerdict net a b (CutOf total printed flow)
+  after_under : AreWithinWeights net (flow_by flow) → AreWeightsWithPins net printed total → HasCut net a b printed flow → HasVerdict net a b (CutOf total printed flow)
   unfolding KeptAt
   after_under under weigh cut = elim (below KeptAt kept_or_off (length net.names)) [
     | first_not m lt fails before ↦ (NotKept m, (cut, weigh, under, record { off = is_off m fails; least = before }))
@@ -133,7 +133,7 @@ module _ (net : Network) (a b : ℕ) (printed : List Priced) (total : ℕ) (flow
     ]) under weigh cut
   ]
 
-  -- the import at a place has a flow within its weight, unless it is pinned
+  -- the import at an index has a flow within its weight, unless it is pinned
   UnderAt : ℕ → Type 0
   UnderAt k = is_pinned net (get_or net.imports k any) ≡ false → flow_by flow (get_or net.imports k any) ≤ (get_or net.imports k any).amount
 
@@ -182,7 +182,7 @@ module _ (net : Network) (a b : ℕ) (printed : List Priced) (total : ℕ) (flow
         )
   ]
 
-  -- the line of the import at a place, if it has one, has its weight
+  -- the line of the import at an index, if it has one, has its weight
   WeightAt : ℕ → Type 0
   WeightAt k = IfSome (find (have_equal_ends (get_or net.imports k any)) printed) (λ line. line.amount ≡ (get_or net.imports k any).amount)
 
@@ -198,7 +198,7 @@ module _ (net : Network) (a b : ℕ) (printed : List Priced) (total : ℕ) (flow
   unfolding WeightAt
   weight_here i k e h = subst (λ v. IfSome (find (have_equal_ends v) printed) (λ line. line.amount ≡ v.amount)) e h
 
-  -- the import at a place isn't both printed and pinned
+  -- the import at an index isn't both reported and pinned
   FreeAt : ℕ → Type 0
   FreeAt k = removed_by printed (get_or net.imports k any) ≡ true → is_pinned net (get_or net.imports k any) ≡ false
 
@@ -242,7 +242,7 @@ module _ (net : Network) (a b : ℕ) (printed : List Priced) (total : ℕ) (flow
     | inl printed_in_order ↦ elim (in_order_or_stray net flow is_net.imports_ascend) [
       | inr (from, to, stray) ↦ (NoSuchImport from to, inr (printed_in_order, stray))
       | inl flow_in_order ↦
-          let read : AreRead net printed flow = record { printed_in_order = printed_in_order; flow_in_order = flow_in_order } in
+          let read : AreImportLines net printed flow = record { printed_in_order = printed_in_order; flow_in_order = flow_in_order } in
           elim (chain_or_none net.imports (Outside (removed_by printed)) (outside_or_in (removed_by printed)) a b) [
             | inl chain ↦ (StillChain, (read, chain))
             | inr none ↦ after_cut (record { read = read; no_chain = none })

@@ -1,4 +1,4 @@
 pub mod Verdicts
-pub mod Matched
+pub mod MatchedLines
 pub mod Reaching
 pub mod Sums

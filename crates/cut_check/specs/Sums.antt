@@ -6,13 +6,13 @@ use Rattle.cut_net.specs.Cuts.{entering, leaving}
 use Rattle.cut_net.specs.Pins.{is_pinned, IsFlowWithPins}
 use Rattle.cut_check.specs.declared.verdict.Verdict.{Verdict}
 use Rattle.cut_check.specs.declared.verdict.Verdict.TheVariants.{Yes, NoSuchImport, StillChain, WrongWeight, OverWeight, NotKept, WrongValue, NotPinned}
-use Rattle.cut_check.specs.Verdicts.{AreConserved, AreUnder, HasValue, IsFirstOff, IsFirstOver}
+use Rattle.cut_check.specs.Verdicts.{AreConserved, AreWithinWeights, HasValue, IsFirstUnbalanced, IsFirstOverWeight}
 
 -- the amounts are those of a flow
 abbrev pub AreAmounts : List Priced → (Priced → ℕ) → List (Option ℕ) → Type 0
 AreAmounts imports flow amounts = (k : ℕ) (d : Priced) → k < length imports → unwrap_or (slice_index_or amounts k None) 0 ≡ flow (slice_index_or imports k d)
 
--- none of the first amounts is above the weight of its import, unless the import is pinned
+-- none of the first count amounts is above the weight of its import, unless the import is pinned
 abbrev pub AreWithin : Network → List (Option ℕ) → ℕ → Type 0
 AreWithin net amounts count = (k : ℕ) (d : Priced) → k < count → is_pinned net (slice_index_or net.imports k d) ≡ false →
     unwrap_or (slice_index_or amounts k None) 0 ≤ (slice_index_or net.imports k d).amount
@@ -44,7 +44,7 @@ IsFlowVerdict net a b flow total Yes = IsFlowWithPins net a b flow total
 IsFlowVerdict net a b flow total (NoSuchImport from to) = ⊥
 IsFlowVerdict net a b flow total StillChain = ⊥
 IsFlowVerdict net a b flow total WrongWeight = ⊥
-IsFlowVerdict net a b flow total (OverWeight from to) = IsFirstOver net flow from to
-IsFlowVerdict net a b flow total (NotKept m) = AreUnder net flow × IsFirstOff net a b flow m
-IsFlowVerdict net a b flow total WrongValue = AreUnder net flow × AreConserved net a b flow × (HasValue net a flow total → ⊥)
+IsFlowVerdict net a b flow total (OverWeight from to) = IsFirstOverWeight net flow from to
+IsFlowVerdict net a b flow total (NotKept m) = AreWithinWeights net flow × IsFirstUnbalanced net a b flow m
+IsFlowVerdict net a b flow total WrongValue = AreWithinWeights net flow × AreConserved net a b flow × (HasValue net a flow total → ⊥)
 IsFlowVerdict net a b flow total (NotPinned from to) = ⊥

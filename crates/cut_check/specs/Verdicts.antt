@@ -20,11 +20,11 @@ pub record IsFirstStray (net : Network) (lines : List Priced) (from to : ℕ) : 
   pub stray : AreImportsInOrder net (take (index + 1) lines) → ⊥
 
 -- the first line of both lists that is out of order or no import, the reported imports before the flow
-abbrev pub IsStray : Network → List Priced → List Priced → ℕ → ℕ → Type 0
-IsStray net printed flow from to = IsFirstStray net printed from to ⊎ (AreImportsInOrder net printed × IsFirstStray net flow from to)
+abbrev pub IsStrayLine : Network → List Priced → List Priced → ℕ → ℕ → Type 0
+IsStrayLine net printed flow from to = IsFirstStray net printed from to ⊎ (AreImportsInOrder net printed × IsFirstStray net flow from to)
 
 -- all lines are imports of the network, in order
-pub record AreRead (net : Network) (printed flow : List Priced) : Type 0 where
+pub record AreImportLines (net : Network) (printed flow : List Priced) : Type 0 where
   pub printed_in_order : AreImportsInOrder net printed
   pub flow_in_order : AreImportsInOrder net flow
 
@@ -34,11 +34,11 @@ HasChainLeft net a b printed = Chain net.imports (Outside (removed_by printed)) 
 
 -- all lines are imports of the network, in order, and no path avoids the reported imports
 pub record HasCut (net : Network) (a b : ℕ) (printed flow : List Priced) : Type 0 where
-  pub read : AreRead net printed flow
+  pub read : AreImportLines net printed flow
   pub no_chain : HasChainLeft net a b printed → ⊥
 
 -- the first unpinned import whose flow is above its weight has these ends
-pub record IsFirstOver (net : Network) (flow : Priced → ℕ) (from to : ℕ) : Type 0 where
+pub record IsFirstOverWeight (net : Network) (flow : Priced → ℕ) (from to : ℕ) : Type 0 where
   pub index : ℕ
   pub import : Priced
   pub at_index : slice_get net.imports index ≡ Some import
@@ -48,21 +48,21 @@ pub record IsFirstOver (net : Network) (flow : Priced → ℕ) (from to : ℕ) :
   pub before : (i : Priced) → Contains (take index net.imports) i → is_pinned net i ≡ false → i.amount < flow i → ⊥
 
 -- no flow is above its import's weight, unless the import is pinned
-abbrev pub AreUnder : Network → (Priced → ℕ) → Type 0
-AreUnder net flow = (i : Priced) → Contains net.imports i → is_pinned net i ≡ false → i.amount < flow i → ⊥
+abbrev pub AreWithinWeights : Network → (Priced → ℕ) → Type 0
+AreWithinWeights net flow = (i : Priced) → Contains net.imports i → is_pinned net i ≡ false → i.amount < flow i → ⊥
 
 -- the module isn't a or b, and its inflow isn't its outflow
-abbrev pub IsOff : Network → ℕ → ℕ → (Priced → ℕ) → ℕ → Type 0
-IsOff net a b flow m = (m ≢ a) × (m ≢ b) × (entering net.imports flow m ≢ leaving net.imports flow m)
+abbrev pub IsUnbalanced : Network → ℕ → ℕ → (Priced → ℕ) → ℕ → Type 0
+IsUnbalanced net a b flow m = (m ≢ a) × (m ≢ b) × (entering net.imports flow m ≢ leaving net.imports flow m)
 
 -- the module with the smallest number, other than a and b, whose inflow isn't its outflow
-pub record IsFirstOff (net : Network) (a b : ℕ) (flow : Priced → ℕ) (m : ℕ) : Type 0 where
-  pub off : IsOff net a b flow m
-  pub least : (n : ℕ) → n < m → IsOff net a b flow n → ⊥
+pub record IsFirstUnbalanced (net : Network) (a b : ℕ) (flow : Priced → ℕ) (m : ℕ) : Type 0 where
+  pub off : IsUnbalanced net a b flow m
+  pub least : (n : ℕ) → n < m → IsUnbalanced net a b flow n → ⊥
 
 -- the inflow of each module but a and b is its outflow
 abbrev pub AreConserved : Network → ℕ → ℕ → (Priced → ℕ) → Type 0
-AreConserved net a b flow = (m : ℕ) → IsOff net a b flow m → ⊥
+AreConserved net a b flow = (m : ℕ) → IsUnbalanced net a b flow m → ⊥
 
 -- the outflow of a, less its inflow, is this value
 abbrev pub HasValue : Network → ℕ → (Priced → ℕ) → ℕ → Type 0
@@ -71,15 +71,15 @@ HasValue net a flow value = entering net.imports flow a + value ≡ leaving net.
 -- the verdict on a cut: the first cause that holds, if the earlier ones don't
 abbrev pub IsCutVerdict : Network → ℕ → ℕ → List Priced → ℕ → List Priced → Verdict → Type 0
 IsCutVerdict net a b printed total flow Yes = IsRightWithPins net a b printed total flow
-IsCutVerdict net a b printed total flow (NoSuchImport from to) = IsStray net printed flow from to
-IsCutVerdict net a b printed total flow StillChain = AreRead net printed flow × HasChainLeft net a b printed
+IsCutVerdict net a b printed total flow (NoSuchImport from to) = IsStrayLine net printed flow from to
+IsCutVerdict net a b printed total flow StillChain = AreImportLines net printed flow × HasChainLeft net a b printed
 IsCutVerdict net a b printed total flow WrongWeight = HasCut net a b printed flow × (AreWeightsWithPins net printed total → ⊥)
 IsCutVerdict net a b printed total flow (OverWeight from to) =
-    HasCut net a b printed flow × AreWeightsWithPins net printed total × IsFirstOver net (flow_by flow) from to
+    HasCut net a b printed flow × AreWeightsWithPins net printed total × IsFirstOverWeight net (flow_by flow) from to
 IsCutVerdict net a b printed total flow (NotKept m) =
-    HasCut net a b printed flow × AreWeightsWithPins net printed total × AreUnder net (flow_by flow) × IsFirstOff net a b (flow_by flow) m
+    HasCut net a b printed flow × AreWeightsWithPins net printed total × AreWithinWeights net (flow_by flow) × IsFirstUnbalanced net a b (flow_by flow) m
 IsCutVerdict net a b printed total flow WrongValue =
-    HasCut net a b printed flow × AreWeightsWithPins net printed total × AreUnder net (flow_by flow) × AreConserved net a b (flow_by flow) × (HasValue net a (flow_by flow) total → ⊥)
+    HasCut net a b printed flow × AreWeightsWithPins net printed total × AreWithinWeights net (flow_by flow) × AreConserved net a b (flow_by flow) × (HasValue net a (flow_by flow) total → ⊥)
 IsCutVerdict net a b printed total flow (NotPinned from to) = ⊥
 
 -- the first of these modules is a, and the last is b

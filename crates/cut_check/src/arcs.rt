@@ -1,13 +1,13 @@
 //! Conversion of imports to arcs.
 ghost use Rattle.std.specs.Prelude.{◌≡◌, ◌<◌, IfOk, length};
-ghost use Rattle.cut_check.specs.Reaching.{AreArcs, arc_for};
+ghost use Rattle.cut_check.specs.Reaching.{AreArcs, arc_if_allowed};
 
 use cut_net::Priced;
 use residual_graph::Arc;
 use std::alloc::{AllocError, Global};
 
-fn arc_for(i: Priced, allowed: bool) -> Arc
-    ensures { result ≡ arc_for i allowed }
+fn arc_if_allowed(i: Priced, allowed: bool) -> Arc
+    ensures { result ≡ arc_if_allowed i allowed }
 {
     Arc {
         from: i.from,
@@ -28,7 +28,7 @@ pub(crate) fn arcs_of(
 {
     let mut arcs = Vec::new(alloc);
     for (k, i) in imports.iter().enumerate() {
-        arcs.push(arc_for(*i, allowed[k]))?;
+        arcs.push(arc_if_allowed(*i, allowed[k]))?;
     }
     Ok(arcs)
 }

@@ -9,12 +9,12 @@ ghost use Rattle.cut_check.specs.Verdicts.{IsVerdict};
 use crate::Verdict;
 use crate::arcs::arcs_of;
 use crate::flow::check_flow;
-use crate::lines::{match_lines, without_line};
+use crate::lines::{allowed_imports, match_lines};
 use crate::pins::check_chain;
-use crate::weights::has_weights;
+use crate::weights::has_right_weights;
 use cut_net::laws::{certificate_with_pins, no_cut_of_pins};
 use cut_net::{Answer, Cut, Net};
-use residual_graph::marks;
+use residual_graph::flag_reachable;
 use std::alloc::{AllocError, Global};
 
 /// Whether a path leads from the one module to the other by imports that the search may use.
@@ -32,7 +32,7 @@ fn has_chain(
 {
     net.invariants();
     let arcs = arcs_of(alloc, net.imports(), allowed)?;
-    let reached_flags = marks(alloc, &arcs, net.nodes(), from)?;
+    let reached_flags = flag_reachable(alloc, &arcs, net.nodes(), from)?;
     Ok(reached_flags[to as usize])
 }
 
@@ -59,11 +59,11 @@ fn check_cut(alloc: Global, net: &Net, from: u32, to: u32, cut: &Cut) -> Result<
             to: line.to,
         });
     }
-    let allowed = without_line(alloc, &printed.amounts)?;
+    let allowed = allowed_imports(alloc, &printed.amounts)?;
     if has_chain(alloc, net, &allowed, from, to)? {
         return Ok(Verdict::StillChain);
     }
-    if !has_weights(net, &printed.amounts, cut.weight) {
+    if !has_right_weights(net, &printed.amounts, cut.weight) {
         return Ok(Verdict::WrongWeight);
     }
     check_flow(alloc, net, &flow.amounts, from, to, cut.weight)

@@ -10,7 +10,7 @@ use cut_net::{Net, Priced};
 use std::alloc::{AllocError, Global};
 
 /// The first unpinned import with an amount above its weight.
-fn first_above(net: &Net, amounts: &[Option<u64>]) -> Option<Priced>
+fn first_over_weight(net: &Net, amounts: &[Option<u64>]) -> Option<Priced>
     requires { length amounts.now ≡ length net.now.imports }
     ensures { MatchOption result (AreWithin net.now amounts.now (length net.now.imports)) (λ i. IsFirstAbove net.now amounts.now i) }
 {
@@ -63,7 +63,7 @@ fn sums_of(
 
 impl Sums {
     /// The first module, other than the two ends, whose inflow isn't its outflow.
-    fn first_off(&self, modules: u32, from: u32, to: u32) -> Option<u32>
+    fn first_unbalanced(&self, modules: u32, from: u32, to: u32) -> Option<u32>
         requires into { vec_len self.now.into ≡ modules }
         requires out { vec_len self.now.out ≡ modules }
         ensures { MatchOption result
@@ -106,14 +106,14 @@ pub(crate) fn check_flow(
 {
     net.invariants();
     let imports = net.imports();
-    if let Some(over) = first_above(net, amounts) {
+    if let Some(over) = first_over_weight(net, amounts) {
         return Ok(Verdict::OverWeight {
             from: over.from,
             to: over.to,
         });
     }
     let sums = sums_of(alloc, imports, amounts, net.nodes())?;
-    if let Some(module) = sums.first_off(net.nodes(), from, to) {
+    if let Some(module) = sums.first_unbalanced(net.nodes(), from, to) {
         return Ok(Verdict::NotKept { module });
     }
     if !sums.has_value(from, total) {

@@ -1,7 +1,7 @@
 //! The lines of a report, matched with the imports of the network.
 ghost use Rattle.std.specs.Prelude.{◌≡◌, ℕ, IfOk, Option, is_some, map, not};
 ghost use Rattle.cut_net.specs.Cuts.{have_equal_ends};
-ghost use Rattle.cut_check.specs.Matched.{AreMatched, IsLineAt};
+ghost use Rattle.cut_check.specs.MatchedLines.{AreMatched, IsLineAt};
 
 use cut_net::{Net, Priced};
 use std::alloc::{AllocError, Global};
@@ -24,13 +24,17 @@ fn amount_at(i: Priced, lines: &[Priced], next: usize) -> Option<u64>
 
 /// For each import the amount of its line, and the number of lines that are in order.
 #[derive(Drop)]
-pub(crate) struct Matched {
+pub(crate) struct MatchedLines {
     pub(crate) amounts: Vec<Option<u64>>,
     pub(crate) count: usize,
 }
 
 /// Merges the imports with the lines, up to the first line that isn't an import of the network or isn't after its predecessor.
-pub(crate) fn match_lines(alloc: Global, net: &Net, lines: &[Priced]) -> Result<Matched, AllocError>
+pub(crate) fn match_lines(
+    alloc: Global,
+    net: &Net,
+    lines: &[Priced],
+) -> Result<MatchedLines, AllocError>
     ensures { IfOk result (λ m. AreMatched net.now lines.now m.count m.amounts.items) }
 {
     net.invariants();
@@ -44,11 +48,14 @@ pub(crate) fn match_lines(alloc: Global, net: &Net, lines: &[Priced]) -> Result<
             count += 1;
         }
     }
-    Ok(Matched { amounts, count })
+    Ok(MatchedLines { amounts, count })
 }
 
 /// For each import whether it has no line.
-pub(crate) fn without_line(alloc: Global, amounts: &[Option<u64>]) -> Result<Vec<bool>, AllocError>
+pub(crate) fn allowed_imports(
+    alloc: Global,
+    amounts: &[Option<u64>],
+) -> Result<Vec<bool>, AllocError>
     ensures { IfOk result (λ v. v.items ≡ map (λ (amount : Option ℕ). not (is_some amount)) amounts.now) }
 {
     amounts.iter().map(|amount| amount.is_none()).collect(alloc)

@@ -4,14 +4,14 @@ ghost use Rattle.cut_net.specs.Pins.{is_pinned};
 ghost use Rattle.cut_check.specs.Verdicts.{AreChainEnds, IsChainVerdict, IsFirstUnpinned, IsPinnedAt};
 
 use crate::Verdict;
-use cut_net::{Net, Priced, line_of};
+use cut_net::{Net, Priced, find_import};
 
 /// Whether the import between these modules is pinned.
 pub(crate) fn is_pinned(net: &Net, import: Priced) -> bool
     ensures { result ≡ is_pinned net.now import }
 {
     net.invariants();
-    line_of(net.pins(), import).is_some()
+    find_import(net.pins(), import).is_some()
 }
 
 /// The first two consecutive modules without a pinned import from the one to the other.
@@ -34,7 +34,7 @@ fn first_unpinned(net: &Net, chain: &[u32]) -> Option<Priced>
     None
 }
 
-fn are_ends(chain: &[u32], from: u32, to: u32) -> bool
+fn are_chain_ends(chain: &[u32], from: u32, to: u32) -> bool
     ensures { IsTrue result ↔ AreChainEnds from to chain.now }
 {
     !chain.is_empty() && chain[0] == from && chain[chain.len() - 1] == to
@@ -44,7 +44,7 @@ fn are_ends(chain: &[u32], from: u32, to: u32) -> bool
 pub(crate) fn check_chain(net: &Net, from: u32, to: u32, chain: &[u32]) -> Verdict
     ensures { IsChainVerdict net.now from to chain.now result }
 {
-    if !are_ends(chain, from, to) {
+    if !are_chain_ends(chain, from, to) {
         return Verdict::StillChain;
     }
     match first_unpinned(net, chain) {

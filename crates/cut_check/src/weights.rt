@@ -8,7 +8,7 @@ ghost use Rattle.cut_check.specs.Sums.{HaveAmounts, AreTheirWeights};
 use crate::pins::is_pinned;
 use cut_net::{Net, Priced};
 
-fn is_weight(amount: Option<u64>, weight: u64) -> bool
+fn matches_weight(amount: Option<u64>, weight: u64) -> bool
     ensures { IsTrue result ↔ IfSome amount (λ x. x ≡ weight) }
 {
     match amount {
@@ -18,7 +18,7 @@ fn is_weight(amount: Option<u64>, weight: u64) -> bool
 }
 
 /// Whether each amount is its import's weight, and the total is their sum.
-fn add_up(imports: &[Priced], amounts: &[Option<u64>], total: u64) -> bool
+fn is_total_of_weights(imports: &[Priced], amounts: &[Option<u64>], total: u64) -> bool
     requires amounts { length amounts.now ≡ length imports.now }
     requires fits { sum_by (λ i. i.amount) imports.now < 2 ^ 64 }
     ensures { (x : Priced → Bool) → HaveAmounts imports.now x amounts.now →
@@ -26,7 +26,7 @@ fn add_up(imports: &[Priced], amounts: &[Option<u64>], total: u64) -> bool
 {
     let mut sum = 0;
     for (k, i) in imports.iter().enumerate() {
-        if !is_weight(amounts[k], i.amount) {
+        if !matches_weight(amounts[k], i.amount) {
             return false;
         }
         sum += amounts[k].unwrap_or(0);
@@ -48,11 +48,11 @@ fn are_removable(net: &Net, amounts: &[Option<u64>]) -> bool
 }
 
 /// Whether no import with an amount is pinned, each amount is its import's weight, and the total is their sum.
-pub(crate) fn has_weights(net: &Net, amounts: &[Option<u64>], total: u64) -> bool
+pub(crate) fn has_right_weights(net: &Net, amounts: &[Option<u64>], total: u64) -> bool
     requires { length amounts.now ≡ length net.now.imports }
     ensures { (x : Priced → Bool) → HaveAmounts net.now.imports x amounts.now →
         (IsTrue result ↔ (IsRemovable net.now x × AreTheirWeights net.now.imports amounts.now × (total ≡ weight net.now.imports x))) }
 {
     net.invariants();
-    are_removable(net, amounts) && add_up(net.imports(), amounts, total)
+    are_removable(net, amounts) && is_total_of_weights(net.imports(), amounts, total)
 }

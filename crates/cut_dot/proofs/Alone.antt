@@ -1,4 +1,4 @@
--- A picture where no chain leads, and one by flow where nothing flows.
+-- The picture without a path, and the picture by flow without flow.
 use Rattle.std.proofs.Common.{◌≡◌, ℕ, Bool, false, ◌||◌, ◌&&◌, List, [], ◌∷◌, filter, refl, ap, ap₂, ◌∙◌, subst, inl, inr}
 use Rattle.std.proofs.lemmas.Bool.{cases_Bool, false_from_ne_true}
 use Rattle.std.specs.Prelude.{Contains}

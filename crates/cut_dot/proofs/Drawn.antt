@@ -1,4 +1,4 @@
--- What came of a picture's text is a drawing.
+-- Writing a picture's text satisfies the definition of a drawing.
 use Rattle.std.proofs.Common.{ℕ, List, Option, Result, Ok, Err, inr}
 use Rattle.byte_sink.specs.Sinks.{Writes}
 use Rattle.byte_sink.specs.declared.sink.SinkFault.{SinkFault}

@@ -1,4 +1,4 @@
--- Modules that are marked at the ends of imports.
+-- Modules that are flagged at the ends of imports.
 use Rattle.std.proofs.Common.{◌≡◌, ℕ, ◌+◌, ◌<◌, Bool, true, false, List, [], ◌∷◌, ◌++◌, length, get_or, set, take, filter, refl, sym, ap, ◌∙◌, subst, inl, inr}
 use Rattle.std.specs.Prelude.{Contains}
 use Rattle.std.proofs.lemmas.Bool.{cases_eq, and_from}
@@ -6,24 +6,24 @@ use Rattle.std.proofs.lemmas.List.{get_or-set_other, take_more}
 use Rattle.std.proofs.lemmas.List.Elements.{Contains-append_cases, Contains-append_left, Contains-append_right}
 use Rattle.digraph.proofs.Members.{first_member, later_member, no_member, one_member}
 use Rattle.cut_net.specs.declared.priced.Priced.{Priced}
-use Rattle.cut_net.specs.Cuts.{AreThose}
+use Rattle.cut_net.specs.Cuts.{IsSetOf}
 use Rattle.cut_part.specs.Subnetworks.{are_ends_in}
 use Rattle.cut_part.specs.Marks.{with_ends}
 use Rattle.cut_part.proofs.Parts.{end_marked, start_marked, still_marked}
 use Rattle.residual_graph.specs.Graphs.{is_flagged}
-use Rattle.cut_dot.specs.Pictures.{IsAtEnd}
+use Rattle.cut_dot.specs.Pictures.{IsImportEnd}
 
--- where nothing is marked, no import is looked at
-pub none_at_end : (marks : List Bool) → ((m : ℕ) → is_flagged marks m ≡ false) → AreThose (is_flagged marks) (IsAtEnd [])
+-- where nothing is flagged, no import is inspected
+pub none_at_end : (marks : List Bool) → ((m : ℕ) → is_flagged marks m ≡ false) → IsSetOf (is_flagged marks) (IsImportEnd [])
 none_at_end marks blank m = (λ t. let no = sym (blank m) ∙ t in absurd cc, λ (i, within, at). no_member i within)
 
 module _ (imports : List Priced) (k : ℕ) (d : Priced) (marks : List Bool) where
   one_behind : k < length imports → (i : Priced) → Contains (take (k + 1) imports) i → Contains (take k imports ++ get_or imports k d ∷ []) i
   one_behind in_k i within = subst (λ (v : List Priced). Contains v i) (take_more imports k d in_k) within
 
-  -- the marks, with the ends of the next import
-  pub one_more_at_end : k < length imports → (get_or imports k d).from < length marks → (get_or imports k d).to < length marks → AreThose (is_flagged marks) (IsAtEnd (take k imports))
-      → AreThose (is_flagged (with_ends marks (get_or imports k d).from (get_or imports k d).to)) (IsAtEnd (take (k + 1) imports))
+  -- the flags, with the ends of the next import
+  pub one_more_at_end : k < length imports → (get_or imports k d).from < length marks → (get_or imports k d).to < length marks → IsSetOf (is_flagged marks) (IsImportEnd (take k imports))
+      → IsSetOf (is_flagged (with_ends marks (get_or imports k d).from (get_or imports k d).to)) (IsImportEnd (take (k + 1) imports))
   one_more_at_end in_k from_in to_in so_far m =
       let i = get_or imports k d in
       let whole = take_more imports k d in_k in
@@ -52,5 +52,5 @@ all_pass p [] passes = refl
 all_pass p (x ∷ xs) passes = rw (passes x (first_member x xs x refl)) (ap (λ ys. x ∷ ys) (all_pass p xs (λ y within. passes y (later_member x xs y within))))
 
 -- all imports lead between modules at their ends
-pub all_inside : (marks : ℕ → Bool) (imports : List Priced) → AreThose marks (IsAtEnd imports) → filter (are_ends_in marks) imports ≡ imports
+pub all_inside : (marks : ℕ → Bool) (imports : List Priced) → IsSetOf marks (IsImportEnd imports) → filter (are_ends_in marks) imports ≡ imports
 all_inside marks imports at_ends = all_pass (are_ends_in marks) imports (λ i within. and_from _ _ ((at_ends i.from).1 (i, within, inl refl)) ((at_ends i.to).1 (i, within, inr refl)))

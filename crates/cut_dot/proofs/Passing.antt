@@ -28,11 +28,11 @@ module _ {X A : Type 0} (line : X → List A) (passes : X → Bool) where
   lines_of_both : (xs ys : List X) → lines (xs ++ ys) ≡ lines xs ++ lines ys
   lines_of_both xs ys = ap (flat_map line) (filter-append passes xs ys) ∙ flat_map-append line (filter passes xs) (filter passes ys)
 
-  -- of the first members and of those behind them
+  -- of the first members and of those after them
   pub lines_split : (xs : List X) (k : ℕ) → lines xs ≡ lines (take k xs) ++ lines (drop k xs)
   lines_split xs k = ap lines (sym (take-append-drop k xs)) ∙ lines_of_both (take k xs) (drop k xs)
 
-  -- of the first members, of the next, and of those behind it
+  -- of the first members, of the next, and of those after it
   pub one_around : (xs : List X) (k : ℕ) (d : X) → k < length xs → lines xs ≡ (lines (take k xs) ++ cond (passes (get_or xs k d)) (line (get_or xs k d)) []) ++ lines (drop (k + 1) xs)
   one_around xs k d lt = lines_split xs (k + 1) ∙ ap (λ (v : List A). v ++ lines (drop (k + 1) xs)) (one_taken xs k d lt)
 
@@ -47,7 +47,7 @@ one_counted line passes n = ap (lines line passes) (range_more n) ∙ one_more l
 range_taken : (n k : ℕ) → k ≤ n → take k (range_with_len 0 n) ≡ range_with_len 0 k
 range_taken n k le = ap (take k) (sym (map-id (range_with_len 0 n))) ∙ take-map-range_with_len (λ x. x) 0 n k le ∙ map-id (range_with_len 0 k)
 
--- of the first numbers, of the next, and of those behind it
+-- of the first numbers, of the next, and of those after it
 pub number_around : {A : Type 0} (line : ℕ → List A) (passes : ℕ → Bool) (n k : ℕ) → k < n
     → lines line passes (range_with_len 0 n) ≡ (lines line passes (range_with_len 0 k) ++ cond (passes k) (line k) []) ++ lines line passes (drop (k + 1) (range_with_len 0 n))
 number_around {A} line passes n k lt =

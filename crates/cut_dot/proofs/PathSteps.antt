@@ -18,7 +18,7 @@ use Rattle.cut_dot.specs.Steps.{line_of_step}
 abbrev pub edge : ℕ → ℕ → Edge
 edge m n = record { from = m; to = n }
 
--- the step from the module of a place to the next
+-- the step from the module at an index to the next
 step_at : (path : List ℕ) (k : ℕ) → k + 1 < length path → steps (drop k path) ≡ edge (get_or path k 0) (get_or path (suc k) 0) ∷ steps (drop (suc k) path)
 step_at [] k l = absurd (omega arith)
 step_at (m ∷ []) k l = absurd (omega arith)

@@ -1,8 +1,8 @@
--- Chains by imports that aren't removed.
+-- Paths by imports that aren't removed.
 use Rattle.std.proofs.Common.{◌≡◌, ℕ, Bool, true, false, not, List, filter, refl, ap}
 use Rattle.digraph.proofs.Members.{in_filter, of_filter}
 use Rattle.cut_net.specs.declared.priced.Priced.{Priced}
-use Rattle.cut_net.specs.Cuts.{Any, AreThose, Chain, Outside}
+use Rattle.cut_net.specs.Cuts.{Any, IsSetOf, Chain, Outside}
 use Rattle.cut_net.specs.Lines.{removed_by}
 use Rattle.cut_net.specs.WellFormed.{AreBetween}
 use Rattle.cut_net.proofs.Chains.{widened}
@@ -33,6 +33,6 @@ module _ (imports printed : List Priced) where
         (λ i h outside. let stays_i : stays printed i ≡ true = ap not outside in (in_filter (stays printed) imports i stays_i h, tt)) a c.0 m c.1,
   )
 
-  -- the marked modules are those that are reached by the imports that stay
-  pub still_reached : (a : ℕ) (marks : List Bool) → AreReachable (filter (stays printed) imports) a marks → AreThose (is_flagged marks) (Chain imports (Outside (removed_by printed)) a)
+  -- the flagged modules are those that are reached by the imports that stay
+  pub still_reached : (a : ℕ) (marks : List Bool) → AreReachable (filter (stays printed) imports) a marks → IsSetOf (is_flagged marks) (Chain imports (Outside (removed_by printed)) a)
   still_reached a marks mark_reachable m = (λ t. to_outside a m ((mark_reachable m).0 t), λ c. (mark_reachable m).1 (from_outside a m c))

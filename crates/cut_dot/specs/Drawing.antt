@@ -9,15 +9,15 @@ use Rattle.cut_net.specs.Network.{Network}
 use Rattle.cut_net.specs.AnswerClaim.{AnswerClaim}
 use Rattle.cut_dot.specs.Pictures.{IsPicture, IsPictureByFlow}
 
--- the sink took the whole of such a picture
+-- the sink took the whole of a text with the property
 abbrev pub WritesPicture : (List ℕ → Type 0) → Option (List ℕ) → Option (List ℕ) → Type 0
 WritesPicture Is old new = (text : List ℕ) × Is text × Appends old new text
 
--- the sink took a prefix of such a picture
+-- the sink took a prefix of a text with the property
 abbrev pub WritesPicturePrefix : (List ℕ → Type 0) → Option (List ℕ) → Option (List ℕ) → Type 0
 WritesPicturePrefix Is old new = (text : List ℕ) × Is text × AppendsPrefix old new text
 
--- with Ok the sink took the whole of such a picture, with an error a prefix of one
+-- with Ok the sink took the whole of a text with the property; with an error a prefix of one, or with Memory nothing
 abbrev pub IsDrawingOf : (List ℕ → Type 0) → Option (List ℕ) → Option (List ℕ) → Result (Unit {0}) SinkFault → Type 0
 IsDrawingOf Is old new (Ok _) = WritesPicture Is old new
 IsDrawingOf Is old new (Err Device) = WritesPicturePrefix Is old new

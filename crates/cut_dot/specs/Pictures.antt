@@ -6,7 +6,7 @@ use Rattle.cut_net.specs.declared.priced.Priced.{Priced}
 use Rattle.cut_net.specs.declared.answer.Answer.{Answer}
 use Rattle.cut_net.specs.declared.answer.Answer.TheVariants as answers
 use Rattle.cut_net.specs.Network.{Network}
-use Rattle.cut_net.specs.Cuts.{AreThose, Chain, Outside}
+use Rattle.cut_net.specs.Cuts.{IsSetOf, Chain, Outside}
 use Rattle.cut_net.specs.Lines.{flow_by, removed_by}
 use Rattle.cut_net.specs.AnswerClaim.{AnswerClaim, CutOf, BlockedBy}
 use Rattle.cut_part.specs.Subnetworks.{are_ends_in, IsBetween}
@@ -45,14 +45,14 @@ stays printed i = not (removed_by printed i)
 
 -- the modules that a reaches by imports that aren't removed
 abbrev pub AreStillReached : Network → ℕ → List Priced → (ℕ → Bool) → Type 0
-AreStillReached net a printed reached = AreThose reached (Chain net.imports (Outside (removed_by printed)) a)
+AreStillReached net a printed reached = IsSetOf reached (Chain net.imports (Outside (removed_by printed)) a)
 
 -- the text is the picture: the modules on paths from a to b with a and b, the imports between those on paths, each once, with their
 -- attributes
 pub record IsPicture (net : Network) (a b : ℕ) (printed flow : List Priced) (text : List ℕ) : Type 0 where
   -- the modules on paths from a to b
   pub between : ℕ → Bool
-  pub are_between : AreThose between (IsBetween net a b)
+  pub are_between : IsSetOf between (IsBetween net a b)
   -- the modules that a still reaches
   pub reached : ℕ → Bool
   pub are_reached : AreStillReached net a printed reached
@@ -68,14 +68,14 @@ abbrev pub reported_imports : Network → List Priced → List Priced → List P
 reported_imports net printed flow = filter (is_reported printed flow) net.imports
 
 -- one of the imports leads from the module, or to it
-abbrev pub IsAtEnd : List Priced → ℕ → Type 0
-IsAtEnd imports m = (i : Priced) × Contains imports i × ((i.from ≡ m) ⊎ (i.to ≡ m))
+abbrev pub IsImportEnd : List Priced → ℕ → Type 0
+IsImportEnd imports m = (i : Priced) × Contains imports i × ((i.from ≡ m) ⊎ (i.to ≡ m))
 
--- the text is the picture of these imports of the network, each once, with the modules at their ends, a and b, and their attributes
+-- the text is the picture of these imports of the network, each once, of the modules at their ends, and of a and b, with attributes
 pub record IsPictureOfImports (net : Network) (a b : ℕ) (printed flow imports : List Priced) (text : List ℕ) : Type 0 where
   -- the modules at the ends of these imports
   pub at_end : ℕ → Bool
-  pub are_at_ends : AreThose at_end (IsAtEnd imports)
+  pub are_at_ends : IsSetOf at_end (IsImportEnd imports)
   -- the modules that a still reaches
   pub reached : ℕ → Bool
   pub are_reached : AreStillReached net a printed reached

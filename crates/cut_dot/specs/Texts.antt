@@ -9,23 +9,23 @@ use Rattle.cut_net.specs.Pins.{is_pinned}
 use Rattle.cut_dot.specs.Ends.{is_chain_end}
 
 -- A and B have a double border
-abbrev pub end_mark : Bool → List ℕ
-end_mark true = codes " [peripheries=2]"
-end_mark false = []
+abbrev pub end_attribute : Bool → List ℕ
+end_attribute true = codes " [peripheries=2]"
+end_attribute false = []
 
 -- a module that is still reached is gray
-abbrev pub reached_mark : Bool → List ℕ
-reached_mark true = codes " [style=filled]"
-reached_mark false = []
+abbrev pub reached_attribute : Bool → List ℕ
+reached_attribute true = codes " [style=filled]"
+reached_attribute false = []
 
 -- a removed import is dashed and red
-abbrev pub removed_mark : Bool → List ℕ
-removed_mark true = codes " [style=dashed, color=red]"
-removed_mark false = []
+abbrev pub removed_attributes : Bool → List ℕ
+removed_attributes true = codes " [style=dashed, color=red]"
+removed_attributes false = []
 
 -- the line of a module: its name between quotation marks, since it might be a keyword of DOT, and its attributes
 abbrev pub module_line : List ℕ → Bool → Bool → List ℕ
-module_line name end reached = codes "  \"" ++ name ++ codes "\"" ++ end_mark end ++ reached_mark reached ++ codes ";\n"
+module_line name end reached = codes "  \"" ++ name ++ codes "\"" ++ end_attribute end ++ reached_attribute reached ++ codes ";\n"
 
 -- the two names of an import
 abbrev pub ends_text : List ℕ → List ℕ → List ℕ
@@ -33,11 +33,11 @@ ends_text from to = codes "  \"" ++ from ++ codes "\" -> \"" ++ to ++ codes "\""
 
 -- the label of an import, its flow and weight, and its attributes
 abbrev pub label_text : ℕ → ℕ → Bool → List ℕ
-label_text flow weight removed = codes " [label=\"" ++ decimal flow ++ codes "/" ++ decimal weight ++ codes "\"]" ++ removed_mark removed ++ codes ";\n"
+label_text flow weight removed = codes " [label=\"" ++ decimal flow ++ codes "/" ++ decimal weight ++ codes "\"]" ++ removed_attributes removed ++ codes ";\n"
 
 -- a pinned import has no weight, and is bold
 abbrev pub pin_text : ℕ → Bool → List ℕ
-pin_text flow removed = codes " [label=\"" ++ (decimal flow ++ (codes "/pin\"] [style=bold]" ++ (removed_mark removed ++ codes ";\n")))
+pin_text flow removed = codes " [label=\"" ++ (decimal flow ++ (codes "/pin\"] [style=bold]" ++ (removed_attributes removed ++ codes ";\n")))
 
 -- the line of an import
 abbrev pub import_line : List ℕ → List ℕ → ℕ → ℕ → Bool → Bool → List ℕ

@@ -8,9 +8,9 @@ ghost use Rattle.cut_dot.specs.Drawing.{IsDrawing, IsDrawingOf, IsFlowDrawing};
 ghost use Rattle.cut_dot.specs.Pictures.{answer_flow, answer_removed, IsFlowPicture, IsPathPicture, IsPictureOfImports};
 
 use crate::path::imports_along;
-use crate::reached::reached_from;
-use crate::reported::{marked_ends, reported_among};
-use crate::text::write_text;
+use crate::reached::flag_reached;
+use crate::reported::{filter_reported, flag_ends};
+use crate::text::write_picture;
 use byte_sink::{Sink, SinkFault};
 use cut_net::{Answer, Cut, Net, Priced};
 use cut_part::between;
@@ -36,10 +36,10 @@ fn draw_cut<S: Sink>(
     let Ok(part) = between(alloc, net, from, to) else {
         return Err(SinkFault::Memory);
     };
-    let Ok(reached) = reached_from(alloc, net, cut.imports.as_slice(), from) else {
+    let Ok(reached) = flag_reached(alloc, net, cut.imports.as_slice(), from) else {
         return Err(SinkFault::Memory);
     };
-    write_text(
+    write_picture(
         alloc,
         net,
         (from, to),
@@ -51,7 +51,7 @@ fn draw_cut<S: Sink>(
     )
 }
 
-/// Writes the picture of these imports of the network, with the modules at their ends, A and B.
+/// Writes the picture of these imports of the network, with the modules at their ends, and with A and B.
 fn draw_imports<S: Sink>(
     alloc: Global,
     net: &Net,
@@ -67,13 +67,13 @@ fn draw_imports<S: Sink>(
     ensures run { IsDrawingOf (IsPictureOfImports net.now ends.0 ends.1 cut.now.imports.items cut.now.flow.items imports.now) (S.taken sink.old) (S.taken sink.new) result }
     ensures failures { S.failures sink.new ≡ failures_after result (S.failures sink.old) }
 {
-    let Ok(marks) = marked_ends(alloc, imports, net.nodes()) else {
+    let Ok(marks) = flag_ends(alloc, imports, net.nodes()) else {
         return Err(SinkFault::Memory);
     };
-    let Ok(reached) = reached_from(alloc, net, cut.imports.as_slice(), ends.0) else {
+    let Ok(reached) = flag_reached(alloc, net, cut.imports.as_slice(), ends.0) else {
         return Err(SinkFault::Memory);
     };
-    write_text(alloc, net, ends, cut, imports, &marks, &reached, sink)
+    write_picture(alloc, net, ends, cut, imports, &marks, &reached, sink)
 }
 
 /// Writes the picture of a cut by its flow.
@@ -92,14 +92,14 @@ fn draw_flow_of_cut<S: Sink>(
 {
     net.invariants();
     let removed = cut.imports.as_slice();
-    let Ok(imports) = reported_among(alloc, net.imports(), removed, cut.flow.as_slice()) else {
+    let Ok(imports) = filter_reported(alloc, net.imports(), removed, cut.flow.as_slice()) else {
         return Err(SinkFault::Memory);
     };
     draw_imports(alloc, net, ends, cut, &imports, sink)
 }
 
-/// The cut of an answer without a cut: nothing is removed, and nothing flows.
-fn nothing(alloc: Global) -> Cut
+/// The cut for the picture of an answer without a cut: no import is removed, and none has flow.
+fn empty_cut(alloc: Global) -> Cut
     ensures removed { result.imports.items ≡ [] }
     ensures flow { result.flow.items ≡ [] }
 {
@@ -126,7 +126,7 @@ fn draw_path<S: Sink>(
     let Ok(imports) = imports_along(alloc, net.imports(), path) else {
         return Err(SinkFault::Memory);
     };
-    draw_imports(alloc, net, ends, &nothing(alloc), &imports, sink)
+    draw_imports(alloc, net, ends, &empty_cut(alloc), &imports, sink)
 }
 
 /// Writes the picture of an answer for two modules of a network, A and B, which are given by their numbers, as a graph in DOT.
@@ -134,7 +134,7 @@ fn draw_path<S: Sink>(
 /// A and B have a double border, and are there even if no path leads from A to B; then there is no import.
 /// The modules that A reaches without the removed imports are gray, A among them. A removed import is dashed and red.
 /// An import's label is its flow, a slash, and its weight in the network. A pinned import is bold, and has `pin` instead of a weight.
-/// Without a cut nothing is removed and nothing flows. The answer isn't verified: a line of an import that isn't drawn has no effect.
+/// Without a cut no import is removed, and none has flow. The answer isn't verified: a line of an import that isn't drawn has no effect.
 /// Fails with `Device` or `Memory`; the sink then has a prefix of the text.
 pub fn draw<S: Sink>(
     alloc: Global,
@@ -159,7 +159,7 @@ pub fn draw<S: Sink>(
 {
     match answer {
         Answer::Cut(cut) => draw_cut(alloc, net, from, to, cut, sink),
-        Answer::Blocked { .. } => draw_cut(alloc, net, from, to, &nothing(alloc), sink),
+        Answer::Blocked { .. } => draw_cut(alloc, net, from, to, &empty_cut(alloc), sink),
     }
 }
 

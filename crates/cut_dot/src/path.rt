@@ -6,8 +6,8 @@ ghost use Rattle.cut_net.specs.Lines.{removed_by, IsAscending};
 ghost use Rattle.cut_dot.specs.Pictures.{is_step, steps};
 ghost use Rattle.cut_dot.specs.Steps.{line_of_step};
 
-use cut_net::{Priced, line_of};
-use digraph::{Edge, sort_all};
+use cut_net::{Priced, find_import};
+use digraph::{Edge, sort_and_dedup};
 use std::alloc::{AllocError, Global};
 
 /// The steps of a path from each module to the next, sorted, each once.
@@ -22,12 +22,12 @@ fn steps_of(alloc: Global, path: &[u32]) -> Result<Vec<Edge>, AllocError>
             to: path[next],
         })?;
     }
-    sort_all(&mut found);
+    sort_and_dedup(&mut found);
     Ok(found)
 }
 
 /// A line for each step, so that an import's step is found by binary search.
-fn lines_of(alloc: Global, steps: &[Edge]) -> Result<Vec<Priced>, AllocError>
+fn lines_of_steps(alloc: Global, steps: &[Edge]) -> Result<Vec<Priced>, AllocError>
     ensures { IfOk result (λ lines. lines.items ≡ map line_of_step steps.now) }
 {
     let mut lines = Vec::new(alloc);
@@ -52,7 +52,7 @@ fn imports_with_line(
 {
     let mut found = Vec::new(alloc);
     for import in imports {
-        if line_of(lines, *import).is_some() {
+        if find_import(lines, *import).is_some() {
             found.push(*import)?;
         }
     }
@@ -68,7 +68,7 @@ pub(crate) fn imports_along(
     ensures { IfOk result (λ found. found.items ≡ filter (is_step path.now) imports.now) }
 {
     let steps = steps_of(alloc, path)?;
-    let lines = lines_of(alloc, steps.as_slice())?;
+    let lines = lines_of_steps(alloc, steps.as_slice())?;
     let found = imports_with_line(alloc, imports, lines.as_slice())?;
     Ok(found)
 }

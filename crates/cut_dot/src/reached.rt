@@ -1,6 +1,6 @@
 //! The modules that are still reached without the removed imports.
 ghost use Rattle.std.specs.Prelude.{◌≡◌, ◌<◌, IfOk, filter, length, map};
-ghost use Rattle.cut_net.specs.Cuts.{AreThose, Chain, Outside};
+ghost use Rattle.cut_net.specs.Cuts.{IsSetOf, Chain, Outside};
 ghost use Rattle.cut_net.specs.Lines.{removed_by, IsAscending};
 ghost use Rattle.cut_part.specs.Marks.{open_arc};
 ghost use Rattle.residual_graph.specs.Graphs.{is_flagged};
@@ -39,7 +39,7 @@ fn arcs_of(alloc: Global, imports: &[Priced], removed: &[Priced]) -> Result<Vec<
 }
 
 /// Flags the modules to which a path leads from the start by imports that aren't removed.
-pub(crate) fn reached_from(
+pub(crate) fn flag_reached(
     alloc: Global,
     net: &Net,
     removed: &[Priced],
@@ -48,7 +48,7 @@ pub(crate) fn reached_from(
     requires start { start < length net.now.names }
     requires ascending { IsAscending removed.now }
     ensures size { IfOk result (λ marks. length marks.items ≡ length net.now.names) }
-    ensures reached { IfOk result (λ marks. AreThose (is_flagged marks.items) (Chain net.now.imports (Outside (removed_by removed.now)) start)) }
+    ensures reached { IfOk result (λ marks. IsSetOf (is_flagged marks.items) (Chain net.now.imports (Outside (removed_by removed.now)) start)) }
 {
     net.invariants();
     let arcs = arcs_of(alloc, net.imports(), removed)?;

@@ -1,10 +1,10 @@
 //! The imports that a report removes or gives flow, and the modules at their ends.
 ghost use Rattle.std.specs.Prelude.{◌≡◌, IfOk, filter, length};
-ghost use Rattle.cut_net.specs.Cuts.{AreThose};
+ghost use Rattle.cut_net.specs.Cuts.{IsSetOf};
 ghost use Rattle.cut_net.specs.Lines.{IsAscending};
 ghost use Rattle.cut_net.specs.WellFormed.{AreBetween};
 ghost use Rattle.residual_graph.specs.Graphs.{is_flagged};
-ghost use Rattle.cut_dot.specs.Pictures.{is_reported, IsAtEnd};
+ghost use Rattle.cut_dot.specs.Pictures.{is_reported, IsImportEnd};
 
 use crate::lines::{flow_on, is_removed};
 use cut_net::Priced;
@@ -20,7 +20,7 @@ fn is_reported(removed: &[Priced], flow: &[Priced], import: Priced) -> bool
 }
 
 /// The imports that the report removes or gives flow, in order. Each is looked up in the report's lists by binary search.
-pub(crate) fn reported_among(
+pub(crate) fn filter_reported(
     alloc: Global,
     imports: &[Priced],
     removed: &[Priced],
@@ -40,14 +40,14 @@ pub(crate) fn reported_among(
 }
 
 /// Flags the modules at the ends of the imports.
-pub(crate) fn marked_ends(
+pub(crate) fn flag_ends(
     alloc: Global,
     imports: &[Priced],
     modules: u32,
 ) -> Result<Vec<bool>, AllocError>
     requires { AreBetween imports.now modules }
     ensures size { IfOk result (λ marks. length marks.items ≡ modules) }
-    ensures ends { IfOk result (λ marks. AreThose (is_flagged marks.items) (IsAtEnd imports.now)) }
+    ensures ends { IfOk result (λ marks. IsSetOf (is_flagged marks.items) (IsImportEnd imports.now)) }
 {
     let mut marks = vec![in alloc; false; modules as usize]?;
     for import in imports {

@@ -10,7 +10,7 @@ ghost use Rattle.cut_part.specs.Subnetworks.{are_ends_in};
 ghost use Rattle.residual_graph.specs.Graphs.{is_flagged};
 ghost use Rattle.cut_dot.specs.Ends.{is_chain_end};
 ghost use Rattle.cut_dot.specs.Pictures.{drawn_modules, is_drawn};
-ghost use Rattle.cut_dot.specs.Texts.{end_mark, ends_text, head_text, line_of_import, label_text, line_of_module, module_line, picture_text, pin_text, reached_mark, removed_mark};
+ghost use Rattle.cut_dot.specs.Texts.{end_attribute, ends_text, head_text, line_of_import, label_text, line_of_module, module_line, picture_text, pin_text, reached_attribute, removed_attributes};
 
 use crate::lines::{flow_on, is_pinned, is_removed};
 use byte_sink::{Sink, SinkFault, flush_if_full, write_fully};
@@ -24,23 +24,23 @@ fn head_text() -> &'static str
     "digraph cut {\n  rankdir=LR;\n  label=\"flow/weight; red: removed; bold: pinned; gray: still reached; double border: the two ends\";\n"
 }
 
-/// The end of the line of A or B.
-fn end_mark(is_chain_end: bool) -> &'static str
-    ensures { result.now ≡ end_mark is_chain_end }
+/// The attribute of A or B, a double border; empty for another module.
+fn end_attribute(is_chain_end: bool) -> &'static str
+    ensures { result.now ≡ end_attribute is_chain_end }
 {
     if is_chain_end { " [peripheries=2]" } else { "" }
 }
 
-/// The end of the line of a module that is still reached.
-fn reached_mark(is_reached: bool) -> &'static str
-    ensures { result.now ≡ reached_mark is_reached }
+/// The attribute of a module that is still reached, gray; empty for another module.
+fn reached_attribute(is_reached: bool) -> &'static str
+    ensures { result.now ≡ reached_attribute is_reached }
 {
     if is_reached { " [style=filled]" } else { "" }
 }
 
-/// The attributes of a removed import.
-fn removed_mark(is_removed: bool) -> &'static str
-    ensures { result.now ≡ removed_mark is_removed }
+/// The attributes of a removed import; empty for another import.
+fn removed_attributes(is_removed: bool) -> &'static str
+    ensures { result.now ≡ removed_attributes is_removed }
 {
     if is_removed {
         " [style=dashed, color=red]"
@@ -50,7 +50,7 @@ fn removed_mark(is_removed: bool) -> &'static str
 }
 
 /// Appends the line of a module to the text.
-fn push_module(
+fn append_module(
     text: &mut String,
     name: &str,
     is_chain_end: bool,
@@ -58,31 +58,36 @@ fn push_module(
 ) -> Result<(), AllocError>
     ensures { OnOk result (string_bytes text.new ≡ string_bytes text.old ++ module_line name.now is_chain_end is_reached) }
 {
-    let end = end_mark(is_chain_end);
-    let reached = reached_mark(is_reached);
+    let end = end_attribute(is_chain_end);
+    let reached = reached_attribute(is_reached);
     writeln!(text, "  \"{name}\"{end}{reached};")
 }
 
 /// Appends the two names of an import to the text.
-fn push_ends(text: &mut String, from: &str, to: &str) -> Result<(), AllocError>
+fn append_ends(text: &mut String, from: &str, to: &str) -> Result<(), AllocError>
     ensures { OnOk result (string_bytes text.new ≡ string_bytes text.old ++ ends_text from.now to.now) }
 {
     write!(text, "  \"{from}\" -> \"{to}\"")
 }
 
 /// Appends the label of an import, the attributes of a removed one, and the end of the line to the text.
-fn push_label(text: &mut String, flow: u64, weight: u64, is_removed: bool) -> Result<(), AllocError>
+fn append_label(
+    text: &mut String,
+    flow: u64,
+    weight: u64,
+    is_removed: bool,
+) -> Result<(), AllocError>
     ensures { OnOk result (string_bytes text.new ≡ string_bytes text.old ++ label_text flow weight is_removed) }
 {
-    let removed = removed_mark(is_removed);
+    let removed = removed_attributes(is_removed);
     writeln!(text, " [label=\"{flow}/{weight}\"]{removed};")
 }
 
 /// Appends the label of a pinned import, its attributes, those of a removed one, and the end of the line to the text.
-fn push_pin(text: &mut String, flow: u64, is_removed: bool) -> Result<(), AllocError>
+fn append_pin(text: &mut String, flow: u64, is_removed: bool) -> Result<(), AllocError>
     ensures { OnOk result (string_bytes text.new ≡ string_bytes text.old ++ pin_text flow is_removed) }
 {
-    let removed = removed_mark(is_removed);
+    let removed = removed_attributes(is_removed);
     writeln!(text, " [label=\"{flow}/pin\"] [style=bold]{removed};")
 }
 
@@ -94,7 +99,7 @@ fn is_chain_end(from: u32, to: u32, node: u32) -> bool
 }
 
 /// Appends the line of a module, if it is flagged, or is A or B, and writes the text if it is long.
-fn push_drawn<S: Sink>(
+fn write_drawn_module<S: Sink>(
     text: &mut String,
     net: &Net,
     from: u32,
@@ -116,7 +121,8 @@ fn push_drawn<S: Sink>(
 {
     let is_chain_end = is_chain_end(from, to, node);
     if marks[node as usize] | is_chain_end {
-        let Ok(()) = push_module(text, net.name(node), is_chain_end, reached[node as usize]) else {
+        let Ok(()) = append_module(text, net.name(node), is_chain_end, reached[node as usize])
+        else {
             return Err(SinkFault::Memory);
         };
         return flush_if_full(text, sink);
@@ -125,7 +131,7 @@ fn push_drawn<S: Sink>(
 }
 
 /// Appends the lines of the modules that are flagged, and of A and B.
-fn push_modules<S: Sink>(
+fn write_modules<S: Sink>(
     text: &mut String,
     net: &Net,
     from: u32,
@@ -144,13 +150,13 @@ fn push_modules<S: Sink>(
     ensures failures { S.failures sink.new ≡ failures_after result (S.failures sink.old) }
 {
     for node in 0..net.nodes() {
-        push_drawn(text, net, from, to, marks, reached, node, sink)?;
+        write_drawn_module(text, net, from, to, marks, reached, node, sink)?;
     }
     Ok(())
 }
 
 /// Appends the line of an import to the text.
-fn push_import(
+fn append_import(
     text: &mut String,
     net: &Net,
     removed: &[Priced],
@@ -166,16 +172,16 @@ fn push_import(
     let carried = flow_on(flow, import);
     let is_gone = is_removed(removed, import);
     let (from, to) = (net.name(import.from), net.name(import.to));
-    push_ends(text, from, to)?;
+    append_ends(text, from, to)?;
     if is_pinned(net, import) {
-        push_pin(text, carried, is_gone)
+        append_pin(text, carried, is_gone)
     } else {
-        push_label(text, carried, import.amount, is_gone)
+        append_label(text, carried, import.amount, is_gone)
     }
 }
 
 /// Appends the line of an import, if both its modules are flagged, and writes the text if it is long.
-fn push_internal<S: Sink>(
+fn write_internal_import<S: Sink>(
     text: &mut String,
     net: &Net,
     marks: &[bool],
@@ -197,7 +203,7 @@ fn push_internal<S: Sink>(
     ensures failures { S.failures sink.new ≡ failures_after result (S.failures sink.old) }
 {
     if marks[import.from as usize] & marks[import.to as usize] {
-        let Ok(()) = push_import(text, net, removed, flow, import) else {
+        let Ok(()) = append_import(text, net, removed, flow, import) else {
             return Err(SinkFault::Memory);
         };
         return flush_if_full(text, sink);
@@ -206,7 +212,7 @@ fn push_internal<S: Sink>(
 }
 
 /// Appends the lines of the imports whose modules are both flagged.
-fn push_imports<S: Sink>(
+fn write_imports<S: Sink>(
     text: &mut String,
     net: &Net,
     imports: &[Priced],
@@ -227,13 +233,13 @@ fn push_imports<S: Sink>(
     ensures failures { S.failures sink.new ≡ failures_after result (S.failures sink.old) }
 {
     for import in imports {
-        push_internal(text, net, marks, removed, flow, *import, sink)?;
+        write_internal_import(text, net, marks, removed, flow, *import, sink)?;
     }
     Ok(())
 }
 
 /// Writes the text of the picture of the flagged modules and of the imports between them, in pieces.
-pub(crate) fn write_text<S: Sink>(
+pub(crate) fn write_picture<S: Sink>(
     alloc: Global,
     net: &Net,
     ends: (u32, u32),
@@ -258,8 +264,8 @@ pub(crate) fn write_text<S: Sink>(
     let Ok(mut text) = String::from_str(alloc, head_text()) else {
         return Err(SinkFault::Memory);
     };
-    push_modules(&mut text, net, ends.0, ends.1, marks, reached, sink)?;
-    push_imports(&mut text, net, imports, marks, removed, flow, sink)?;
+    write_modules(&mut text, net, ends.0, ends.1, marks, reached, sink)?;
+    write_imports(&mut text, net, imports, marks, removed, flow, sink)?;
     let Ok(()) = text.push_str("}\n") else {
         return Err(SinkFault::Memory);
     };

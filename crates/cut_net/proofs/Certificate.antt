@@ -1,4 +1,4 @@
--- A cut has a side whose leaving imports are in it, and so a flow bounds each cut.
+-- Each cut has a source side all of whose leaving imports are in the cut; so each cut weighs at least the value of a flow.
 use Rattle.std.proofs.Common.{◌≡◌, ℕ, ◌≤◌, ◌<◌, Bool, true, false, cond, not, List, length, [], refl, arith, inl, inr}
 use Rattle.std.specs.Prelude.{Contains}
 use Rattle.std.proofs.lemmas.Bool.{cases_Bool, both_ways, not-true, and_parts}
@@ -10,11 +10,11 @@ use Rattle.cut_net.proofs.ListSums.{sum_by-mono}
 use Rattle.cut_net.proofs.Chains.{no_chain_to, no_chain_to-true, no_chain_to-false, chain_from_false, step}
 use Rattle.cut_net.proofs.Duality.{value_within}
 
--- the modules that have no chain to b outside a cut are a side
+-- the modules without a path to b outside the cut are a source side
 pub side_of_cut : (net : Network) (a b : ℕ) (y : Priced → Bool) → IsCut net a b y → IsSide net a b (no_chain_to net.imports y b)
 side_of_cut net a b y cut = record { start = no_chain_to-true net.imports y b a cut; end = no_chain_to-false net.imports y b b ([], refl) }
 
--- the imports that leave it are in the cut
+-- the imports that leave this source side are in the cut
 pub leaves_in_cut : (imports : List Priced) (b : ℕ) (y : Priced → Bool) (i : Priced) → Contains imports i →
     leaves (no_chain_to imports y b) i ≡ true → y i ≡ true
 leaves_in_cut imports b y i c out =

@@ -1,4 +1,4 @@
--- Chains, and that it can be decided whether there is one.
+-- Paths of imports; whether there is one is decidable.
 use Rattle.std.proofs.Common.{◌≡◌, ℕ, zero, suc, ◌<◌, Bool, true, false, List, [], ◌∷◌, ◌++◌, length, get_or, refl, sym, ap, ◌∙◌, subst, arith, ◌⊎◌, inl, inr}
 use Rattle.std.specs.Prelude.{Contains}
 use Rattle.std.proofs.lemmas.Bool.{cases_Bool, cases_eq, both_ways}
@@ -15,12 +15,12 @@ pub joined : (imports : List Priced) (Allowed : Priced → Type 0) (m k b : ℕ)
     Chain imports Allowed m k → Chain imports Allowed k b → Chain imports Allowed m b
 joined imports Allowed m k b c d = (c.0 ++ d.0, join imports Allowed m c.0 k b d.0 c.1 d.1)
 
--- an import in front of a chain
+-- an import followed by a path
 pub step : (imports : List Priced) (Allowed : Priced → Type 0) (b : ℕ) (i : Priced) →
     Contains imports i → Allowed i → Chain imports Allowed i.to b → Chain imports Allowed i.from b
 step imports Allowed b i c al rest = (i.to ∷ rest.0, ((i, c, refl, refl, al), rest.1))
 
--- the same chain where more is allowed, in a list with more imports
+-- a path stays a path if more imports are allowed and the list has more imports
 pub widened : (xs ys : List Priced) (P Q : Priced → Type 0) → ((i : Priced) → Contains xs i → P i → Contains ys i × Q i) →
     (m : ℕ) (more : List ℕ) (b : ℕ) → IsChain xs P m more b → IsChain ys Q m more b
 widened xs ys P Q wider m [] b e = e
@@ -28,7 +28,7 @@ widened xs ys P Q wider m (n ∷ more) b (s, rest) =
     let w = wider s.0 s.1 s.4 in
     ((s.0, w.0, s.2, s.3, w.1), widened xs ys P Q wider n more b rest)
 
--- a chain in a list with one more import: it does without it, or it is cut there, where it uses it last
+-- a path in a list with one more import: it does without it, or it is cut there, where it uses it last
 module _ (xs : List Priced) (x : Priced) (Allowed : Priced → Type 0) where
   Through : ℕ → ℕ → Type 0
   Through m b = Allowed x × Chain xs Allowed m x.from × Chain xs Allowed x.to b
@@ -60,7 +60,7 @@ no_chain_by_none Allowed m (n ∷ more) b ((i, c, ef, et, al), rest) = let h = c
 wider : (xs : List Priced) (x : Priced) (Allowed : Priced → Type 0) (m b : ℕ) → Chain xs Allowed m b → Chain (x ∷ xs) Allowed m b
 wider xs x Allowed m b c = (c.0, widened xs (x ∷ xs) Allowed Allowed (λ i h al. (present x xs i h, al)) m c.0 b c.1)
 
--- whether there is a chain
+-- the existence of a path is decidable
 pub chain_or_none : (imports : List Priced) (Allowed : Priced → Type 0) → ((i : Priced) → (Allowed i) ⊎ (Allowed i → ⊥)) → (m b : ℕ) →
     (Chain imports Allowed m b) ⊎ (Chain imports Allowed m b → ⊥)
 unfolding Through
@@ -85,7 +85,7 @@ chain_or_none (x ∷ xs) Allowed decide m b =
 pub outside_or_in : (x : Priced → Bool) (i : Priced) → (x i ≡ false) ⊎ ((x i ≡ false) → ⊥)
 outside_or_in x i = elim (cases_Bool (x i)) [ inl t ↦ inr (λ f. both_ways (x i) f t) | inr f ↦ inl f ]
 
--- the modules without a chain to b outside the set
+-- the modules without a path to b outside the set
 module _ (imports : List Priced) (x : Priced → Bool) (b : ℕ) where
   pub no_chain_to : ℕ → Bool
   no_chain_to m = elim (chain_or_none imports (Outside x) (outside_or_in x) m b) [ inl _ ↦ false | inr _ ↦ true ]
@@ -100,6 +100,6 @@ module _ (imports : List Priced) (x : Priced → Bool) (b : ℕ) where
   no_chain_to-false m c =
       elim (chain_or_none imports (Outside x) (outside_or_in x) m b) as (λ v. elim v as (λ _. Bool) [ inl _ ↦ false | inr _ ↦ true ] ≡ false) [ inl _ ↦ refl | inr none ↦ absurd (none c) ]
 
-  -- the other way round
+  -- the converse
   pub chain_from_false : (m : ℕ) → no_chain_to m ≡ false → Chain imports (Outside x) m b
   chain_from_false m e = elim (chain_or_none imports (Outside x) (outside_or_in x) m b) [ inl c ↦ c | inr none ↦ absurd (both_ways _ e (no_chain_to-true m none)) ]

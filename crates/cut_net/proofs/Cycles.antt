@@ -32,7 +32,7 @@ pairs_ascend imports up j k d lt l =
     let long : length (map edge_of imports) ≡ length imports = length-map imports edge_of in
     rw (get_or-map edge_of imports j missing_item d (omega arith), get_or-map edge_of imports k missing_item d (omega arith)) (up j k missing_item lt (omega arith))
 
--- what follows from what a clause says of a None
+-- the consequence of a clause about a None
 pub IfNone_then : {X : Type 0} (o : Option X) {P Q : Type 0} → (P → Q) → IfNone o P → IfNone o Q
 IfNone_then None to h = to h
 IfNone_then (Some x) to h = h

@@ -1,4 +1,4 @@
--- A flow never has a greater value than the imports that leave a side weigh.
+-- Weak duality: the value of a flow is at most the weight of the imports that leave a source side.
 use Rattle.std.proofs.Common.{◌≡◌, ◌≢◌, ℕ, zero, suc, ◌+◌, ◌≤◌, ◌<◌, Bool, true, false, cond, ◌&&◌, not, eqb, ltb, List, length, refl, subst, arith, sum_by, inl, inr}
 use Rattle.std.proofs.lemmas.Bool.{cases_order, cases_Bool, cases_eq, lt-ltb, le-ltb, eq-eqb, ne_eqb, both_ways}
 use Rattle.cut_net.specs.declared.priced.Priced.{Priced}
@@ -37,14 +37,14 @@ below_none : (s : ℕ → Bool) (k : ℕ) → below s 0 k ≡ false
 unfolding below
 below_none s k = rw (le-ltb k 0 (omega arith)) (elim (s k) as (λ t. (t && false) ≡ false) [ true ↦ refl | false ↦ refl ])
 
--- what leaves the modules of a set below n, and what enters them, each import counted by one of its ends
+-- the outflow and the inflow of a set of modules below n, each import counted by one of its ends
 abbrev out_of : List Priced → (Priced → ℕ) → (ℕ → Bool) → ℕ → ℕ
 out_of imports flow s n = sum_by (λ i. cond (below s n i.from) (flow i) 0) imports
 
 abbrev in_to : List Priced → (Priced → ℕ) → (ℕ → Bool) → ℕ → ℕ
 in_to imports flow s n = sum_by (λ i. cond (below s n i.to) (flow i) 0) imports
 
--- at each module but a and b what enters equals what leaves, and the value is what leaves a less what enters it
+-- the inflow of each module but a and b is its outflow, and the value is the outflow of a less its inflow
 pub record IsConserved (net : Network) (a b : ℕ) (flow : Priced → ℕ) (value : ℕ) : Type 0 where
   pub kept : (m : ℕ) → m ≢ a → m ≢ b → entering net.imports flow m ≡ leaving net.imports flow m
   pub at_start : entering net.imports flow a + value ≡ leaving net.imports flow a
@@ -104,7 +104,7 @@ both_ends_back true false v c e = refl
 both_ends_back false true v c e = rw e (omega arith)
 both_ends_back false false v c e = refl
 
--- what leaves a side is what enters it and the value
+-- the flow out of a source side is the flow into it plus the value
 pub across_kept : (net : Network) (a b : ℕ) (flow : Priced → ℕ) (value : ℕ) (s : ℕ → Bool) →
     AreBetween net.imports (length net.names) → a < length net.names → IsConserved net a b flow value → IsSide net a b s →
     sum_by (λ i. cond (enters s i) (flow i) 0) net.imports + value ≡ sum_by (λ i. cond (leaves s i) (flow i) 0) net.imports
@@ -126,7 +126,7 @@ pub cond_le : (t : Bool) (x y : ℕ) → x ≤ y → cond t x 0 ≤ cond t y 0
 cond_le true x y h = h
 cond_le false x y h = omega arith
 
--- no flow has more value than the imports that leave a side weigh
+-- the value of a flow is at most the weight of the imports that leave a source side
 pub value_within : (net : Network) (a b : ℕ) (flow : Priced → ℕ) (value : ℕ) (s : ℕ → Bool) →
     AreBetween net.imports (length net.names) → a < length net.names → IsFlow net a b flow value → IsSide net a b s → value ≤ weight net.imports (leaves s)
 value_within net a b flow value s between a_in is_flow is_side =

@@ -39,7 +39,7 @@ before_true i j b = elim b.by [
   | inr r ↦ or_right _ _ (and_from _ _ (eq-eqb i.from j.from r.0) (lt-ltb i.to j.to r.1))
 ]
 
--- what comes before is not the same, nor the other way round
+-- an import that comes before another one isn't equal to it and doesn't come after it
 pub apart : {i j : Priced} → Before i j → Same i j → ⊥
 apart b s = let e = s.from in let f = s.to in elim b.by [ inl l ↦ absurd (omega arith) | inr r ↦ absurd (omega arith) ]
 

@@ -1,4 +1,4 @@
--- Members of lists that are put together.
+-- Members of concatenated lists.
 use Rattle.std.proofs.Common.{List, [], ◌∷◌, refl, subst, sym, inl, inr}
 use Rattle.std.specs.Prelude.{Contains}
 use Rattle.std.specs.List.{flat_map}

@@ -1,15 +1,15 @@
--- The lines so far, and the fault of the next piece.
+-- The lines of a network's text so far, and the error of the next piece.
 use Rattle.std.proofs.Common.{◌≡◌, ℕ, ◌+◌, ◌≤◌, List, length, take, Option, Some, Err, sym, ap, ◌∙◌, arith}
 use Rattle.std.specs.Prelude.{slice_get, count_by}
 use Rattle.std.proofs.lemmas.List.Sums.{length-filter}
 use Rattle.std.proofs.lemmas.List.{length-map}
-use Rattle.cut_net.specs.NetText.{NetLine, is_import, pieces_of, AreGood, IsNetOutcome, Spell, UnlessMemory}
+use Rattle.cut_net.specs.NetText.{NetLine, is_import, pieces_of, AreValidLines, IsNetOutcome, Spell, UnlessMemory}
 use Rattle.cut_net.specs.NetReading.{entry_line, net_fault_in_line, AreTablesOf, HasLines, TakesPiece}
 use Rattle.cut_net.specs.declared.builder.NetBuilder.{NetBuilder}
 use Rattle.cut_net.specs.declared.builder.NetLineFault.{NetLineFault}
 use Rattle.cut_net.specs.declared.builder.NetLineFault.TheVariants as fault
 
-pub good_lines : (lines : List NetLine) (names : List (List ℕ)) (es : List ((ℕ × ℕ) × ℕ)) → AreTablesOf lines names es → AreGood lines
+pub good_lines : (lines : List NetLine) (names : List (List ℕ)) (es : List ((ℕ × ℕ) × ℕ)) → AreTablesOf lines names es → AreValidLines lines
 good_lines lines names es h =
     let a = length-filter is_import lines in
     let b = ap length h.listed in

@@ -24,7 +24,7 @@ module _ {L : Type 0} (spelled_of : L → List ℕ) (IsLine : L → Type 0) (onc
   abbrev pub Spelled : List (List ℕ) → List L → Type 0
   Spelled pieces lines = filter is_nonempty pieces ≡ map spelled_of lines
 
-  -- good lines that are spelled alike are the same, as far as the one list goes
+  -- if the bytes of two lists of valid lines agree up to the end of the shorter one, its lines are a prefix of the other
   record SameStart (before lines : List L) (rest : List (List ℕ)) : Type 0 where
     pub tail : List L
     pub whole : lines ≡ before ++ tail
@@ -43,7 +43,7 @@ module _ {L : Type 0} (spelled_of : L → List ℕ) (IsLine : L → Type 0) (onc
         spelled = r.spelled;
       }
 
-  -- good lines of the same pieces are the same
+  -- valid lines with equal pieces are equal
   pub same_lines : (pieces : List (List ℕ)) (lines others : List L) → Spelled pieces lines → Spelled pieces others → All IsLine lines → All IsLine others → lines ≡ others
   same_lines pieces lines others a b good well =
       let e : map spelled_of lines ≡ map spelled_of others ++ [] = sym a ∙ b ∙ sym (append-nil (map spelled_of others)) in
@@ -81,7 +81,7 @@ module _ {L : Type 0} (spelled_of : L → List ℕ) (IsLine : L → Type 0) (onc
       by {more} (line ∷ tail) whole e = record { line = line; tail = tail; whole = whole; spelled = (cons_parts (spelled_of line) piece (map spelled_of tail) more e).0 }
 
   module _ (Good : List L → Type 0) (each : (lines : List L) → Good lines → All IsLine lines) (prefix : (xs ys : List L) → Good (xs ++ ys) → Good xs) where
-    -- the first k pieces are good lines, and no line that the next piece spells is good after them
+    -- the first k pieces are valid lines, and no line that the next piece spells is good after them
     pub record StopsAt (pieces : List (List ℕ)) (k : ℕ) : Type 0 where
       pub before : List L
       pub piece : List ℕ
@@ -91,7 +91,7 @@ module _ {L : Type 0} (spelled_of : L → List ℕ) (IsLine : L → Type 0) (onc
       pub written : is_nonempty piece ≡ true
       pub bad : (line : L) → spelled_of line ≡ piece → Good (before ++ line ∷ []) → ⊥
 
-    -- pieces that are good lines don't stop being good
+    -- pieces of valid lines have no first error
     pub no_stop : (pieces : List (List ℕ)) (lines : List L) (k : ℕ) → Spelled pieces lines → Good lines → StopsAt pieces k → ⊥
     no_stop pieces lines k spelled good s =
         let n = next_line pieces lines s.before k s.piece spelled (each lines good) s.spelled (each s.before s.good) s.present s.written in
@@ -110,7 +110,7 @@ module _ {L : Type 0} (spelled_of : L → List ℕ) (IsLine : L → Type 0) (onc
           bad = s.bad;
         })
 
-    -- they stop at one place
+    -- two first errors have one index
     pub one_stop : (pieces : List (List ℕ)) (j k : ℕ) → StopsAt pieces j → StopsAt pieces k → j ≡ k
     one_stop pieces j k s t = elim (cases_order j k) [
       | inl e ↦ e
@@ -120,7 +120,7 @@ module _ {L : Type 0} (spelled_of : L → List ℕ) (IsLine : L → Type 0) (onc
       ]
     ]
 
-    -- the numbers of one place are one
+    -- the numbers of one index are one
     pub same_number : (pieces : List (List ℕ)) (l m j k : ℕ) → l ≡ j + 1 → m ≡ k + 1 → StopsAt pieces j → StopsAt pieces k → l ≡ m
     same_number pieces l m j k e f s t = let same : j ≡ k = one_stop pieces j k s t in omega arith
 
@@ -128,7 +128,7 @@ module _ {L : Type 0} (spelled_of : L → List ℕ) (IsLine : L → Type 0) (onc
       same_line : (line other : L) → IsLine other → spelled_of line ≡ spelled_of other → Good (before ++ line ∷ []) → line ≡ other
       same_line line other form e more = once line other (All-contains IsLine (before ++ line ∷ []) line (each (before ++ line ∷ []) more) (Contains-push before line)) form e
 
-      -- they stop at a piece that no line spells
+      -- a piece that is the bytes of no valid line is at one index
       pub stops_at_piece : (piece : List ℕ) → slice_get pieces k ≡ Some piece → is_nonempty piece ≡ true → ((line : L) → IsLine line → spelled_of line ≡ piece → ⊥) → StopsAt pieces k
       stops_at_piece piece present written wrong = record {
         before = before;
@@ -140,7 +140,7 @@ module _ {L : Type 0} (spelled_of : L → List ℕ) (IsLine : L → Type 0) (onc
         bad = λ line e more. wrong line (All-contains IsLine (before ++ line ∷ []) line (each (before ++ line ∷ []) more) (Contains-push before line)) e;
       }
 
-      -- and at a line with which those before it are good no more
+      -- a line that makes the lines before it invalid is at one index
       pub stops_at_line : (line : L) → slice_get pieces k ≡ Some (spelled_of line) → is_nonempty (spelled_of line) ≡ true → IsLine line → (Good (before ++ line ∷ []) → ⊥) → StopsAt pieces k
       stops_at_line line present written form bad = record {
         before = before;
@@ -156,10 +156,10 @@ module _ {L : Type 0} (spelled_of : L → List ℕ) (IsLine : L → Type 0) (onc
       at_first : slice_get pieces j ≡ Some (spelled_of line)
       at_first = subst (λ (n : ℕ). slice_get pieces n ≡ Some (spelled_of line)) (one_stop pieces k j t s) present
 
-      -- a piece that no line spells isn't one that was spelled
+      -- a piece that is the bytes of no valid line isn't that of a given line
       pub not_spelled : (piece : List ℕ) → slice_get pieces j ≡ Some piece → ((l : L) → IsLine l → spelled_of l ≡ piece → ⊥) → ⊥
       not_spelled piece first wrong = wrong line form (some_is (spelled_of line) piece (sym at_first ∙ first))
 
-      -- the line is the one that was spelled
+      -- the line is the given one, since their bytes are equal
       pub one_line : (other : L) → slice_get pieces j ≡ Some (spelled_of other) → IsLine other → line ≡ other
       one_line other first well = once line other form well (some_is (spelled_of line) (spelled_of other) (sym at_first ∙ first))

@@ -1,4 +1,4 @@
--- The first of a list, and what a filter keeps of it.
+-- Prefixes of a list, and the elements of a prefix that a filter keeps.
 use Rattle.std.proofs.Common.{◌≡◌, ℕ, zero, suc, ◌+◌, ◌<◌, ◌≤◌, inl, inr, List, [], ◌∷◌, ◌++◌, length, refl, ◌∙◌, ap, subst, arith, Bool, true, false, Some, take, drop, length-append}
 use Rattle.std.specs.Prelude.{All, AllPairs, Contains, count_by, filter, slice_get, slice_index_or}
 use Rattle.std.specs.List.{IsDistinct}
@@ -22,7 +22,7 @@ module _ {X : Type 0} where
   get_in zero (suc m) (x ∷ xs) lt = refl
   get_in (suc k) (suc m) (x ∷ xs) lt = get_in k m xs (omega arith)
 
-  -- from the place on stands the element, and what comes after it
+  -- from the index on stands the element, and what comes after it
   pub rest_at : (xs : List X) (k : ℕ) (x : X) → slice_get xs k ≡ Some x → (more : List X) × (drop k xs ≡ x ∷ more)
   rest_at [] k x e = absurd cc
   rest_at (y ∷ ys) zero x e = (ys, let same : y ≡ x = cc in ap (λ (z : X). z ∷ ys) same)

@@ -1,4 +1,5 @@
--- Lines that are listed with no look for an import among those before it. Where their imports come in order, each before the next, none stands twice.
+-- Lines that are listed with no look for an import among those before it. Where their imports come in order, each before the next, none
+-- repeats.
 use Rattle.std.proofs.Common.{◌≡◌, ℕ, ◌+◌, ◌<◌, ◌≤◌, suc, true, false, eqb, ltb, ◌&&◌, ◌||◌, List, [], ◌∷◌, ◌++◌, length, get_or, map, refl, sym, ap, ◌∙◌, arith, inl, inr, subst}
 use Rattle.std.specs.Prelude.{AllPairs, Contains, IsPermutation, filter}
 use Rattle.std.specs.List.{IsDistinct}
@@ -14,9 +15,9 @@ use Rattle.digraph.proofs.Members.{from_filter, in_filter, in_map, no_member}
 use Rattle.cut_net.specs.declared.priced.Priced.{Priced}
 use Rattle.cut_net.specs.Cuts.{have_equal_ends}
 use Rattle.cut_net.specs.Lines.{IsAscending}
-use Rattle.cut_net.specs.NetList.{AreListed, HaveBetween}
-use Rattle.cut_net.specs.NetReading.{entry_line, import_line, noted, AreTablesOf, IsTwice}
-use Rattle.cut_net.specs.NetText.{NetLine, Module, Import, is_import, pieces_of, AreGood, AreOfTwoImports, IsNetLine, NetText, Spell}
+use Rattle.cut_net.specs.NetList.{AreListed, HaveImportBetween}
+use Rattle.cut_net.specs.NetReading.{entry_line, import_line, noted, AreTablesOf, HasRepeat}
+use Rattle.cut_net.specs.NetText.{NetLine, Module, Import, is_import, pieces_of, AreValidLines, HaveDifferentImports, IsNetLine, NetText, Spell}
 use Rattle.cut_net.specs.Network.{unpinned}
 use Rattle.cut_net.specs.WellFormed.{AreBetween, AreNamesInOrder}
 use Rattle.cut_net.proofs.Fronts.{good_lines}
@@ -94,9 +95,9 @@ module _ (lines : List NetLine) (names : List (List ℕ)) (imports : List Priced
               ∙ ap (λ (t : NetLine). map (import_line more) imports ++ t ∷ []) last ∙ sym (map_push (import_line more) imports (record { from = i; to = j; amount = w }));
         }
 
--- a line whose import is listed already
+-- a line whose import the list has
 pub listed_twice : (lines : List NetLine) (names middle more : List (List ℕ)) (imports : List Priced) (m n : List ℕ) (w i j : ℕ) → AreListed lines names imports → AreEnds names middle more m n i j
-    → HaveBetween imports i j → IsTwice lines (Import m n w) × AreListed lines more imports
+    → HaveImportBetween imports i j → HasRepeat lines (Import m n w) × AreListed lines more imports
 listed_twice lines names middle more imports m n w i j h ends (x, present, from, to) =
     let p = h.placed x present in
     let in_i : i < length names = subst (λ (t : ℕ). t < length names) from p.0 in
@@ -121,26 +122,26 @@ ascending_once imports up = IsDistinct-from_apart have_equal_ends imports (λ i 
     other_ends (get_or imports i d).from (get_or imports i d).to (get_or imports j d).from (get_or imports j d).to (up i j d less within))
 
 -- a line of a module is apart from all
-modules_apart : (l k : NetLine) → (is_import l ≡ true → is_import k ≡ true → AreOfTwoImports l k) → AreOfTwoImports l k
+modules_apart : (l k : NetLine) → (is_import l ≡ true → is_import k ≡ true → HaveDifferentImports l k) → HaveDifferentImports l k
 modules_apart (Module _) (Module _) h = tt
 modules_apart (Module _) (Import _ _ _) h = tt
 modules_apart (Import _ _ _) (Module _) h = tt
 modules_apart (Import _ _ _) (Import _ _ _) h = h refl refl
 
--- so where those of imports are apart, all are
-all_apart : (lines : List NetLine) → AllPairs AreOfTwoImports (filter is_import lines) → AllPairs AreOfTwoImports lines
+-- so if the imports are distinct, all lines are
+all_apart : (lines : List NetLine) → AllPairs HaveDifferentImports (filter is_import lines) → AllPairs HaveDifferentImports lines
 all_apart [] pairs = λ i j d less within. absurd (omega arith)
 all_apart (Module m ∷ lines) pairs =
-    AllPairs-cons AreOfTwoImports (Module m) lines (λ k d l. modules_apart (Module m) (get_or lines k d) (λ a b. absurd (false≢true a))) (all_apart lines pairs)
+    AllPairs-cons HaveDifferentImports (Module m) lines (λ k d l. modules_apart (Module m) (get_or lines k d) (λ a b. absurd (false≢true a))) (all_apart lines pairs)
 all_apart (Import m n w ∷ lines) pairs =
     let first = Import m n w in
-    AllPairs-cons AreOfTwoImports first lines
+    AllPairs-cons HaveDifferentImports first lines
     (λ k d l. modules_apart first (get_or lines k d) (λ a b.
     let (p, in_rest, at) = in_filter is_import lines (get_or lines k d) b (Contains-get_or lines k d l) in
-    subst (AreOfTwoImports first) at (pairs 0 (suc p) (get_or lines k d) (omega arith) (omega arith))))
+    subst (HaveDifferentImports first) at (pairs 0 (suc p) (get_or lines k d) (omega arith) (omega arith))))
     (all_apart lines (λ i j d less within. pairs (suc i) (suc j) d (omega arith) (omega arith)))
 
--- the places of names with the amount
+-- the indices of the two names, with the amount
 abbrev as_entry : Priced → (ℕ × ℕ) × ℕ
 as_entry i = ((i.from, i.to), i.amount)
 
@@ -149,11 +150,11 @@ entries_say names [] = refl
 entries_say names (i ∷ is) = ap (λ (t : List NetLine). import_line names i ∷ t) (entries_say names is)
 
 module _ (lines : List NetLine) (old names : List (List ℕ)) (imports list ordered : List Priced) (h : AreListed lines old imports) (same : IsPermutation old names)
-    (renumbered : map (import_line names) list ≡ map (import_line old) imports) (between : AreBetween list (length names)) (moved : IsPermutation list ordered) (up : IsAscending ordered) where
+    (renumbered_import : map (import_line names) list ≡ map (import_line old) imports) (between : AreBetween list (length names)) (moved : IsPermutation list ordered) (up : IsAscending ordered) where
   list_once : IsDistinct have_equal_ends list
   list_once = IsDistinct-IsPermutation have_equal_ends ends_flip ordered list (IsPermutation-sym list ordered moved) (ascending_once ordered up)
 
-  said_apart : (i j : Priced) → i.from < length names → i.to < length names → j.from < length names → j.to < length names → have_equal_ends i j ≡ false → AreOfTwoImports (import_line names i) (import_line names j)
+  said_apart : (i j : Priced) → i.from < length names → i.to < length names → j.from < length names → j.to < length names → have_equal_ends i j ≡ false → HaveDifferentImports (import_line names i) (import_line names j)
   said_apart i j a b c d differ first second =
       let once = once_moved old names same h.are_names.once in
       let from = same_name names once i.from j.from a c first in
@@ -163,11 +164,11 @@ module _ (lines : List NetLine) (old names : List (List ℕ)) (imports list orde
       both_same : (a b c d : ℕ) → a ≡ c → b ≡ d → (eqb a c && eqb b d) ≡ true
       both_same a b c d first second = grind (arith, nat_tests)
 
-  lines_apart : AllPairs AreOfTwoImports lines
+  lines_apart : AllPairs HaveDifferentImports lines
   lines_apart =
-      let lines_are : filter is_import lines ≡ map (import_line names) list = h.listed ∙ sym renumbered in
+      let lines_are : filter is_import lines ≡ map (import_line names) list = h.listed ∙ sym renumbered_import in
       let long = length-map list (import_line names) in
-      let pairs : AllPairs AreOfTwoImports (map (import_line names) list) = λ i j d less within.
+      let pairs : AllPairs HaveDifferentImports (map (import_line names) list) = λ i j d less within.
       let none : Priced = record { from = 0; to = 0; amount = 0 } in
       let in_i : i < length list = omega arith in
       let in_j : j < length list = omega arith in
@@ -200,19 +201,19 @@ module _ (lines : List NetLine) (old names : List (List ℕ)) (imports list orde
     lines = lines;
     spelled = spelled;
     good = good_lines lines old (map as_entry imports) tables;
-    is_net = net_is lines old names (map as_entry imports) list tables (renumbered ∙ entries_say old imports) ordered ascend same between moved up;
+    is_net = net_is lines old names (map as_entry imports) list tables (renumbered_import ∙ entries_say old imports) ordered ascend same between moved up;
   }
 
   pub few_ordered : length ordered ≤ 65536
   few_ordered =
       let a = length_permutation list ordered moved in
-      let b = ap length renumbered in
+      let b = ap length renumbered_import in
       let c = length-map list (import_line names) in
       let d = length-map imports (import_line old) in
       let few = h.few_imports in
       omega arith
 
--- lines whose imports come in order once they are sorted
-pub listed_good : (lines : List NetLine) (names : List (List ℕ)) (imports ordered : List Priced) → AreListed lines names imports → IsPermutation imports ordered → IsAscending ordered → AreGood lines
+-- lines whose imports are strictly sorted after sorting are distinct
+pub listed_good : (lines : List NetLine) (names : List (List ℕ)) (imports ordered : List Priced) → AreListed lines names imports → IsPermutation imports ordered → IsAscending ordered → AreValidLines lines
 listed_good lines names imports ordered h moved up =
     good_lines lines names (map as_entry imports) (tables lines names names imports imports ordered h (IsPermutation-refl names) refl h.placed moved up)

@@ -1,2 +1,2 @@
--- Members of lists that are filtered or mapped, passed on.
+-- Members of filtered and mapped lists.
 pub use Rattle.digraph.proofs.Members.{from_filter, from_map, in_map}

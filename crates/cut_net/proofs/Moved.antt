@@ -1,4 +1,4 @@
--- A network whose imports stand otherwise keeps what every network keeps.
+-- A network with other states of its imports satisfies the invariant of networks.
 use Rattle.std.proofs.Common.{◌≡◌, ℕ, suc, ◌+◌, ◌*◌, ◌<◌, ◌≤◌, Bool, true, false, cond, List, [], ◌∷◌, ◌++◌, length, get_or, map, refl, sym, ap, ◌∙◌, subst, arith, sum_by, inl, inr}
 use Rattle.std.specs.Prelude.{◌↔◌, Contains, IsTrue}
 use Rattle.std.specs.List.{flat_map}
@@ -16,7 +16,7 @@ use Rattle.cut_net.specs.declared.pin_state.PinState.TheVariants.{Weighs, Stays}
 use Rattle.cut_net.specs.Lines.{IsAscending, comes_before}
 use Rattle.cut_net.specs.Network.{Network, missing_item}
 use Rattle.cut_net.specs.Pins.{ArePins, is_pinned, most_weight, unpinned_weight}
-use Rattle.cut_net.specs.Prices.{import_as, pin_as, with_pin_states}
+use Rattle.cut_net.specs.Prices.{import_with_state, pin_of_state, with_pin_states}
 use Rattle.cut_net.specs.PriceReading.{unpinned_part}
 use Rattle.cut_net.specs.Cuts.{Any, Imports}
 use Rattle.cut_net.specs.WellFormed.{AreBetween, IsNetwork, total_weight}
@@ -27,8 +27,8 @@ use Rattle.cut_net.proofs.PinChains.{found_one, one_found}
 
 -- ---- an import
 
--- however it stands, an import leads where it led
-same_as : (i : Priced) (s : PinState) → Same (import_as i s) i
+-- in any state an import has its two modules
+same_as : (i : Priced) (s : PinState) → Same (import_with_state i s) i
 same_as i (Weighs w) = record { from = refl; to = refl }
 same_as i (Stays w) = record { from = refl; to = refl }
 
@@ -37,23 +37,23 @@ abbrev stays : PinState → Bool
 stays (Weighs w) = false
 stays (Stays w) = true
 
-pin_from : (i : Priced) (s : PinState) (p : Priced) → Contains (pin_as i s) p → Same i p × (stays s ≡ true)
+pin_from : (i : Priced) (s : PinState) (p : Priced) → Contains (pin_of_state i s) p → Same i p × (stays s ≡ true)
 pin_from i (Weighs w) p h = no_member p h
 pin_from i (Stays w) p h = (subst (Same i) (one_member (record { from = i.from; to = i.to; amount = w }) p h) (record { from = refl; to = refl }), refl)
 
-pin_there : (i : Priced) (s : PinState) → stays s ≡ true → (p : Priced) × Contains (pin_as i s) p
+pin_there : (i : Priced) (s : PinState) → stays s ≡ true → (p : Priced) × Contains (pin_of_state i s) p
 pin_there i (Weighs w) e = absurd cc
 pin_there i (Stays w) e = (record { from = i.from; to = i.to; amount = w }, (0, omega arith, refl))
 
-heavy_as : (i : Priced) (s : PinState) → stays s ≡ true → (import_as i s).amount ≡ most_weight + 1
+heavy_as : (i : Priced) (s : PinState) → stays s ≡ true → (import_with_state i s).amount ≡ most_weight + 1
 heavy_as i (Weighs w) e = absurd cc
 heavy_as i (Stays w) e = refl
 
-light_as : (i : Priced) (s : PinState) → cond (stays s) 0 (import_as i s).amount ≡ unpinned_part s
+light_as : (i : Priced) (s : PinState) → cond (stays s) 0 (import_with_state i s).amount ≡ unpinned_part s
 light_as i (Weighs w) = refl
 light_as i (Stays w) = refl
 
-within_as : (i : Priced) (s : PinState) → (import_as i s).amount ≤ unpinned_part s + (most_weight + 1)
+within_as : (i : Priced) (s : PinState) → (import_with_state i s).amount ≤ unpinned_part s + (most_weight + 1)
 within_as i (Weighs w) = omega arith
 within_as i (Stays w) = omega arith
 
@@ -77,7 +77,7 @@ later_up i imports up j k d lt l = up (suc j) (suc k) d (omega arith) (omega ari
 first_before : (i : Priced) (imports : List Priced) → IsAscending (i ∷ imports) → (j : Priced) → Contains imports j → Before i j
 first_before i imports up j (k, lt, at) = before_from i j (subst (λ (x : Priced). comes_before i x ≡ true) at (up 0 (suc k) j (omega arith) (omega arith)))
 
-pin_ahead : (i : Priced) (s : PinState) (pins : List Priced) → ((p : Priced) → Contains pins p → Before i p) → IsAscending pins → IsAscending (pin_as i s ++ pins)
+pin_ahead : (i : Priced) (s : PinState) (pins : List Priced) → ((p : Priced) → Contains pins p → Before i p) → IsAscending pins → IsAscending (pin_of_state i s ++ pins)
 pin_ahead i (Weighs w) pins before up = up
 pin_ahead i (Stays w) pins before up =
     let pin : Priced = record { from = i.from; to = i.to; amount = w } in
@@ -102,10 +102,10 @@ sum_by-within f g b (x ∷ xs) within =
 
 module _ (net : Network) (pin_state : Priced → PinState) where
   abbrev moved : Priced → Priced
-  moved i = import_as i (pin_state i)
+  moved i = import_with_state i (pin_state i)
 
   abbrev pin : Priced → List Priced
-  pin i = pin_as i (pin_state i)
+  pin i = pin_of_state i (pin_state i)
 
   same_moved : (i : Priced) → Same (moved i) i
   same_moved i = same_as i (pin_state i)
@@ -148,7 +148,7 @@ module _ (net : Network) (pin_state : Priced → PinState) where
   changed = with_pin_states net pin_state
 
   module _ (up : IsAscending net.imports) where
-    -- an import is pinned where it is to stay
+    -- an import is pinned if its state is
     pinned_is : (i : Priced) → Contains net.imports i → is_pinned changed (moved i) ≡ stays (pin_state i)
     pinned_is i has = elim (cases_Bool (stays (pin_state i))) [
       | inl t ↦
@@ -213,14 +213,14 @@ net_so names imports pins = record { names = names; imports = imports; pins = pi
 
 pub same_net : (net : Network) (pin_state : Priced → PinState) (pin_states : List PinState) (names : List (List ℕ)) (one two imports pins : List Priced) → pin_states ≡ map pin_state net.imports
     → names ≡ net.names → one ≡ net.imports → two ≡ net.imports
-    → ((s : Priced → PinState) → pin_states ≡ map s one → imports ≡ map (λ i. import_as i (s i)) one) → ((s : Priced → PinState) → pin_states ≡ map s two → pins ≡ flat_map (λ i. pin_as i (s i)) two)
+    → ((s : Priced → PinState) → pin_states ≡ map s one → imports ≡ map (λ i. import_with_state i (s i)) one) → ((s : Priced → PinState) → pin_states ≡ map s two → pins ≡ flat_map (λ i. pin_of_state i (s i)) two)
     → net_so names imports pins ≡ with_pin_states net pin_state
 same_net net pin_state pin_states names one two imports pins same named first second are_imports are_pins =
-    let i = are_imports pin_state (same ∙ ap (map pin_state) (sym first)) ∙ ap (map (λ x. import_as x (pin_state x))) first in
-    let p = are_pins pin_state (same ∙ ap (map pin_state) (sym second)) ∙ ap (flat_map (λ x. pin_as x (pin_state x))) second in
+    let i = are_imports pin_state (same ∙ ap (map pin_state) (sym first)) ∙ ap (map (λ x. import_with_state x (pin_state x))) first in
+    let p = are_pins pin_state (same ∙ ap (map pin_state) (sym second)) ∙ ap (flat_map (λ x. pin_of_state x (pin_state x))) second in
     λ k. record { names = named k; imports = i k; pins = p k }
 
--- ---- how heavy it is
+-- ---- the weights
 
 module _ (net : Network) (pin_state : Priced → PinState) (is : IsNetwork net) (pin_states : List PinState) (same : pin_states ≡ map pin_state net.imports) (answer : Bool) (says : IsTrue answer ↔ (sum_by unpinned_part pin_states ≤ most_weight)) where
   weighed : unpinned_weight (with_pin_states net pin_state) ≡ sum_by unpinned_part pin_states
@@ -233,4 +233,4 @@ module _ (net : Network) (pin_state : Priced → PinState) (is : IsNetwork net) 
   ]
 
   pub light : answer ≡ true → (other : Network) → other ≡ with_pin_states net pin_state → unpinned_weight other ≤ most_weight
-  light is_light other is_so = let e = weighed in let f = ap unpinned_weight is_so in let le = says.0 is_light in omega arith
+  light are_weights_in_limit other is_so = let e = weighed in let f = ap unpinned_weight is_so in let le = says.0 are_weights_in_limit in omega arith

@@ -1,11 +1,11 @@
--- What the start reaches by residual imports of a flow is the intersection of all sides of least weight.
+-- The modules that the source reaches in the residual graph of a flow are the intersection of all source sides of minimum weight.
 use Rattle.std.proofs.Common.{◌≡◌, ℕ, ◌≤◌, ◌<◌, Bool, true, false, cond, not, List, length, [], ◌∷◌, refl, sym, ◌∙◌, subst, arith, sum_by, inl, inr}
 use Rattle.std.specs.Prelude.{Contains}
 use Rattle.std.proofs.lemmas.Bool.{cases_Bool, both_ways, cond-true, not-true, and_parts, cases_lt, and_from, not_from_false}
 use Rattle.cut_net.specs.declared.priced.Priced.{Priced}
 use Rattle.cut_net.specs.Network.{Network}
 use Rattle.cut_net.specs.WellFormed.{AreBetween}
-use Rattle.cut_net.specs.Cuts.{IsCut, weight, IsCheapest, IsSide, leaves, IsMinimumSide, InSourceSide, AreReported, IsFlow, IsClosed, Reached, AreThose}
+use Rattle.cut_net.specs.Cuts.{IsCut, weight, IsCheapest, IsSide, leaves, IsMinimumSide, InSourceSide, AreReported, IsFlow, IsClosed, Reached, IsSetOf}
 use Rattle.cut_net.proofs.ListSums.{sum_by-same, sum_by-mono, sum_by-tight}
 use Rattle.cut_net.proofs.Chains.{no_chain_to}
 use Rattle.cut_net.proofs.Duality.{value_within, across, enters, cond_le}
@@ -30,7 +30,7 @@ at_true true x y e h = e
 at_true false x y e h = absurd (both_ways false refl h)
 
 module _ (net : Network) (a b : ℕ) (flow : Priced → ℕ) (value : ℕ) (between : AreBetween net.imports (length net.names)) (a_in : a < length net.names) (is_flow : IsFlow net a b flow value) where
-  module _ (n : ℕ → Bool) (reached : AreThose n (Reached net flow a)) (ends : n b ≡ false) where
+  module _ (n : ℕ → Bool) (reached : IsSetOf n (Reached net flow a)) (ends : n b ≡ false) where
     has_start : n a ≡ true
     has_start = (reached a).1 (λ modules start _. start)
 
@@ -60,7 +60,7 @@ module _ (net : Network) (a b : ℕ) (flow : Priced → ℕ) (value : ℕ) (betw
           | inr none ↦ omega arith
         ]
 
-    -- they weigh what the flow carries
+    -- the weight of these imports is the value of the flow
     pub weight_is : weight net.imports (leaves n) ≡ value
     weight_is =
         let e = across net a b flow value n between a_in is_flow side in
@@ -76,7 +76,7 @@ module _ (net : Network) (a b : ℕ) (flow : Priced → ℕ) (value : ℕ) (betw
       least = λ other is_side. let within = value_within net a b flow value other between a_in is_flow is_side in let e = weight_is in omega arith;
     }
 
-    -- a side of least weight is closed
+    -- a source side of minimum weight is closed
     least_is_closed : (other : ℕ → Bool) → IsMinimumSide net a b other → IsClosed net flow other
     least_is_closed other least =
         let e = across net a b flow value other between a_in is_flow least.is_side in
@@ -106,11 +106,11 @@ module _ (net : Network) (a b : ℕ) (flow : Priced → ℕ) (value : ℕ) (betw
           ];
         }
 
-    pub is_near : AreThose n (InSourceSide net a b)
+    pub is_near : IsSetOf n (InSourceSide net a b)
     is_near m =
         (λ t other least. (reached m).0 t other least.is_side.start (least_is_closed other least), λ near. near n is_least)
 
-    -- the imports that are printed
+    -- the imports that are reported
     module _ (x : Priced → Bool) (printed : AreReported net a b x) where
       pub is_cut : IsCut net a b x
       is_cut = cut_of_near net a b n is_near x printed side

@@ -1,4 +1,4 @@
--- Each import that is printed is needed: a chain comes back with it.
+-- Each import that is reported is needed: a path comes back with it.
 use Rattle.std.proofs.Common.{◌≡◌, ℕ, zero, suc, ◌+◌, ◌≤◌, ◌<◌, Bool, true, false, cond, ◌&&◌, ◌||◌, not, List, length, [], ◌∷◌, refl, sym, subst, arith, ◌⊎◌, inl, inr}
 use Rattle.std.specs.Prelude.{Contains}
 use Rattle.std.proofs.lemmas.Bool.{cases_Bool, both_ways, not-true, and_parts, and_from, not_from_false, not_from_true, false_from_ne_true, true_from_ne_false, and_left, and_right, or_left, eq-eqb, cases_eq}
@@ -44,7 +44,7 @@ weights imports s t =
     (λ i _. submodular (s i.from) (t i.from) (s i.to) (t i.to) i.amount) in
     omega arith
 
--- what two sides of least weight have in common is one
+-- the intersection of two source sides of minimum weight is one
 meet_is_least : (net : Network) (a b : ℕ) (s t : ℕ → Bool) → IsMinimumSide net a b s → IsMinimumSide net a b t → IsMinimumSide net a b (meet s t)
 unfolding meet union
 meet_is_least net a b s t ls lt =
@@ -57,15 +57,15 @@ meet_is_least net a b s t ls lt =
       least = λ other is_side. let le = lt.least other is_side in omega arith;
     }
 
--- a side of least weight whose modules below n are all near
+-- a source side of minimum weight whose modules below n are all near
 Nearest : Network → ℕ → ℕ → ℕ → Type 0
 Nearest net a b n = (s : ℕ → Bool) × IsMinimumSide net a b s × ((k : ℕ) → k < n → s k ≡ true → InSourceSide net a b k)
 
--- a module that isn't near is outside some side of least weight
+-- a module outside the minimal source side is outside some source side of minimum weight
 outside_some : (net : Network) (a b m : ℕ) → (InSourceSide net a b m → ⊥) → (((s : ℕ → Bool) × IsMinimumSide net a b s × (s m ≡ false)) → ⊥) → ⊥
 outside_some net a b m far none = far (λ s least. true_from_ne_false (s m) (λ f. none (s, least, f)))
 
--- it can't be that there is none
+-- it is impossible that there is none
 nearest : (net : Network) (a b : ℕ) (s : ℕ → Bool) → IsMinimumSide net a b s → (n : ℕ) → (Nearest net a b n → ⊥) → ⊥
 unfolding Nearest meet
 nearest net a b s least zero none = none (s, least, λ k h t. absurd (omega arith))
@@ -117,7 +117,7 @@ module _ (net : Network) (a b : ℕ) (between : AreBetween net.imports (length n
     | inl t ↦ elim (cases_Bool (n i.to)) [ inr f ↦ inr (λ h. both_ways _ f h.1) | inl u ↦ inl (t, u) ]
   ]
 
-  -- what a reaches by chains that stay inside
+  -- what a reaches by paths that stay inside
   reach : ℕ → Bool
   reach m = decided (Chain net.imports Subnetworks a m) (chain_or_none net.imports Subnetworks inside_or_not a m)
 
@@ -151,7 +151,7 @@ module _ (net : Network) (a b : ℕ) (between : AreBetween net.imports (length n
     least = λ other is_side. let le = weight-mono net.imports (leaves reach) (leaves n) leaves_too in let more = least.least other is_side in omega arith;
   }
 
-  -- a chain to each near module by imports between near modules
+  -- a path to each module of the minimal source side by imports between modules of the minimal source side
   chain_near : (m : ℕ) → InSourceSide net a b m → Chain net.imports Subnetworks a m
   unfolding reach
   chain_near m is_near = decided-true _ (chain_or_none net.imports Subnetworks inside_or_not a m) (is_near reach reach_least)
@@ -181,7 +181,7 @@ needed net a b x between a_in printed i c t =
           nearest net a b s s_least (length net.names) (λ (n, least, near). none (back net a b between a_in n least near x printed i c t))))
     ]
 
--- an import that leaves the near modules and isn't printed weighs nothing
+-- an import that leaves the minimal source side and isn't reported weighs nothing
 pub weighs_nothing : (net : Network) (a b : ℕ) (x : Priced → Bool) → AreBetween net.imports (length net.names) → a < length net.names → AreReported net a b x →
     (i : Priced) → Contains net.imports i → LeavesSourceSide net a b i → x i ≡ false → i.amount ≡ 0
 unfolding Nearest

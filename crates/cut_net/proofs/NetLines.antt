@@ -1,4 +1,4 @@
--- A line of a network that is read is the one that was written.
+-- Parsing a line of a network's text inverts writing it.
 use Rattle.std.proofs.Common.{◌≡◌, ◌≢◌, ℕ, ◌<◌, ◌^◌, true, false, List, ◌∷◌, ◌++◌, length, take, drop, get_or, Option, Some, None, refl, sym, ap, ◌∙◌, arith, codes}
 use Rattle.std.specs.Str.{bytes_eq}
 use Rattle.std.proofs.Math.Seq.{drop-append_seam, take-append_seam}
@@ -42,11 +42,11 @@ module _ (word piece : List ℕ) where
   pub word_missing : bytes_eq (take (length word) piece) word ≡ false → after_word word piece ≡ None
   word_missing differs = none_unless (after_word word piece) (λ fields is. false≢true (sym differs ∙ (bytes_eq-Decides (take (length word) piece) word).1 (prefix fields is).0))
 
-  -- nothing stands behind the word
+  -- the piece ends after the keyword
   pub word_alone : length (drop (length word) piece) ≡ 0 → after_word word piece ≡ None
   word_alone none = none_unless (after_word word piece) (λ fields is. let len = ap length (prefix fields is).1 in omega arith)
 
-  -- another byte stands behind the word
+  -- another byte than a space follows the keyword
   pub word_joined : (b : ℕ) (more : List ℕ) → drop (length word) piece ≡ b ∷ more → b ≢ 32 → after_word word piece ≡ None
   word_joined b more after differs = none_unless (after_word word piece) (λ fields is. differs (ap (λ (v : List ℕ). get_or v 0 0) (sym after ∙ (prefix fields is).1)))
 
@@ -88,7 +88,7 @@ import_takes fields l e =
     let whole : fields ≡ m ++ 32 ∷ (n ++ 32 ∷ decimal w) = cut_takes 32 fields parts h1 ∙ rw (p.0, rest) refl in
     rw (← same, whole) (refl, (p.1, q.1, r.1)))))))
 
--- what is read is spelled so
+-- the bytes of a parsed line are those of its content
 pub line_takes : (piece : List ℕ) (l : NetLine) → line_of_piece piece ≡ Some l → (piece ≡ net_line l) × IsNetLine l
 unfolding line_of_piece
 line_takes piece l e = by (after_word (codes "module") piece) refl e
@@ -113,7 +113,7 @@ import_again m n w p q lt =
     let b = cut_again 32 n (decimal w) (name_without 32 n refl q) in
     rw (a, b, named_again m p, named_again n q, number_again w lt) refl
 
--- what is spelled so is read
+-- the bytes of a valid line are parsed as its content
 pub line_again : (l : NetLine) → IsNetLine l → line_of_piece (net_line l) ≡ Some l
 unfolding line_of_piece
 line_again (Module m) h = rw (word_again (codes "module") m refl, named_again m h) refl
@@ -121,7 +121,7 @@ line_again (Import m n w) h =
     let rest = m ++ 32 ∷ (n ++ 32 ∷ decimal w) in
     rw (other_word rest, word_again (codes "import") rest refl) (import_again m n w h.0 h.1 h.2)
 
--- a good line has one spelling
+-- two valid lines with equal bytes are equal
 pub line_once : (l k : NetLine) → IsNetLine l → IsNetLine k → net_line l ≡ net_line k → l ≡ k
 line_once l k good well e =
     let a = line_again l good in
@@ -129,7 +129,7 @@ line_once l k good well e =
     let c : line_of_piece (net_line l) ≡ line_of_piece (net_line k) = ap line_of_piece e in
     cc
 
--- what isn't read is no line
+-- bytes that aren't parsed are the bytes of no valid line
 pub no_line : (piece : List ℕ) → line_of_piece piece ≡ None → (l : NetLine) → IsNetLine l → net_line l ≢ piece
 no_line piece none l good e =
     let a : Some l ≡ None = sym (line_again l good) ∙ ap line_of_piece e ∙ none in

@@ -21,7 +21,7 @@ use Rattle.cut_net.specs.declared.priced.Priced.{Priced}
 use Rattle.cut_net.specs.Cuts.{have_equal_ends}
 use Rattle.cut_net.specs.Lines.{IsAscending}
 use Rattle.cut_net.specs.Network.{texts, unpinned}
-use Rattle.cut_net.specs.NetText.{NetLine, Import, is_import, AreOfTwoImports, IsNetOf}
+use Rattle.cut_net.specs.NetText.{NetLine, Import, is_import, HaveDifferentImports, IsNetOf}
 use Rattle.cut_net.specs.NetReading.{entry_line, import_line, AreTablesOf}
 use Rattle.cut_net.specs.WellFormed.{AreBetween, AreNamesInOrder}
 use Rattle.digraph.proofs.Members.{in_filter, from_filter, in_map, from_map}
@@ -37,7 +37,7 @@ module _ {Z : Type 0} where
   pub names_ascend : (names : List (String Z)) → IsSorted string_cmp names → IsDistinct bytes_eq (texts names) → AreNamesInOrder (texts names)
   names_ascend names sorted once = apart_ascend (texts names) (texts_in_order names sorted) once
 
-  -- a known name has a place
+  -- a known name has an index
   pub place_known : (names : List (String Z)) (name : List ℕ) (o : Option ℕ) → AreNamesInOrder (texts names) → o ≡ position (λ x. bytes_eq (string_bytes x) name) names → Contains (texts names) name
       → (i : ℕ) × (o ≡ Some i) × (get_or (texts names) i [] ≡ name)
   place_known names name o h e (k, within, at) =
@@ -83,7 +83,7 @@ module _ (lines : List NetLine) (old names : List (List ℕ)) (es : List ((ℕ �
       let p = and_parts _ _ e in
       let first : (get_or list i d).from ≡ (get_or list j d).from = eqb-true _ _ p.0 in
       let second : (get_or list i d).to ≡ (get_or list j d).to = eqb-true _ _ p.1 in
-      let pairs : AllPairs AreOfTwoImports (map (import_line names) list) = rw (← lines_are) (AllPairs-filter AreOfTwoImports is_import lines h.apart) in
+      let pairs : AllPairs HaveDifferentImports (map (import_line names) list) = rw (← lines_are) (AllPairs-filter HaveDifferentImports is_import lines h.apart) in
       let long = length-map list (import_line names) in
       let clash = pairs i j (import_line names d) less (omega arith) in
       let one = get_or-map (import_line names) list i d (import_line names d) (omega arith) in

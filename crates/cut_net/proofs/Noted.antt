@@ -1,4 +1,4 @@
--- Names in the order in which they come, by their bytes.
+-- Names in order of first occurrence, by their bytes.
 use Rattle.std.proofs.Common.{◌≡◌, ℕ, ◌<◌, true, List, [], length, get_or, Some, refl, sym, ap, ◌∙◌, arith, inl, inr}
 use Rattle.std.specs.Prelude.{String}
 use Rattle.std.specs.List.{list_any, position}
@@ -24,7 +24,7 @@ module _ {Z : Type 0} where
         | inr new ↦ rw (← e, ← any_text (string_bytes k) names, new) (map_push string_bytes names k)
       ]
 
-  -- the key at a place, by its bytes
+  -- the key at an index, by its bytes
   pub place_noted : (names : List (String Z)) (value : String Z) (name : List ℕ) (at : ℕ) → string_bytes value ≡ name → (k : String Z) × (slice_get names at ≡ Some k) × (string_eq value k ≡ true)
       → (at < length (texts names)) × (get_or (texts names) at [] ≡ name)
   place_noted names value name at e (k, present, same) =
@@ -34,7 +34,7 @@ module _ {Z : Type 0} where
       let equal : string_bytes value ≡ string_bytes k = (bytes_eq-Decides (string_bytes value) (string_bytes k)).0 same in
       (omega arith, get_or-map string_bytes names at k [] lt ∙ ap string_bytes here ∙ sym equal ∙ e)
 
-  -- a name that is there
+  -- a name that the list has
   pub found_noted : (names : List (String Z)) (name : List ℕ) → list_any (λ x. bytes_eq name (string_bytes x)) names ≡ true → texts names ≡ noted (texts names) name
   found_noted names name present = sym (rw (← any_text name names, present) refl)
 
@@ -43,6 +43,6 @@ module _ {Z : Type 0} where
       let found = position-Some (bytes_eq name) (texts names) at [] (position-map (bytes_eq name) string_bytes names ∙ is) in
       sym ((bytes_eq-Decides name (get_or (texts names) at [])).0 found.1)
 
--- a name that stands at a place
+-- a name at an index
 pub there_noted : (names : List (List ℕ)) (name : List ℕ) (at : ℕ) → at < length names → get_or names at [] ≡ name → names ≡ noted names name
 there_noted names name at within is = sym (rw (list_any_at (bytes_eq name) names at [] within ((bytes_eq-Decides name (get_or names at [])).1 (sym is))) refl)

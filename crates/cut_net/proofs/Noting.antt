@@ -14,7 +14,7 @@ use Rattle.cut_net.specs.declared.priced.Priced.{Priced}
 use Rattle.cut_net.specs.declared.pin_state.Change.{Change}
 use Rattle.cut_net.specs.Cuts.{have_equal_ends}
 use Rattle.cut_net.specs.Network.{Network, index_of, name_of, missing_item}
-use Rattle.cut_net.specs.Prices.{PriceLine, AreOfTwo, IsOfImport, IsPriceLine, SpellPrices, is_named, is_of, price_line, change_of}
+use Rattle.cut_net.specs.Prices.{PriceLine, ChangeDifferentImports, IsOfImport, IsPriceLine, SpellPrices, is_named, changes_import, price_line, change_of}
 use Rattle.cut_net.specs.PriceReading.{AreChanges}
 use Rattle.cut_net.specs.WellFormed.{AreNamesInOrder, IsNetwork}
 use Rattle.cut_net.proofs.Ends.{Same, apart, before_from, same_from, same_true}
@@ -25,7 +25,7 @@ use Rattle.cut_net.proofs.Search.{AreApart}
 use Rattle.texts.proofs.FieldCuts.{some_is}
 
 module _ {X : Type 0} (p : X → Bool) where
-  -- what is found is in the list, and passes
+  -- a found element is in the list and satisfies the test
   pub find_some : (xs : List X) (x : X) → find p xs ≡ Some x → Contains xs x × (p x ≡ true)
   find_some [] x e = absurd cc
   find_some (y ∷ xs) x e = elim (cases_Bool (p y)) [
@@ -33,7 +33,7 @@ module _ {X : Type 0} (p : X → Bool) where
     | inr fails ↦ let later = find_some xs x (rw fails at e) in (later_member y xs x later.0, later.1)
   ]
 
-  -- where nothing is found, nothing passes
+  -- if nothing is found, no element satisfies the test
   pub find_none : (xs : List X) → find p xs ≡ None → (x : X) → Contains xs x → p x ≡ false
   find_none [] e x has = no_member x has
   find_none (y ∷ xs) e x (k, lt, at) = by (cases_Bool (p y)) k lt at (λ none has. find_none xs none x has)
@@ -105,7 +105,7 @@ pub absent_is : {T : Type 0} (o : Option ℕ) → IfNone o T → ((x : ℕ) → 
 absent_is None t none = t
 absent_is (Some x) t none = absurd (none x refl)
 
--- ---- what is told after one more line
+-- ---- the changes after one more line
 
 module _ (net : Network) (is : IsNetwork net) where
   -- one import has two names
@@ -130,21 +130,21 @@ module _ (net : Network) (is : IsNetwork net) where
         ]
       ]
 
-  said_other : (lines : List PriceLine) (line : PriceLine) (i : Priced) → is_of net i line ≡ false → change_of net (lines ++ line ∷ []) i ≡ change_of net lines i
+  said_other : (lines : List PriceLine) (line : PriceLine) (i : Priced) → changes_import net i line ≡ false → change_of net (lines ++ line ∷ []) i ≡ change_of net lines i
   said_other lines line i e =
-      ap (option_map (λ (l : PriceLine). l.change)) (find-append (is_of net i) lines (line ∷ []) ∙ by (find (is_of net i) lines))
+      ap (option_map (λ (l : PriceLine). l.change)) (find-append (changes_import net i) lines (line ∷ []) ∙ by (find (changes_import net i) lines))
     where
-      by : (o : Option PriceLine) → option_or o (find (is_of net i) (line ∷ [])) ≡ o
+      by : (o : Option PriceLine) → option_or o (find (changes_import net i) (line ∷ [])) ≡ o
       by (Some l) = refl
       by None = rw e refl
 
-  said_here : (lines : List PriceLine) (line : PriceLine) (i : Priced) → is_of net i line ≡ true → change_of net lines i ≡ None → change_of net (lines ++ line ∷ []) i ≡ Some line.change
+  said_here : (lines : List PriceLine) (line : PriceLine) (i : Priced) → changes_import net i line ≡ true → change_of net lines i ≡ None → change_of net (lines ++ line ∷ []) i ≡ Some line.change
   said_here lines line i e none =
-      let shown : option_or (find (is_of net i) lines) (find (is_of net i) (line ∷ [])) ≡ Some line = rw (map_none_is (λ (l : PriceLine). l.change) (find (is_of net i) lines) none, e) refl in
-      ap (option_map (λ (l : PriceLine). l.change)) (find-append (is_of net i) lines (line ∷ []) ∙ shown)
+      let shown : option_or (find (changes_import net i) lines) (find (changes_import net i) (line ∷ [])) ≡ Some line = rw (map_none_is (λ (l : PriceLine). l.change) (find (changes_import net i) lines) none, e) refl in
+      ap (option_map (λ (l : PriceLine). l.change)) (find-append (changes_import net i) lines (line ∷ []) ∙ shown)
 
   module _ (lines : List PriceLine) (changes : List (Option Change)) (h : AreChanges net lines changes) (line : PriceLine) (good : IsPriceLine line) (k : ℕ) (lt : k < length net.imports)
-      (of : is_of net (get_or net.imports k missing_item) line ≡ true) where
+      (of : changes_import net (get_or net.imports k missing_item) line ≡ true) where
     abbrev import : Priced
     import = get_or net.imports k missing_item
 
@@ -158,14 +158,14 @@ module _ (net : Network) (is : IsNetwork net) where
     of_import = (import, Contains-get_or net.imports k missing_item lt, of)
 
     -- an earlier line of the same import
-    pub is_twice : (d : Option Change) → is_some (get_or changes k d) ≡ true → AllPairs AreOfTwo (lines ++ line ∷ []) → ⊥
+    pub is_twice : (d : Option Change) → is_some (get_or changes k d) ≡ true → AllPairs ChangeDifferentImports (lines ++ line ∷ []) → ⊥
     is_twice d some pairs = by (change_of net lines import) refl (ap is_some (sym (said_at k d lt)) ∙ some)
       where
         by : (o : Option Change) → change_of net lines import ≡ o → is_some o ≡ true → ⊥
         by None e some = absurd cc
         by (Some change) e some =
-            let (l, found) = map_some_is (λ (x : PriceLine). x.change) (find (is_of net import) lines) change e in
-            let p = find_some (is_of net import) lines l found in
+            let (l, found) = map_some_is (λ (x : PriceLine). x.change) (find (changes_import net import) lines) change e in
+            let p = find_some (changes_import net import) lines l found in
             let (j, lj, at) = p.0 in
             let first = named_is net l.importer l.imported import p.1 in
             let second = named_is net line.importer line.imported import of in
@@ -183,12 +183,12 @@ module _ (net : Network) (is : IsNetwork net) where
           by None e = refl
           by (Some c) e = absurd cc
 
-      apart_all : AllPairs AreOfTwo (lines ++ line ∷ [])
-      apart_all = all_pairs_push AreOfTwo lines line h.good.apart (λ j e lj first second.
+      apart_all : AllPairs ChangeDifferentImports (lines ++ line ∷ [])
+      apart_all = all_pairs_push ChangeDifferentImports lines line h.good.apart (λ j e lj first second.
           let l = get_or lines j e in
           let is_line = named_is net line.importer line.imported import of in
-          both_ways (is_of net import l)
-          (find_none (is_of net import) lines (map_none_is (λ (x : PriceLine). x.change) (find (is_of net import) lines) nothing_said) l (Contains-get_or lines j e lj))
+          both_ways (changes_import net import l)
+          (find_none (changes_import net import) lines (map_none_is (λ (x : PriceLine). x.change) (find (changes_import net import) lines) nothing_said) l (Contains-get_or lines j e lj))
           (named_true net l.importer l.imported import (first ∙ is_line.0) (second ∙ is_line.1)))
 
       told_next : slice_set changes k (Some line.change) ≡ map (change_of net (lines ++ line ∷ [])) net.imports
@@ -198,9 +198,9 @@ module _ (net : Network) (is : IsNetwork net) where
           let long = length-set changes k (Some line.change) in
           let same_long = told_long in
           let lj : j < length net.imports = omega arith in
-          sym (get_or-map (change_of net (lines ++ line ∷ [])) net.imports j missing_item None lj ∙ by j lj (cases_Bool (is_of net (get_or net.imports j missing_item) line))))
+          sym (get_or-map (change_of net (lines ++ line ∷ [])) net.imports j missing_item None lj ∙ by j lj (cases_Bool (changes_import net (get_or net.imports j missing_item) line))))
         where
-          by : (j : ℕ) → j < length net.imports → (is_of net (get_or net.imports j missing_item) line ≡ true) ⊎ (is_of net (get_or net.imports j missing_item) line ≡ false)
+          by : (j : ℕ) → j < length net.imports → (changes_import net (get_or net.imports j missing_item) line ≡ true) ⊎ (changes_import net (get_or net.imports j missing_item) line ≡ false)
               → change_of net (lines ++ line ∷ []) (get_or net.imports j missing_item) ≡ get_or (slice_set changes k (Some line.change)) j None
           by j lj (inl is_here) =
               let same : k ≡ j = same_place k j line.importer line.imported lt lj of is_here in
@@ -208,7 +208,7 @@ module _ (net : Network) (is : IsNetwork net) where
               subst (λ (t : ℕ). change_of net (lines ++ line ∷ []) (get_or net.imports t missing_item) ≡ get_or (slice_set changes k (Some line.change)) t None) same
               (said_here lines line import of nothing_said ∙ sym (get_or-set_same changes k (Some line.change) None (omega arith)))
           by j lj (inr other) =
-              let differs : j ≢ k = λ e. both_ways (is_of net (get_or net.imports j missing_item) line) other (subst (λ (t : ℕ). is_of net (get_or net.imports t missing_item) line ≡ true) (sym e) of) in
+              let differs : j ≢ k = λ e. both_ways (changes_import net (get_or net.imports j missing_item) line) other (subst (λ (t : ℕ). changes_import net (get_or net.imports t missing_item) line ≡ true) (sym e) of) in
               said_other lines line (get_or net.imports j missing_item) other ∙ sym (said_at j None lj) ∙ sym (get_or-set_other changes k j (Some line.change) None differs)
 
       pub is_told : AreChanges net (lines ++ line ∷ []) (slice_set changes k (Some line.change))
@@ -232,7 +232,7 @@ none_cloned {X} table n Cloned all differs = all (λ y. from_clone Cloned differ
 abbrev none_said : Option Change
 none_said = None
 
--- nothing is told at first
+-- before the first line no import has a change
 pub nothing_told : (net : Network) (changes : List (Option Change)) (n : ℕ) → n ≡ length net.imports → changes ≡ replicate n None → AreChanges net [] changes
 nothing_told net changes n many none =
     let long : length (replicate n none_said) ≡ n = length-replicate n none_said in

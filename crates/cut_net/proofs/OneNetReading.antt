@@ -1,11 +1,11 @@
--- A text of a network says one thing.
+-- The outcome of a network's text is unique.
 use Rattle.std.proofs.Common.{◌≡◌, ℕ, ◌+◌, ◌<◌, ◌≤◌, ◌^◌, List, [], ◌∷◌, ◌++◌, refl, sym, ◌∙◌, ap, subst, arith, true, Some, Result, Ok, Err, take}
 use Rattle.std.specs.Prelude.{AllPairs, map, slice_get}
 use Rattle.digraph.specs.Cycle.{IsCanonicalCycle}
 use Rattle.cut_net.specs.Network.{Network, name_of, texts}
 use Rattle.cut_net.specs.Cuts.{Any, Imports}
 use Rattle.cut_net.specs.WellFormed.{IsAcyclic, total_weight}
-use Rattle.cut_net.specs.NetText.{NetLine, Module, Import, net_line, IsPrefix, IsNetLine, Spell, is_nonempty, pieces_of, AreOfTwoImports, AreGood, IsBadLine, IsTwiceImport, IsTooMany, IsNetOf, NetText, IsOverflow, IsCycle, IsNetOutcome, NetError, BadLine, TwiceImport, Cycle, WeightOverflow, TooMany, HasOutcome}
+use Rattle.cut_net.specs.NetText.{NetLine, Module, Import, net_line, IsPrefix, IsNetLine, Spell, is_nonempty, pieces_of, HaveDifferentImports, AreValidLines, IsBadLine, IsTwiceImport, IsTooMany, IsNetOf, NetText, IsOverflow, IsCycle, IsNetOutcome, NetError, BadLine, TwiceImport, Cycle, WeightOverflow, TooMany, HasOutcome}
 use Rattle.cut_net.specs.declared.fault.NetFault.{NetFault}
 use Rattle.cut_net.specs.declared.fault.NetFault.TheVariants as faults
 use Rattle.cut_net.proofs.NetLines.{line_once}
@@ -20,10 +20,10 @@ line_written (Module m) = refl
 line_written (Import m n w) = refl
 
 bad_stops : (bytes : List ℕ) (k : ℕ) → IsBadLine bytes k → Stops (pieces_of bytes) k
-bad_stops bytes k b = stops.stops_at_piece net_line IsNetLine line_once AreGood each good_front (pieces_of bytes) k b.before b.prefix.spelled b.prefix.good b.piece b.prefix.present b.written b.wrong
+bad_stops bytes k b = stops.stops_at_piece net_line IsNetLine line_once AreValidLines each good_front (pieces_of bytes) k b.before b.prefix.spelled b.prefix.good b.piece b.prefix.present b.written b.wrong
 
-stops_at : (bytes : List ℕ) (k : ℕ) (before : List NetLine) (line : NetLine) → IsPrefix bytes k before (net_line line) → IsNetLine line → (AreGood (before ++ line ∷ []) → ⊥) → Stops (pieces_of bytes) k
-stops_at bytes k before line prefix form bad = stops.stops_at_line net_line IsNetLine line_once AreGood each good_front (pieces_of bytes) k before prefix.spelled prefix.good line prefix.present (line_written line) form bad
+stops_at : (bytes : List ℕ) (k : ℕ) (before : List NetLine) (line : NetLine) → IsPrefix bytes k before (net_line line) → IsNetLine line → (AreValidLines (before ++ line ∷ []) → ⊥) → Stops (pieces_of bytes) k
+stops_at bytes k before line prefix form bad = stops.stops_at_line net_line IsNetLine line_once AreValidLines each good_front (pieces_of bytes) k before prefix.spelled prefix.good line prefix.present (line_written line) form bad
 
 twice_stops : (bytes : List ℕ) (k : ℕ) → IsTwiceImport bytes k → Stops (pieces_of bytes) k
 twice_stops bytes k t = stops_at bytes k t.before t.line t.prefix t.form (λ good. t.twice good.apart)
@@ -32,11 +32,11 @@ many_stops : (bytes : List ℕ) (k : ℕ) → IsTooMany bytes k → Stops (piece
 many_stops bytes k t = stops_at bytes k t.before t.line t.prefix t.form (λ good. t.many good.few)
 
 same_number : (bytes : List ℕ) (l m j k : ℕ) → l ≡ j + 1 → m ≡ k + 1 → Stops (pieces_of bytes) j → Stops (pieces_of bytes) k → l ≡ m
-same_number bytes = stops.same_number net_line IsNetLine line_once AreGood each good_front (pieces_of bytes)
+same_number bytes = stops.same_number net_line IsNetLine line_once AreValidLines each good_front (pieces_of bytes)
 
 bad_not_spelled : (bytes : List ℕ) (j k : ℕ) → IsBadLine bytes j → Stops (pieces_of bytes) k → (line : NetLine) → slice_get (pieces_of bytes) k ≡ Some (net_line line) → IsNetLine line → ⊥
 bad_not_spelled bytes j k b t line present form =
-    stops.not_spelled net_line IsNetLine line_once AreGood each good_front (pieces_of bytes) j k (bad_stops bytes j b) t line present form b.piece b.prefix.present b.wrong
+    stops.not_spelled net_line IsNetLine line_once AreValidLines each good_front (pieces_of bytes) j k (bad_stops bytes j b) t line present form b.piece b.prefix.present b.wrong
 
 bad_not_twice : (bytes : List ℕ) (j k : ℕ) → IsBadLine bytes j → IsTwiceImport bytes k → ⊥
 bad_not_twice bytes j k b t = bad_not_spelled bytes j k b (twice_stops bytes k t) t.line t.prefix.present t.form
@@ -48,16 +48,16 @@ twice_not_many : (bytes : List ℕ) (j k : ℕ) → IsTwiceImport bytes j → Is
 twice_not_many bytes j k t m =
     let s = twice_stops bytes j t in
     let u = many_stops bytes k m in
-    let line : m.line ≡ t.line = stops.one_line net_line IsNetLine line_once AreGood each good_front (pieces_of bytes) j k s u m.line m.prefix.present m.form t.line t.prefix.present t.form in
+    let line : m.line ≡ t.line = stops.one_line net_line IsNetLine line_once AreValidLines each good_front (pieces_of bytes) j k s u m.line m.prefix.present m.form t.line t.prefix.present t.form in
     let spelled = subst (λ (n : ℕ). Spell (take n (pieces_of bytes)) m.before) (one_stop (pieces_of bytes) k j u s) m.prefix.spelled in
     let before : m.before ≡ t.before = same_lines (take j (pieces_of bytes)) m.before t.before spelled t.prefix.spelled m.prefix.good.each t.prefix.good.each in
-    t.twice (subst (λ (l : NetLine). AllPairs AreOfTwoImports (t.before ++ l ∷ [])) line (subst (λ (ls : List NetLine). AllPairs AreOfTwoImports (ls ++ m.line ∷ [])) before m.apart))
+    t.twice (subst (λ (l : NetLine). AllPairs HaveDifferentImports (t.before ++ l ∷ [])) line (subst (λ (ls : List NetLine). AllPairs HaveDifferentImports (ls ++ m.line ∷ [])) before m.apart))
 
--- good lines stop nowhere
+-- valid lines have no first error
 whole : (bytes : List ℕ) (net : Network) (k : ℕ) → NetText bytes net → Stops (pieces_of bytes) k → ⊥
 whole bytes net k text s = no_stop (pieces_of bytes) text.lines k text.spelled text.good s
 
--- they are of one network
+-- valid lines have one network
 pub same_net : (bytes : List ℕ) (net other : Network) → NetText bytes net → NetText bytes other → net ≡ other
 same_net bytes net other a b =
     let lines : b.lines ≡ a.lines = same_lines (pieces_of bytes) b.lines a.lines b.spelled a.spelled b.good.each a.good.each in
@@ -118,7 +118,7 @@ one_reading bytes (Err (TooMany l)) (Err (Cycle ms)) a b = absurd (whole bytes b
 one_reading bytes (Err (TooMany l)) (Err WeightOverflow) a b = absurd (whole bytes b.net a.0 b.text (many_stops bytes a.0 a.2))
 one_reading bytes (Err (TooMany l)) (Err (TooMany m)) a b = rw (same_number bytes l m a.0 b.0 a.1 b.1 (many_stops bytes a.0 a.2) (many_stops bytes b.0 b.2)) refl
 
--- what holds of a text is what was answered of it, unless memory ran out
+-- an outcome that holds of the text is the returned one, unless an allocation failed
 pub only_said : (bytes : List ℕ) (result : Result Network NetFault) → HasOutcome result (IsNetOutcome bytes) →
     (o : Result Network NetError) → IsNetOutcome bytes o → HasOutcome result (λ p. p ≡ o)
 only_said bytes (Ok net) h o holds = one_reading bytes (Ok net) o h holds

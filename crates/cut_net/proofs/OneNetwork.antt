@@ -1,4 +1,4 @@
--- Lines are of at most one network.
+-- Lines have at most one network.
 use Rattle.std.proofs.Common.{◌≡◌, ℕ, ◌<◌, List, [], length, sym, ◌∙◌, ap, subst, arith}
 use Rattle.std.specs.Prelude.{Contains, slice_index_or, IsTrue}
 use Rattle.std.proofs.lemmas.Bool.Decides.{nat_tests}

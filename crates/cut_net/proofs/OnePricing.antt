@@ -1,11 +1,11 @@
--- A text of prices says one thing of a network.
+-- The outcome of a prices file for a network is unique.
 use Rattle.std.proofs.Common.{◌≡◌, ℕ, ◌+◌, ◌<◌, ◌≤◌, List, [], ◌∷◌, ◌++◌, refl, sym, ◌∙◌, ap, subst, arith, Some, Result, Ok, Err}
 use Rattle.std.specs.Prelude.{All, slice_get}
 use Rattle.std.proofs.lemmas.List.Elements.{All-contains, Contains-push}
 use Rattle.cut_net.specs.Network.{Network}
 use Rattle.cut_net.specs.NetText.{pieces_of}
 use Rattle.cut_net.specs.Pins.{most_weight, unpinned_weight}
-use Rattle.cut_net.specs.Prices.{PriceLine, price_line, AreGoodPrices, AreOfTwo, IsBadPrice, IsNoImport, IsOfImport, IsPriced, IsPricePrefix, IsPriceLine, IsPriceOutcome, IsTwicePrice, HasOutcome, priced_by}
+use Rattle.cut_net.specs.Prices.{PriceLine, price_line, AreGoodPrices, ChangeDifferentImports, IsBadPriceLine, IsUnknownImport, IsOfImport, IsPriced, IsPricePrefix, IsPriceLine, IsPriceOutcome, IsTwicePrice, HasOutcome, priced_by}
 use Rattle.cut_net.specs.declared.price_fault.PriceFault.{PriceFault}
 use Rattle.cut_net.specs.declared.price_fault.PriceFault.TheVariants.{BadLine, NoSuchImport, TwicePrice, PriceOverflow, Memory}
 use Rattle.cut_net.proofs.LineStops as stops
@@ -17,7 +17,7 @@ module _ (net : Network) where
   prefix xs ys good = record {
     each = all_front IsPriceLine xs ys good.each;
     known = all_front (IsOfImport net) xs ys good.known;
-    apart = pairs_front AreOfTwo xs ys good.apart;
+    apart = pairs_front ChangeDifferentImports xs ys good.apart;
   }
 
   each : (lines : List PriceLine) → AreGoodPrices net lines → All IsPriceLine lines
@@ -27,13 +27,13 @@ module _ (net : Network) where
   StopsAt pieces k = stops.StopsAt price_line IsPriceLine line_once (AreGoodPrices net) each prefix pieces k
 
   module _ (bytes : List ℕ) where
-    bad_stops : (k : ℕ) → IsBadPrice net bytes k → StopsAt (pieces_of bytes) k
+    bad_stops : (k : ℕ) → IsBadPriceLine net bytes k → StopsAt (pieces_of bytes) k
     bad_stops k b = stops.stops_at_piece price_line IsPriceLine line_once (AreGoodPrices net) each prefix (pieces_of bytes) k b.before b.prefix.spelled b.prefix.good b.piece b.prefix.present b.written b.wrong
 
     stops_at : (k : ℕ) (before : List PriceLine) (line : PriceLine) → IsPricePrefix net bytes k before (price_line line) → IsPriceLine line → (AreGoodPrices net (before ++ line ∷ []) → ⊥) → StopsAt (pieces_of bytes) k
     stops_at k before line f form bad = stops.stops_at_line price_line IsPriceLine line_once (AreGoodPrices net) each prefix (pieces_of bytes) k before f.spelled f.good line f.present (line_written line) form bad
 
-    no_import_stops : (k : ℕ) → IsNoImport net bytes k → StopsAt (pieces_of bytes) k
+    no_import_stops : (k : ℕ) → IsUnknownImport net bytes k → StopsAt (pieces_of bytes) k
     no_import_stops k n = stops_at k n.before n.line n.prefix n.form (λ good. n.unknown (All-contains (IsOfImport net) (n.before ++ n.line ∷ []) n.line good.known (Contains-push n.before n.line)))
 
     twice_stops : (k : ℕ) → IsTwicePrice net bytes k → StopsAt (pieces_of bytes) k
@@ -42,17 +42,17 @@ module _ (net : Network) where
     same_number : (l m j k : ℕ) → l ≡ j + 1 → m ≡ k + 1 → StopsAt (pieces_of bytes) j → StopsAt (pieces_of bytes) k → l ≡ m
     same_number = stops.same_number price_line IsPriceLine line_once (AreGoodPrices net) each prefix (pieces_of bytes)
 
-    bad_not_spelled : (j k : ℕ) → IsBadPrice net bytes j → StopsAt (pieces_of bytes) k → (line : PriceLine) → slice_get (pieces_of bytes) k ≡ Some (price_line line) → IsPriceLine line → ⊥
+    bad_not_spelled : (j k : ℕ) → IsBadPriceLine net bytes j → StopsAt (pieces_of bytes) k → (line : PriceLine) → slice_get (pieces_of bytes) k ≡ Some (price_line line) → IsPriceLine line → ⊥
     bad_not_spelled j k b t line present form =
         stops.not_spelled price_line IsPriceLine line_once (AreGoodPrices net) each prefix (pieces_of bytes) j k (bad_stops j b) t line present form b.piece b.prefix.present b.wrong
 
-    bad_not_unknown : (j k : ℕ) → IsBadPrice net bytes j → IsNoImport net bytes k → ⊥
+    bad_not_unknown : (j k : ℕ) → IsBadPriceLine net bytes j → IsUnknownImport net bytes k → ⊥
     bad_not_unknown j k b n = bad_not_spelled j k b (no_import_stops k n) n.line n.prefix.present n.form
 
-    bad_not_twice : (j k : ℕ) → IsBadPrice net bytes j → IsTwicePrice net bytes k → ⊥
+    bad_not_twice : (j k : ℕ) → IsBadPriceLine net bytes j → IsTwicePrice net bytes k → ⊥
     bad_not_twice j k b t = bad_not_spelled j k b (twice_stops k t) t.line t.prefix.present t.form
 
-    unknown_not_twice : (j k : ℕ) → IsNoImport net bytes j → IsTwicePrice net bytes k → ⊥
+    unknown_not_twice : (j k : ℕ) → IsUnknownImport net bytes j → IsTwicePrice net bytes k → ⊥
     unknown_not_twice j k n t =
         let line : t.line ≡ n.line =
         stops.one_line price_line IsPriceLine line_once (AreGoodPrices net) each prefix (pieces_of bytes) j k (no_import_stops j n) (twice_stops k t) t.line t.prefix.present t.form n.line n.prefix.present n.form in
@@ -98,7 +98,7 @@ module _ (net : Network) where
     one_pricing (Err PriceOverflow) (Err (TwicePrice m)) a b = absurd (whole a.priced b.0 a.is_priced (twice_stops b.0 b.2))
     one_pricing (Err PriceOverflow) (Err PriceOverflow) a b = refl
 
-    -- what holds of a text is what was answered of it, unless memory ran out
+    -- an outcome that holds of the text is the returned one, unless an allocation failed
     pub only_said : (result : Result Network PriceFault) → HasOutcome result (IsPriceOutcome net bytes) →
         (o : Result Network PriceFault) → IsPriceOutcome net bytes o → HasOutcome result (λ p. p ≡ o)
     only_said (Err Memory) h o holds = tt

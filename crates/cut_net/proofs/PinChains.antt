@@ -1,4 +1,4 @@
--- Chains of pins are chains of the pins' edges.
+-- Paths of pinned imports are paths of the pins' edges.
 use Rattle.std.proofs.Common.{◌≡◌, ℕ, true, List, [], ◌∷◌, map, refl, sym, ◌∙◌, ap, subst, arith, inl, inr}
 use Rattle.std.specs.Prelude.{Contains, find, is_some}
 use Rattle.std.proofs.lemmas.Bool.{both_ways, cases_Bool}
@@ -77,7 +77,7 @@ module _ (net : Network) (pins : ArePins net) where
     chain_of_edges [] none = none
     chain_of_edges (m ∷ more) (e, chain) = (e, chain_as (edges.Leads (map edge_of net.pins)) (Imports net.imports (ByPin net)) same_pins m more b chain)
 
-    -- the least chain of the edges is the least chain of pins
+    -- the least path of the edges is the least path of pins
     pub least_of_pins : (chain : List ℕ) → IsLeastChain (edges.Leads (map edge_of net.pins)) a b chain → IsLeastPinChain net a b chain
     least_of_pins chain is = record {
       is_chain = chain_of_pins chain is.is_chain;

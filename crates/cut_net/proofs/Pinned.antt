@@ -1,4 +1,4 @@
--- Cuts and flows with pins are those of the network in which a pinned import weighs more than every cut.
+-- Cuts and flows with pins agree with those without regard to pins, since a pinned import weighs more than every cut of unpinned ones.
 use Rattle.std.proofs.Common.{◌≡◌, ◌≢◌, ℕ, ◌≤◌, ◌<◌, Bool, true, false, cond, not, List, [], ◌∷◌, length, get_or, refl, ap, arith, sum_by, inl, inr}
 use Rattle.std.specs.Prelude.{◌↔◌, Contains, find, is_some}
 use Rattle.std.proofs.lemmas.Bool.{cases_Bool, cases_lt, both_ways, not-true, not_from_false}
@@ -43,11 +43,11 @@ is_free net i = not (is_pinned net i)
 free_outside : (net : Network) (i : Priced) → Outside (is_free net) i → ByPin net i
 free_outside net i out = elim (cases_Bool (is_pinned net i)) [ inl t ↦ t | inr f ↦ absurd (both_ways (is_free net i) out (not_from_false _ f)) ]
 
--- no chain of pins: the imports without a pin are a cut
+-- no path of pins: the imports without a pin are a cut
 free_cut : (net : Network) (a b : ℕ) → (PinChain net a b → ⊥) → IsCut net a b (is_free net)
 free_cut net a b none chain = none (chain.0, widened net.imports net.imports (Outside (is_free net)) (ByPin net) (λ i c out. (c, free_outside net i out)) a chain.0 b chain.1)
 
--- a chain of pins gets through every removable set
+-- a path of pinned imports avoids every set without pinned imports
 pub no_cut : (net : Network) (a b : ℕ) (x : Priced → Bool) → PinChain net a b → IsCutWithPins net a b x → ⊥
 no_cut net a b x chain cut =
     cut.cut (
@@ -57,7 +57,7 @@ no_cut net a b x chain cut =
     )
 
 module _ (net : Network) (a b : ℕ) (pins : ArePins net) (none : PinChain net a b → ⊥) where
-  -- the modules without a chain of pins to b: no pinned import leaves them
+  -- the modules without a path of pinned imports to b: no pinned import leaves them
   abbrev far : ℕ → Bool
   far = no_chain_to net.imports (is_free net) b
 
@@ -67,7 +67,7 @@ module _ (net : Network) (a b : ℕ) (pins : ArePins net) (none : PinChain net a
   far_free : IsRemovable net (leaves far)
   far_free i c out = not-true _ (leaves_in_cut net.imports b (is_free net) i c out)
 
-  -- what weighs no more than all imports without a pin has no pinned import
+  -- a set that weighs no more than all unpinned imports has no pinned import
   light_free : (x : Priced → Bool) → weight net.imports x ≤ weight net.imports (is_free net) → IsRemovable net x
   light_free x le i c has = elim (cases_Bool (is_pinned net i)) [
     | inr f ↦ f
@@ -177,7 +177,7 @@ certificate net a b x flow between a_in cut is_flow = record {
       omega arith;
 }
 
--- ---- where nothing is pinned
+-- ---- without pinned imports
 
 nothing_pinned : (net : Network) → net.pins ≡ [] → (i : Priced) → is_pinned net i ≡ false
 nothing_pinned net e i = rw e refl

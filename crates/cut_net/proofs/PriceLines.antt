@@ -1,4 +1,4 @@
--- A line of prices that is read is the one that was written.
+-- Parsing a line of a prices file inverts writing it.
 use Rattle.std.proofs.Common.{◌≡◌, ◌≢◌, ℕ, ◌<◌, ◌^◌, true, List, ◌∷◌, ◌++◌, Option, Some, None, refl, sym, ap, ◌∙◌, codes}
 use Rattle.std.specs.Prelude.{option_map, option_and_then}
 use Rattle.std.specs.Option.{option_map_or}
@@ -13,7 +13,7 @@ use Rattle.cut_net.specs.declared.pin_state.Change.TheVariants.{Price, Pin}
 use Rattle.cut_net.specs.NetReading.{after_word}
 use Rattle.cut_net.specs.NetText.{is_nonempty}
 use Rattle.cut_net.specs.Prices.{PriceLine, IsChange, IsPriceLine, price_line, change_line}
-use Rattle.cut_net.specs.PriceReading.{pin_of_fields, price_of_fields, price_line_of, saying}
+use Rattle.cut_net.specs.PriceReading.{pin_of_fields, price_of_fields, price_line_of, line_with_change}
 use Rattle.cut_net.proofs.NetLines.{map_some, word_takes, word_again}
 
 abbrev after_pin : List ℕ → List ℕ
@@ -48,7 +48,7 @@ price_takes fields l e =
     let whole : fields ≡ m ++ 32 ∷ (n ++ 32 ∷ decimal w) = cut_takes 32 fields parts h1 ∙ rw (p.0, rest) refl in
     rw (← same, whole) (refl, record { importer = p.1; imported = q.1; change = r.1 }))))))
 
--- what is read is spelled so
+-- the bytes of a parsed line are those of its content
 pub line_takes : (piece : List ℕ) (l : PriceLine) → price_line_of piece ≡ Some l → (price_line l ≡ piece) × IsPriceLine l
 unfolding price_line_of
 line_takes piece l e = by (after_word (codes "pin") piece) refl e
@@ -66,29 +66,29 @@ other_word : (fields : List ℕ) → after_word (codes "pin") (after_price field
 unfolding after_word
 other_word fields = rw (cut_again 32 (codes "price") fields refl) refl
 
-pin_again : (m n : List ℕ) → is_name m ≡ true → is_name n ≡ true → pin_of_fields (m ++ 32 ∷ n) ≡ Some (saying m n Pin)
+pin_again : (m n : List ℕ) → is_name m ≡ true → is_name n ≡ true → pin_of_fields (m ++ 32 ∷ n) ≡ Some (line_with_change m n Pin)
 unfolding pin_of_fields
 pin_again m n p q = rw (cut_again 32 m n (name_without 32 m refl p), named_again m p, named_again n q) refl
 
-price_again : (m n : List ℕ) (w : ℕ) → is_name m ≡ true → is_name n ≡ true → w < 2 ^ 64 → price_of_fields (m ++ 32 ∷ (n ++ 32 ∷ decimal w)) ≡ Some (saying m n (Price w))
+price_again : (m n : List ℕ) (w : ℕ) → is_name m ≡ true → is_name n ≡ true → w < 2 ^ 64 → price_of_fields (m ++ 32 ∷ (n ++ 32 ∷ decimal w)) ≡ Some (line_with_change m n (Price w))
 unfolding price_of_fields
 price_again m n w p q lt =
     let a = cut_again 32 m (n ++ 32 ∷ decimal w) (name_without 32 m refl p) in
     let b = cut_again 32 n (decimal w) (name_without 32 n refl q) in
     rw (a, b, named_again m p, named_again n q, number_again w lt) refl
 
-again : (m n : List ℕ) (change : Change) → is_name m ≡ true → is_name n ≡ true → IsChange change → price_line_of (change_line m n change) ≡ Some (saying m n change)
+again : (m n : List ℕ) (change : Change) → is_name m ≡ true → is_name n ≡ true → IsChange change → price_line_of (change_line m n change) ≡ Some (line_with_change m n change)
 unfolding price_line_of
 again m n (Price w) p q lt =
     let rest = m ++ 32 ∷ (n ++ 32 ∷ decimal w) in
     rw (other_word rest, word_again (codes "price") rest refl) (price_again m n w p q lt)
 again m n Pin p q h = rw (word_again (codes "pin") (m ++ 32 ∷ n) refl) (pin_again m n p q)
 
--- what is spelled so is read
+-- the bytes of a valid line are parsed as its content
 line_again : (l : PriceLine) → IsPriceLine l → price_line_of (price_line l) ≡ Some l
 line_again l h = again l.importer l.imported l.change h.importer h.imported h.change
 
--- a good line has one spelling
+-- two valid lines with equal bytes are equal
 pub line_once : (l k : PriceLine) → IsPriceLine l → IsPriceLine k → price_line l ≡ price_line k → l ≡ k
 line_once l k good well e =
     let a = line_again l good in
@@ -96,7 +96,7 @@ line_once l k good well e =
     let c : price_line_of (price_line l) ≡ price_line_of (price_line k) = ap price_line_of e in
     cc
 
--- what isn't read is no line
+-- bytes that aren't parsed are the bytes of no valid line
 pub no_line : (piece : List ℕ) → price_line_of piece ≡ None → (l : PriceLine) → IsPriceLine l → price_line l ≢ piece
 no_line piece none l good e =
     let a : Some l ≡ None = sym (line_again l good) ∙ ap price_line_of e ∙ none in

@@ -1,22 +1,22 @@
--- The imports that are printed leave the near modules and are a cut. Those that leave and aren't printed weigh nothing.
+-- The imports that are reported leave the minimal source side and are a cut. Those that leave and aren't reported weigh nothing.
 use Rattle.std.proofs.Common.{◌≡◌, ℕ, ◌<◌, Bool, true, false, cond, ◌&&◌, not, List, length, [], ◌∷◌, sym, ◌∙◌, subst, arith, inl, inr}
 use Rattle.std.specs.Prelude.{Contains, nat_lt}
 use Rattle.std.proofs.lemmas.Bool.{cases_Bool, both_ways, and_from, and_left, and_parts, cond-true, cond-false, ltb-true, lt-ltb, not-true, not_from_false, false_from_ne_true}
 use Rattle.cut_net.specs.declared.priced.Priced.{Priced}
 use Rattle.cut_net.specs.Network.{Network}
 use Rattle.cut_net.specs.WellFormed.{AreBetween}
-use Rattle.cut_net.specs.Cuts.{IsChain, Outside, IsCut, IsSide, leaves, IsMinimumSide, InSourceSide, LeavesSourceSide, AreReported, AreThose}
+use Rattle.cut_net.specs.Cuts.{IsChain, Outside, IsCut, IsSide, leaves, IsMinimumSide, InSourceSide, LeavesSourceSide, AreReported, IsSetOf}
 use Rattle.cut_net.proofs.Certificate.{cond_within, leaves_in_cut, side_of_cut, weight-mono}
 use Rattle.cut_net.proofs.Chains.{no_chain_to}
 use Rattle.cut_net.proofs.ListSums.{sum_by-tight}
 
-module _ (net : Network) (a b : ℕ) (n : ℕ → Bool) (is_near : AreThose n (InSourceSide net a b)) (x : Priced → Bool) (printed : AreReported net a b x) where
+module _ (net : Network) (a b : ℕ) (n : ℕ → Bool) (is_near : IsSetOf n (InSourceSide net a b)) (x : Priced → Bool) (printed : AreReported net a b x) where
   pub leaves_near : (i : Priced) → Contains net.imports i → x i ≡ true → leaves n i ≡ true
   leaves_near i c t =
       let out = ((printed i c).0 t).0 in
       and_from _ _ ((is_near i.from).1 out.0) (not_from_false _ (false_from_ne_true _ (λ u. out.1 ((is_near i.to).0 u))))
 
-  -- a chain to b by imports that aren't printed is one by imports that don't leave the near modules
+  -- a path to b by imports that aren't reported is one by imports that don't leave the minimal source side
   stays : (m : ℕ) (more : List ℕ) → IsChain net.imports (Outside x) m more b → IsChain net.imports (λ i. LeavesSourceSide net a b i → ⊥) m more b
   stays m [] e = e
   stays m (k ∷ more) ((i, c, ef, et, out), rest) =
@@ -47,7 +47,7 @@ module _ (net : Network) (a b : ℕ) (n : ℕ → Bool) (is_near : AreThose n (I
       (λ j d. cond_within (x j) (leaves n j) j.amount (leaves_near j d)) (omega arith) i c.0 c.1 c.2 in
       sym (cond-true (leaves n i) i.amount 0 out) ∙ sym same ∙ cond-false (x i) i.amount 0 off
 
--- a side of least weight has the same leaving imports without the numbers that are no module's
+-- a source side of minimum weight has the same leaving imports without the numbers that are no module's
 module _ (net : Network) (a b : ℕ) (between : AreBetween net.imports (length net.names)) (a_in : a < length net.names) (s : ℕ → Bool) (least : IsMinimumSide net a b s) where
   abbrev pub among_modules : ℕ → Bool
   among_modules k = s k && nat_lt k (length net.names)
@@ -68,6 +68,6 @@ module _ (net : Network) (a b : ℕ) (between : AreBetween net.imports (length n
         omega arith;
   }
 
-  pub among_near : ((k : ℕ) → k < length net.names → s k ≡ true → InSourceSide net a b k) → AreThose among_modules (InSourceSide net a b)
+  pub among_near : ((k : ℕ) → k < length net.names → s k ≡ true → InSourceSide net a b k) → IsSetOf among_modules (InSourceSide net a b)
   among_near near m =
       (λ t. let has = and_parts (s m) (nat_lt m (length net.names)) t in near m (ltb-true m (length net.names) has.1) has.0, λ is_near. is_near among_modules among_is_least)

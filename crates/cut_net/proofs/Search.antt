@@ -1,4 +1,4 @@
--- A binary search over ascending names finds the place of a name.
+-- A binary search over sorted names finds the index of a name.
 use Rattle.std.proofs.Common.{◌≡◌, ℕ, map, subst, inl, inr, ◌+◌, ◌<◌, Bool, true, false, List, [], ◌∷◌, length, get_or, Some, None, Result, Ok, Err, refl, sym, ap, ◌∙◌, arith, Ordering}
 use Rattle.std.specs.Prelude.{String}
 use Rattle.std.specs.Result.{result_ok}
@@ -17,7 +17,7 @@ use Rattle.std.proofs.lemmas.Map.Keys.{Less-from_sorted}
 use Rattle.std.proofs.lemmas.List.Sorted.{searchable_from_sorted}
 use Rattle.std.proofs.lemmas.List.Sums.{position_or_len_is}
 
--- no two names are one
+-- no name occurs twice
 abbrev pub AreApart : List (List ℕ) → Type 0
 AreApart names = (i j : ℕ) → i < j → j < length names → get_or names i [] ≡ get_or names j [] → ⊥
 
@@ -60,7 +60,7 @@ module _ {Z : Type 0} where
         | inr above ↦ equal_is (get_or (x ∷ xs) k x) name Greater (parts.1 k x above lt)
       ])
 
-  -- names in order are apart
+  -- strictly sorted names are distinct
   pub sorted_apart : (names : List (String Z)) → IsStrictlySortedBy string_cmp names → AreApart (map string_bytes names)
   sorted_apart names h i j below lt e =
       let less = Less-from_sorted (slice_cmp nat_cmp) (map string_bytes names) i j [] (sorted_texts names h) below lt in

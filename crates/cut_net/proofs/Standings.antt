@@ -1,4 +1,4 @@
--- How imports stand, one after another.
+-- The states of imports, one after another.
 use Rattle.std.proofs.Common.{◌≡◌, ℕ, ◌+◌, ◌<◌, List, [], ◌∷◌, ◌++◌, length, get_or, map, take, refl, ap, ◌∙◌}
 use Rattle.std.specs.Prelude.{Option, None, find}
 use Rattle.std.specs.List.{flat_map}
@@ -10,9 +10,9 @@ use Rattle.cut_net.specs.declared.pin_state.PinState.{PinState}
 use Rattle.cut_net.specs.declared.pin_state.PinState.TheVariants.{Weighs, Stays}
 use Rattle.cut_net.specs.Network.{Network, missing_item}
 use Rattle.cut_net.specs.Cuts.{have_equal_ends}
-use Rattle.cut_net.specs.Prices.{pin_as, pin_state_of, changed_state, initial_state}
+use Rattle.cut_net.specs.Prices.{pin_of_state, pin_state_of, changed_state, initial_state}
 
--- an element of a list that is mapped
+-- an element of a mapped list
 pub mapped_at : {X Y : Type 0} (f : X → Y) (xs : List X) (ys : List Y) (k : ℕ) (d : X) (e : Y) → ys ≡ map f xs → k < length xs → get_or ys k e ≡ f (get_or xs k d)
 mapped_at {Y} f xs ys k d e same lt = ap (λ (l : List Y). get_or l k e) same ∙ get_or-map f xs k d e lt
 
@@ -25,11 +25,11 @@ pub given_next : {X Y : Type 0} (f : X → List Y) (xs : List X) (ys more : List
 given_next f xs ys more k d same lt e = rw (take_more xs k d lt, flat_map-append f (take k xs) (get_or xs k d ∷ []), same, e, append-nil (f (get_or xs k d))) refl
 
 -- an import that isn't pinned gives no pin
-pub no_pin : (i : Priced) (s : PinState) → ((w : ℕ) → s ≡ Stays w → ⊥) → [] ≡ pin_as i s
+pub no_pin : (i : Priced) (s : PinState) → ((w : ℕ) → s ≡ Stays w → ⊥) → [] ≡ pin_of_state i s
 no_pin i (Weighs w) none = refl
 no_pin i (Stays w) none = absurd (none w refl)
 
--- how an import stands, as it was found
+-- the state of an import, given the lookup of its pin
 pub stood : (net : Network) (claim : Priced → Option Change) (imports pins : List Priced) (changes : List (Option Change)) (k : ℕ) (pin : Option Priced) (now : PinState) → imports ≡ net.imports → pins ≡ net.pins
     → pin ≡ find (have_equal_ends (get_or imports k missing_item)) pins → get_or changes k None ≡ claim (get_or net.imports k missing_item) → now ≡ changed_state (initial_state (get_or imports k missing_item) pin) (get_or changes k None)
     → now ≡ changed_state (pin_state_of net (get_or net.imports k missing_item)) (claim (get_or net.imports k missing_item))

@@ -1,11 +1,11 @@
--- Where the lines of a network's text stop being good.
+-- The first line of a network's text with an error is unique.
 use Rattle.std.proofs.Common.{◌≡◌, ℕ, zero, suc, ◌≤◌, inl, inr, List, [], ◌∷◌, ◌++◌, length, refl, ◌∙◌, ap, arith, Bool, true}
 use Rattle.std.specs.Prelude.{All, Contains, count_by, filter, ◌||◌}
 use Rattle.std.specs.List.{list_any}
 use Rattle.std.specs.Str.{bytes_eq}
 use Rattle.std.proofs.lemmas.Bool.{or_cases, or_left, or_right}
 use Rattle.std.proofs.lemmas.Slice.Eq.{bytes_eq-Decides}
-use Rattle.cut_net.specs.NetText.{NetLine, Module, Import, net_line, IsNetLine, is_import, Spell, Mentions, AreMentioning, AreNamesOf, AreOfTwoImports, AreWithinLimits, AreGood}
+use Rattle.cut_net.specs.NetText.{NetLine, Module, Import, net_line, IsNetLine, is_import, Spell, Mentions, AreMentioning, AreNamesOf, HaveDifferentImports, AreWithinLimits, AreValidLines}
 use Rattle.cut_net.proofs.LineStops as stops
 use Rattle.cut_net.proofs.ListFronts.{all_front, contains_front, deeper, distinct_kept, fewer_front, fewer_kept, kept, pairs_front, passes_kept}
 use Rattle.cut_net.proofs.NetLines.{line_once}
@@ -61,29 +61,29 @@ few_front xs ys few = record {
   few_imports = (let less : count_by is_import xs ≤ count_by is_import (xs ++ ys) = fewer_front is_import xs ys in let le = few.few_imports in omega arith);
 }
 
--- the first of good lines are good
-pub good_front : (xs ys : List NetLine) → AreGood (xs ++ ys) → AreGood xs
+-- a prefix of valid lines is valid
+pub good_front : (xs ys : List NetLine) → AreValidLines (xs ++ ys) → AreValidLines xs
 good_front xs ys good = record {
   each = all_front IsNetLine xs ys good.each;
-  apart = pairs_front AreOfTwoImports xs ys good.apart;
+  apart = pairs_front HaveDifferentImports xs ys good.apart;
   few = few_front xs ys good.few;
 }
 
-pub each : (lines : List NetLine) → AreGood lines → All IsNetLine lines
+pub each : (lines : List NetLine) → AreValidLines lines → All IsNetLine lines
 each lines good = good.each
 
--- the first k pieces are good lines, and no line that the next piece spells is good after them
+-- the first k pieces are valid lines, and no line that the next piece spells is good after them
 abbrev pub Stops : List (List ℕ) → ℕ → Type 0
-Stops pieces k = stops.StopsAt net_line IsNetLine line_once AreGood each good_front pieces k
+Stops pieces k = stops.StopsAt net_line IsNetLine line_once AreValidLines each good_front pieces k
 
--- good lines of the same pieces are the same
+-- valid lines with equal pieces are equal
 pub same_lines : (pieces : List (List ℕ)) (lines others : List NetLine) → Spell pieces lines → Spell pieces others → All IsNetLine lines → All IsNetLine others → lines ≡ others
 same_lines = stops.same_lines net_line IsNetLine line_once
 
--- pieces that are good lines don't stop being good
-pub no_stop : (pieces : List (List ℕ)) (lines : List NetLine) (k : ℕ) → Spell pieces lines → AreGood lines → Stops pieces k → ⊥
-no_stop = stops.no_stop net_line IsNetLine line_once AreGood each good_front
+-- pieces of valid lines have no first error
+pub no_stop : (pieces : List (List ℕ)) (lines : List NetLine) (k : ℕ) → Spell pieces lines → AreValidLines lines → Stops pieces k → ⊥
+no_stop = stops.no_stop net_line IsNetLine line_once AreValidLines each good_front
 
--- they stop at one place
+-- two first errors have one index
 pub one_stop : (pieces : List (List ℕ)) (j k : ℕ) → Stops pieces j → Stops pieces k → j ≡ k
-one_stop = stops.one_stop net_line IsNetLine line_once AreGood each good_front
+one_stop = stops.one_stop net_line IsNetLine line_once AreValidLines each good_front

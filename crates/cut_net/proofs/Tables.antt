@@ -14,8 +14,8 @@ use Rattle.std.proofs.lemmas.Map.Keys.{IsDistinct-push, apart_from_distinct}
 use Rattle.std.proofs.lemmas.Map.Made.{is_member-Decides, length-from_same_keys}
 use Rattle.std.proofs.lemmas.Slice.Eq.{bytes_eq-Decides}
 use Rattle.texts.specs.Fields.{is_name}
-use Rattle.cut_net.specs.NetText.{NetLine, Module, Import, net_line, is_import, is_nonempty, AreOfTwoImports, AreMentioning, AreNamesOf, IsNetLine, Mentions}
-use Rattle.cut_net.specs.NetReading.{entry_line, noted, AddsLine, AreTablesOf, IsMore, IsTwice, TakesPiece, line_content}
+use Rattle.cut_net.specs.NetText.{NetLine, Module, Import, net_line, is_import, is_nonempty, HaveDifferentImports, AreMentioning, AreNamesOf, IsNetLine, Mentions}
+use Rattle.cut_net.specs.NetReading.{entry_line, noted, AddsLine, AreTablesOf, ExceedsLimit, HasRepeat, TakesPiece, line_content}
 use Rattle.cut_net.specs.declared.lines.Line.{Line}
 use Rattle.cut_net.specs.declared.builder.NetBuilder.{NetBuilder}
 use Rattle.cut_net.specs.declared.builder.NetLineFault.{NetLineFault}
@@ -72,7 +72,7 @@ noted_longer names m =
       | inr new ↦ rw new (omega (arith, length_push names m))
     ]
 
--- ---- what the lines mention
+-- ---- the names of the lines
 
 mention_from : (lines : List NetLine) (line : NetLine) (x : List ℕ) → AreMentioning (lines ++ line ∷ []) x → AreMentioning lines x ⊎ Mentions x line
 mention_from lines line x (l, present, has) =
@@ -120,7 +120,7 @@ names_import lines names m n w h = record {
   );
 }
 
--- how many names lines have
+-- the number of names of the lines
 pub one_count : (lines : List NetLine) (names others : List (List ℕ)) → AreNamesOf lines names → AreNamesOf lines others → length names ≡ length others
 one_count lines names others h g =
     let same = λ (q : List ℕ) (x y : List (List ℕ)) (a : AreNamesOf lines x) (b : AreNamesOf lines y) (e : list_any (bytes_eq q) x ≡ true).
@@ -134,7 +134,7 @@ one_count lines names others h g =
 
 -- ---- the lines of imports
 
--- the names stay where they were
+-- the indices of the earlier names are unchanged
 abbrev pub AreKept : List (List ℕ) → List (List ℕ) → Type 0
 AreKept names more = (length names ≤ length more) × ((i : ℕ) → i < length names → get_or more i [] ≡ get_or names i [])
 
@@ -168,10 +168,10 @@ filter_module lines m = filter-append is_import lines (Module m ∷ []) ∙ appe
 pub filter_import : (lines : List NetLine) (m n : List ℕ) (w : ℕ) → filter is_import (lines ++ Import m n w ∷ []) ≡ filter is_import lines ++ Import m n w ∷ []
 filter_import lines m n w = filter-append is_import lines (Import m n w ∷ [])
 
-pub apart_module : (lines : List NetLine) (m : List ℕ) → AllPairs AreOfTwoImports lines → AllPairs AreOfTwoImports (lines ++ Module m ∷ [])
-apart_module lines m h = all_pairs_push AreOfTwoImports lines (Module m) h (λ k d lt. by (get_or lines k d))
+pub apart_module : (lines : List NetLine) (m : List ℕ) → AllPairs HaveDifferentImports lines → AllPairs HaveDifferentImports (lines ++ Module m ∷ [])
+apart_module lines m h = all_pairs_push HaveDifferentImports lines (Module m) h (λ k d lt. by (get_or lines k d))
   where
-    by : (l : NetLine) → AreOfTwoImports l (Module m)
+    by : (l : NetLine) → HaveDifferentImports l (Module m)
     by (Module _) = tt
     by (Import _ _ _) = tt
 
@@ -181,8 +181,8 @@ said_from m n k l w x e = cc
 said_to : (m n k l : List ℕ) (w x : ℕ) → Import m n w ≡ Import k l x → n ≡ l
 said_to m n k l w x e = cc
 
--- an import that stands in a line and once more
-pub stands_twice : (lines : List NetLine) (m n : List ℕ) (w x : ℕ) → Contains lines (Import m n x) → IsTwice lines (Import m n w)
+-- an import of an earlier line that occurs again
+pub stands_twice : (lines : List NetLine) (m n : List ℕ) (w x : ℕ) → Contains lines (Import m n x) → HasRepeat lines (Import m n w)
 stands_twice lines m n w x (k, lt, at) apart =
     let old : get_or (lines ++ Import m n w ∷ []) k (Import m n x) ≡ Import m n x = get_or_append_left lines (Import m n w ∷ []) (Import m n x) k lt ∙ at in
     let new : get_or (lines ++ Import m n w ∷ []) (length lines) (Import m n x) ≡ Import m n w = get_or_push lines (Import m n w) (Import m n x) (length lines) refl in
@@ -214,7 +214,7 @@ module _ (lines : List NetLine) (names : List (List ℕ)) (es : List ((ℕ × �
     listed = filter_module lines m ∙ h.listed ∙ lines_kept names (noted names m) es (kept_one names m) h.placed;
   }
 
-  pub many_module : (m : List ℕ) → is_name m ≡ true → 8192 < length (noted names m) → IsMore lines (Module m)
+  pub many_module : (m : List ℕ) → is_name m ≡ true → 8192 < length (noted names m) → ExceedsLimit lines (Module m)
   many_module m good many = record {
     apart = apart_module lines m h.apart;
     many = λ few. let same = one_count (lines ++ Module m ∷ []) (noted names m) few.names (names_module lines names m h.are_names) few.are_names in
@@ -243,11 +243,11 @@ module _ (lines : List NetLine) (names : List (List ℕ)) (es : List ((ℕ × �
               ]
             ]
 
-    -- a key that no entry has is of an import that no line has
-    pub apart_import : (Contains (keys_of es) (i, j) → ⊥) → AllPairs AreOfTwoImports (lines ++ Import m n w ∷ [])
-    apart_import absent = all_pairs_push AreOfTwoImports lines (Import m n w) h.apart (λ k d lt. by (get_or lines k d) (Contains-get_or lines k d lt))
+    -- a key without an entry is that of an import without a line
+    pub apart_import : (Contains (keys_of es) (i, j) → ⊥) → AllPairs HaveDifferentImports (lines ++ Import m n w ∷ [])
+    apart_import absent = all_pairs_push HaveDifferentImports lines (Import m n w) h.apart (λ k d lt. by (get_or lines k d) (Contains-get_or lines k d lt))
       where
-        by : (l : NetLine) → Contains lines l → AreOfTwoImports l (Import m n w)
+        by : (l : NetLine) → Contains lines l → HaveDifferentImports l (Import m n w)
         by (Module _) present = tt
         by (Import k l x) present = λ e1 e2.
             let (e, within, is) = entry_of k l x present in
@@ -260,7 +260,7 @@ module _ (lines : List NetLine) (names : List (List ℕ)) (es : List ((ℕ × �
             let key : e.0 ≡ (i, j) = ap (λ (t : ℕ). (t, e.0.1)) x1 ∙ ap (λ (t : ℕ). (i, t)) x2 in
             absent (subst (λ (t : ℕ × ℕ). Contains (keys_of es) t) key (in_map (λ (p : (ℕ × ℕ) × ℕ). p.0) es e within))
 
-    pub twice_import : Contains (keys_of es) (i, j) → IsTwice lines (Import m n w)
+    pub twice_import : Contains (keys_of es) (i, j) → HasRepeat lines (Import m n w)
     twice_import known apart =
         let (found, within, is) = from_map (λ (p : (ℕ × ℕ) × ℕ). p.0) es (i, j) known in
         let x = found.1 in
@@ -286,14 +286,14 @@ module _ (lines : List NetLine) (names : List (List ℕ)) (es : List ((ℕ × �
               ∙ ap (λ (t : NetLine). map (entry_line more) es ++ t ∷ []) last ∙ sym (map_push (entry_line more) es ((i, j), w));
         }
 
-    pub many_names : (Contains (keys_of es) (i, j) → ⊥) → 8192 < length more → IsMore lines (Import m n w)
+    pub many_names : (Contains (keys_of es) (i, j) → ⊥) → 8192 < length more → ExceedsLimit lines (Import m n w)
     many_names absent many = record {
       apart = apart_import absent;
       many = λ few. let same = one_count (lines ++ Import m n w ∷ []) more few.names are_names few.are_names in
           let little = few.few_names in omega arith;
     }
 
-    pub many_imports : (Contains (keys_of es) (i, j) → ⊥) → 65536 < length es + 1 → IsMore lines (Import m n w)
+    pub many_imports : (Contains (keys_of es) (i, j) → ⊥) → 65536 < length es + 1 → ExceedsLimit lines (Import m n w)
     many_imports absent many = record {
       apart = apart_import absent;
       many = λ few.
@@ -305,7 +305,7 @@ module _ (lines : List NetLine) (names : List (List ℕ)) (es : List ((ℕ × �
           let little = few.few_imports in omega arith;
     }
 
--- two names are noted in turn, and their places are the ends of an import
+-- two names are looked up or added in turn, and their indices are the ends of an import
 pub record AreEnds (names middle more : List (List ℕ)) (m n : List ℕ) (i j : ℕ) : Type 0 where
   pub first : middle ≡ noted names m
   pub first_within : i < length middle
@@ -345,20 +345,20 @@ module _ (lines : List NetLine) (names middle more : List (List ℕ)) (es : List
   ends_to : (j < length more) × (get_or more j [] ≡ n)
   ends_to = (ends.second_within, ends.second_place)
 
-  pub adds_twice : Contains (keys_of es) (i, j) → IsTwice lines (Import m n w)
+  pub adds_twice : Contains (keys_of es) (i, j) → HasRepeat lines (Import m n w)
   adds_twice = twice_import lines names es h more m n w i j ends_kept ends_names ends_from ends_to
 
   module _ (absent : Contains (keys_of es) (i, j) → ⊥) where
     pub adds_import : IsNetLine (Import m n w) → length more ≤ 8192 → length es + 1 ≤ 65536 → AreTablesOf (lines ++ Import m n w ∷ []) more (es ++ ((i, j), w) ∷ [])
     adds_import = tables_import lines names es h more m n w i j ends_kept ends_names ends_from ends_to absent
 
-    pub adds_name : 8192 < length more → IsMore lines (Import m n w)
+    pub adds_name : 8192 < length more → ExceedsLimit lines (Import m n w)
     adds_name = many_names lines names es h more m n w i j ends_kept ends_names ends_from ends_to absent
 
-    pub adds_one : 65536 < length es + 1 → IsMore lines (Import m n w)
+    pub adds_one : 65536 < length es + 1 → ExceedsLimit lines (Import m n w)
     adds_one = many_imports lines names es h more m n w i j ends_kept ends_names ends_from ends_to absent
 
--- ---- what came of a piece
+-- ---- the result for a piece
 
 pub takes_from_adds : (before : List NetLine) (piece : List ℕ) (line : NetLine) (r : Result (Unit {0}) NetLineFault) (builder : NetBuilder) → is_nonempty piece ≡ true → net_line line ≡ piece → IsNetLine line
     → AddsLine before line r builder → TakesPiece before piece r builder

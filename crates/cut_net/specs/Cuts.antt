@@ -93,8 +93,8 @@ abbrev pub Reached : Network → (Priced → ℕ) → ℕ → ℕ → Type 0
 Reached net flow a m = (modules : ℕ → Bool) → modules a ≡ true → IsClosed net flow modules → modules m ≡ true
 
 -- the set has exactly the modules with the property
-abbrev pub AreThose : (ℕ → Bool) → (ℕ → Type 0) → Type 0
-AreThose modules P = (m : ℕ) → (modules m ≡ true) ↔ P m
+abbrev pub IsSetOf : (ℕ → Bool) → (ℕ → Type 0) → Type 0
+IsSetOf modules P = (m : ℕ) → (modules m ≡ true) ↔ P m
 
 -- the imports have equal modules
 abbrev pub have_equal_ends : Priced → Priced → Bool

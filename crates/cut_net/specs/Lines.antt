@@ -13,8 +13,8 @@ abbrev pub comes_before : Priced → Priced → Bool
 comes_before i j = nat_lt i.from j.from || ((i.from == j.from) && nat_lt i.to j.to)
 
 -- compares by importer, then by imported module
-abbrev pub by_ends : Priced → Priced → Ordering
-by_ends i j = ordering_then (nat_cmp i.from j.from) (nat_cmp i.to j.to)
+abbrev pub compare_ends : Priced → Priced → Ordering
+compare_ends i j = ordering_then (nat_cmp i.from j.from) (nat_cmp i.to j.to)
 
 -- the import as an edge
 abbrev pub edge_of : Priced → Edge

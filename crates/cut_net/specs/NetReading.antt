@@ -5,7 +5,7 @@ use Rattle.std.specs.Option.{option_map_or}
 use Rattle.std.specs.Str.{bytes_eq}
 use Rattle.texts.specs.Fields.{cut_at, named, number_of}
 use Rattle.cut_net.specs.Network.{Network, texts, unpinned}
-use Rattle.cut_net.specs.NetText.{NetLine, Module, Import, net_line, is_import, is_nonempty, pieces_of, AreOfTwoImports, AreWithinLimits, AreNamesOf, IsNetLine, Spell}
+use Rattle.cut_net.specs.NetText.{NetLine, Module, Import, net_line, is_import, is_nonempty, pieces_of, HaveDifferentImports, AreWithinLimits, AreNamesOf, IsNetLine, Spell}
 use Rattle.cut_net.specs.declared.builder.NetBuilder.{NetBuilder}
 use Rattle.cut_net.specs.declared.builder.NetLineFault.{NetLineFault}
 use Rattle.cut_net.specs.declared.builder.NetLineFault.TheVariants as fault
@@ -52,7 +52,7 @@ entry_line names entry = Import (slice_index_or names entry.0.0 []) (slice_index
 -- the lines have no error, and the tables are theirs: their names, and their imports by the indices of the names
 pub record AreTablesOf (lines : List NetLine) (names : List (List ℕ)) (imports : List ((ℕ × ℕ) × ℕ)) : Type 0 where
   pub each : All IsNetLine lines
-  pub apart : AllPairs AreOfTwoImports lines
+  pub apart : AllPairs HaveDifferentImports lines
   pub are_names : AreNamesOf lines names
   pub few_names : length names ≤ 8192
   pub few_imports : length imports ≤ 65536
@@ -63,28 +63,28 @@ abbrev pub HasLines : List NetLine → NetBuilder → Type 0
 HasLines lines builder = AreTablesOf lines (texts builder.names.keys) builder.imports.entries
 
 -- with this line an import repeats
-abbrev pub IsTwice : List NetLine → NetLine → Type 0
-IsTwice before line = AllPairs AreOfTwoImports (before ++ line ∷ []) → ⊥
+abbrev pub HasRepeat : List NetLine → NetLine → Type 0
+HasRepeat before line = AllPairs HaveDifferentImports (before ++ line ∷ []) → ⊥
 
 -- with this line no import repeats, but a limit is exceeded
-pub record IsMore (before : List NetLine) (line : NetLine) : Type 0 where
-  pub apart : AllPairs AreOfTwoImports (before ++ line ∷ [])
+pub record ExceedsLimit (before : List NetLine) (line : NetLine) : Type 0 where
+  pub apart : AllPairs HaveDifferentImports (before ++ line ∷ [])
   pub many : AreWithinLimits (before ++ line ∷ []) → ⊥
 
 -- the result of adding a line
 abbrev pub AddsLine : List NetLine → NetLine → Result (Unit {0}) NetLineFault → NetBuilder → Type 0
 AddsLine before line (Ok _) builder = HasLines (before ++ line ∷ []) builder
 AddsLine before line (Err fault.BadLine) builder = ⊥
-AddsLine before line (Err fault.TwiceImport) builder = IsTwice before line
-AddsLine before line (Err fault.TooMany) builder = IsMore before line
+AddsLine before line (Err fault.TwiceImport) builder = HasRepeat before line
+AddsLine before line (Err fault.TooMany) builder = ExceedsLimit before line
 AddsLine before line (Err fault.Memory) builder = Unit {0}
 
 -- the result of adding the bytes between two line ends
 abbrev pub TakesPiece : List NetLine → List ℕ → Result (Unit {0}) NetLineFault → NetBuilder → Type 0
 TakesPiece before piece (Ok _) builder = (more : List NetLine) × Spell (piece ∷ []) more × HasLines (before ++ more) builder
 TakesPiece before piece (Err fault.BadLine) builder = (is_nonempty piece ≡ true) × ((line : NetLine) → IsNetLine line → net_line line ≢ piece)
-TakesPiece before piece (Err fault.TwiceImport) builder = (line : NetLine) × (net_line line ≡ piece) × IsNetLine line × IsTwice before line
-TakesPiece before piece (Err fault.TooMany) builder = (line : NetLine) × (net_line line ≡ piece) × IsNetLine line × IsMore before line
+TakesPiece before piece (Err fault.TwiceImport) builder = (line : NetLine) × (net_line line ≡ piece) × IsNetLine line × HasRepeat before line
+TakesPiece before piece (Err fault.TooMany) builder = (line : NetLine) × (net_line line ≡ piece) × IsNetLine line × ExceedsLimit before line
 TakesPiece before piece (Err fault.Memory) builder = Unit {0}
 
 -- ---- the whole text
@@ -100,7 +100,7 @@ net_fault_in_line line fault.Memory = faults.Memory
 abbrev pub HasTextLines : List ℕ → NetBuilder → Type 0
 HasTextLines bytes builder = (lines : List NetLine) × Spell (pieces_of bytes) lines × HasLines lines builder
 
--- the builder has some lines
+-- the builder has the names and imports of a list of lines
 abbrev pub IsBuilder : NetBuilder → Type 0
 IsBuilder builder = (lines : List NetLine) × HasLines lines builder
 

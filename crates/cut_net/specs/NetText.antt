@@ -60,12 +60,12 @@ abbrev pub is_import : NetLine → Bool
 is_import (Module m) = false
 is_import (Import m n w) = true
 
--- the lines don't have one import
-abbrev pub AreOfTwoImports : NetLine → NetLine → Type 0
-AreOfTwoImports (Module _) (Module _) = Unit {0}
-AreOfTwoImports (Module _) (Import _ _ _) = Unit {0}
-AreOfTwoImports (Import _ _ _) (Module _) = Unit {0}
-AreOfTwoImports (Import m n _) (Import k l _) = m ≡ k → n ≢ l
+-- the lines have different imports, or one of them is a `module` line
+abbrev pub HaveDifferentImports : NetLine → NetLine → Type 0
+HaveDifferentImports (Module _) (Module _) = Unit {0}
+HaveDifferentImports (Module _) (Import _ _ _) = Unit {0}
+HaveDifferentImports (Import _ _ _) (Module _) = Unit {0}
+HaveDifferentImports (Import m n _) (Import k l _) = m ≡ k → n ≢ l
 
 -- the limits: at most 8192 names and 65536 imports
 pub record AreWithinLimits (lines : List NetLine) : Type 0 where
@@ -75,15 +75,15 @@ pub record AreWithinLimits (lines : List NetLine) : Type 0 where
   pub few_imports : count_by is_import lines ≤ 65536
 
 -- lines without an error
-pub record AreGood (lines : List NetLine) : Type 0 where
+pub record AreValidLines (lines : List NetLine) : Type 0 where
   pub each : All IsNetLine lines
-  pub apart : AllPairs AreOfTwoImports lines
+  pub apart : AllPairs HaveDifferentImports lines
   pub few : AreWithinLimits lines
 
 -- the first k pieces are lines without an error, and this piece follows
 pub record IsPrefix (bytes : List ℕ) (k : ℕ) (lines : List NetLine) (piece : List ℕ) : Type 0 where
   pub spelled : Spell (take k (pieces_of bytes)) lines
-  pub good : AreGood lines
+  pub good : AreValidLines lines
   pub present : slice_get (pieces_of bytes) k ≡ Some piece
 
 -- after lines without an error, a piece that is neither empty nor a line
@@ -100,7 +100,7 @@ pub record IsTwiceImport (bytes : List ℕ) (k : ℕ) : Type 0 where
   pub line : NetLine
   pub prefix : IsPrefix bytes k before (net_line line)
   pub form : IsNetLine line
-  pub twice : AllPairs AreOfTwoImports (before ++ line ∷ []) → ⊥
+  pub twice : AllPairs HaveDifferentImports (before ++ line ∷ []) → ⊥
 
 -- after lines without an error, a line that repeats no import but exceeds a limit
 pub record IsTooMany (bytes : List ℕ) (k : ℕ) : Type 0 where
@@ -108,7 +108,7 @@ pub record IsTooMany (bytes : List ℕ) (k : ℕ) : Type 0 where
   pub line : NetLine
   pub prefix : IsPrefix bytes k before (net_line line)
   pub form : IsNetLine line
-  pub apart : AllPairs AreOfTwoImports (before ++ line ∷ [])
+  pub apart : AllPairs HaveDifferentImports (before ++ line ∷ [])
   pub many : AreWithinLimits (before ++ line ∷ []) → ⊥
 
 -- the network of the lines: their names and imports, strictly sorted; nothing is pinned
@@ -125,7 +125,7 @@ pub record IsNetOf (lines : List NetLine) (net : Network) : Type 0 where
 pub record NetText (bytes : List ℕ) (net : Network) : Type 0 where
   pub lines : List NetLine
   pub spelled : Spell (pieces_of bytes) lines
-  pub good : AreGood lines
+  pub good : AreValidLines lines
   pub is_net : IsNetOf lines net
 
 -- the errors of a text, with names as byte lists

@@ -5,7 +5,7 @@ use Rattle.texts.specs.Fields.{cut_at, named, number_of}
 use Rattle.cut_net.specs.Network.{Network}
 use Rattle.cut_net.specs.NetReading.{after_word}
 use Rattle.cut_net.specs.NetText.{is_nonempty, pieces_of}
-use Rattle.cut_net.specs.Prices.{PriceLine, price_line, change_of, IsOfImport, IsPriceLine, SpellPrices, AreGoodPrices, AreOfTwo}
+use Rattle.cut_net.specs.Prices.{PriceLine, price_line, change_of, IsOfImport, IsPriceLine, SpellPrices, AreGoodPrices, ChangeDifferentImports}
 use Rattle.cut_net.specs.declared.price_fault.PriceLineFault.{PriceLineFault}
 use Rattle.cut_net.specs.declared.price_fault.PriceLineFault.TheVariants as fault
 use Rattle.cut_net.specs.declared.price_fault.PriceFault.{PriceFault}
@@ -22,18 +22,18 @@ use Rattle.cut_net.specs.declared.price_lines.PriceLine as lines
 abbrev pub line_content : lines.PriceLine → PriceLine
 line_content line = record { importer = line.importer.now; imported = line.imported.now; change = line.change }
 
-abbrev pub saying : List ℕ → List ℕ → Change → PriceLine
-saying m n change = record { importer = m; imported = n; change = change }
+abbrev pub line_with_change : List ℕ → List ℕ → Change → PriceLine
+line_with_change m n change = record { importer = m; imported = n; change = change }
 
 -- two names
 unfoldable pub pin_of_fields : List ℕ → Option PriceLine
 pin_of_fields fields =
-    option_and_then (λ parts. option_and_then (λ m. option_map (λ n. saying m n Pin) (named parts.1)) (named parts.0)) (cut_at 32 fields)
+    option_and_then (λ parts. option_and_then (λ m. option_map (λ n. line_with_change m n Pin) (named parts.1)) (named parts.0)) (cut_at 32 fields)
 
 -- two names and a number
 unfoldable pub price_of_fields : List ℕ → Option PriceLine
 price_of_fields fields =
-    option_and_then (λ parts. option_and_then (λ others. option_and_then (λ m. option_and_then (λ n. option_map (λ w. saying m n (Price w))
+    option_and_then (λ parts. option_and_then (λ others. option_and_then (λ m. option_and_then (λ n. option_map (λ w. line_with_change m n (Price w))
     (number_of others.1)) (named others.0)) (named parts.0)) (cut_at 32 parts.1)) (cut_at 32 fields)
 
 -- the line that these bytes are
@@ -42,20 +42,20 @@ price_line_of piece = option_map_or pin_of_fields (after_word (codes "pin") piec
 
 -- ---- the lines read so far
 
--- the lines have no error, and these are the changes of each import
+-- the lines have no error, and `changes` has for each import its change by these lines, if there is one
 pub record AreChanges (net : Network) (lines : List PriceLine) (changes : List (Option Change)) : Type 0 where
   pub good : AreGoodPrices net lines
   pub told_is : changes ≡ map (change_of net lines) net.imports
 
 -- the result of adding the bytes between two line ends
-abbrev pub Notes : Network → List PriceLine → List ℕ → Result (Unit {0}) PriceLineFault → List (Option Change) → Type 0
-Notes net before piece (Ok _) changes = (more : List PriceLine) × SpellPrices (piece ∷ []) more × AreChanges net (before ++ more) changes
-Notes net before piece (Err fault.BadLine) changes = (is_nonempty piece ≡ true) × ((line : PriceLine) → IsPriceLine line → price_line line ≢ piece)
-Notes net before piece (Err fault.NoSuchImport) changes = (line : PriceLine) × (price_line line ≡ piece) × IsPriceLine line × (IsOfImport net line → ⊥)
-Notes net before piece (Err fault.TwicePrice) changes =
-    (line : PriceLine) × (price_line line ≡ piece) × IsPriceLine line × IsOfImport net line × (AllPairs AreOfTwo (before ++ line ∷ []) → ⊥)
+abbrev pub TakesPricePiece : Network → List PriceLine → List ℕ → Result (Unit {0}) PriceLineFault → List (Option Change) → Type 0
+TakesPricePiece net before piece (Ok _) changes = (more : List PriceLine) × SpellPrices (piece ∷ []) more × AreChanges net (before ++ more) changes
+TakesPricePiece net before piece (Err fault.BadLine) changes = (is_nonempty piece ≡ true) × ((line : PriceLine) → IsPriceLine line → price_line line ≢ piece)
+TakesPricePiece net before piece (Err fault.NoSuchImport) changes = (line : PriceLine) × (price_line line ≡ piece) × IsPriceLine line × (IsOfImport net line → ⊥)
+TakesPricePiece net before piece (Err fault.TwicePrice) changes =
+    (line : PriceLine) × (price_line line ≡ piece) × IsPriceLine line × IsOfImport net line × (AllPairs ChangeDifferentImports (before ++ line ∷ []) → ⊥)
 
--- these are the changes of each import by all lines of the file
+-- `changes` has for each import its change by the lines of the file, if there is one
 abbrev pub AreChangesOf : Network → List ℕ → List (Option Change) → Type 0
 AreChangesOf net bytes changes = (lines : List PriceLine) × SpellPrices (pieces_of bytes) lines × AreChanges net lines changes
 

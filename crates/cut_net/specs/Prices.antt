@@ -16,7 +16,7 @@ use Rattle.cut_net.specs.Cuts.{have_equal_ends}
 use Rattle.cut_net.specs.NetText.{is_nonempty, pieces_of}
 use Rattle.cut_net.specs.Pins.{most_weight, unpinned_weight}
 
--- the content of a line: the import of the first module of the second gets a weight, or is pinned
+-- the content of a line: the two modules of an import, and the change of the import
 pub record PriceLine : Type 0 where
   pub importer : List ℕ
   pub imported : List ℕ
@@ -50,22 +50,22 @@ abbrev pub is_named : Network → List ℕ → List ℕ → Priced → Bool
 is_named net m n i = bytes_eq m (name_of net i.from) && bytes_eq n (name_of net i.to)
 
 -- whether the line changes this import
-abbrev pub is_of : Network → Priced → PriceLine → Bool
-is_of net i line = is_named net line.importer line.imported i
+abbrev pub changes_import : Network → Priced → PriceLine → Bool
+changes_import net i line = is_named net line.importer line.imported i
 
 -- the line changes an import of the network
 abbrev pub IsOfImport : Network → PriceLine → Type 0
-IsOfImport net line = (i : Priced) × Contains net.imports i × (is_of net i line ≡ true)
+IsOfImport net line = (i : Priced) × Contains net.imports i × (changes_import net i line ≡ true)
 
--- the lines don't change one import
-abbrev pub AreOfTwo : PriceLine → PriceLine → Type 0
-AreOfTwo line other = line.importer ≡ other.importer → line.imported ≢ other.imported
+-- the lines change different imports
+abbrev pub ChangeDifferentImports : PriceLine → PriceLine → Type 0
+ChangeDifferentImports line other = line.importer ≡ other.importer → line.imported ≢ other.imported
 
 -- lines without an error
 pub record AreGoodPrices (net : Network) (lines : List PriceLine) : Type 0 where
   pub each : All IsPriceLine lines
   pub known : All (IsOfImport net) lines
-  pub apart : AllPairs AreOfTwo lines
+  pub apart : AllPairs ChangeDifferentImports lines
 
 -- ---- the first error
 
@@ -76,7 +76,7 @@ pub record IsPricePrefix (net : Network) (bytes : List ℕ) (k : ℕ) (lines : L
   pub present : slice_get (pieces_of bytes) k ≡ Some piece
 
 -- after lines without an error, a piece that is neither empty nor a line
-pub record IsBadPrice (net : Network) (bytes : List ℕ) (k : ℕ) : Type 0 where
+pub record IsBadPriceLine (net : Network) (bytes : List ℕ) (k : ℕ) : Type 0 where
   pub before : List PriceLine
   pub piece : List ℕ
   pub prefix : IsPricePrefix net bytes k before piece
@@ -84,7 +84,7 @@ pub record IsBadPrice (net : Network) (bytes : List ℕ) (k : ℕ) : Type 0 wher
   pub wrong : (line : PriceLine) → IsPriceLine line → price_line line ≢ piece
 
 -- after lines without an error, a line of an import that the network lacks
-pub record IsNoImport (net : Network) (bytes : List ℕ) (k : ℕ) : Type 0 where
+pub record IsUnknownImport (net : Network) (bytes : List ℕ) (k : ℕ) : Type 0 where
   pub before : List PriceLine
   pub line : PriceLine
   pub prefix : IsPricePrefix net bytes k before (price_line line)
@@ -98,7 +98,7 @@ pub record IsTwicePrice (net : Network) (bytes : List ℕ) (k : ℕ) : Type 0 wh
   pub prefix : IsPricePrefix net bytes k before (price_line line)
   pub form : IsPriceLine line
   pub known : IsOfImport net line
-  pub twice : AllPairs AreOfTwo (before ++ line ∷ []) → ⊥
+  pub twice : AllPairs ChangeDifferentImports (before ++ line ∷ []) → ⊥
 
 -- ---- the network with its prices
 
@@ -130,28 +130,28 @@ changed_state s (Some Pin) = Stays (weight_in s)
 
 -- the change of an import by the lines
 abbrev pub change_of : Network → List PriceLine → Priced → Option Change
-change_of net lines i = option_map (λ (line : PriceLine). line.change) (find (is_of net i) lines)
+change_of net lines i = option_map (λ (line : PriceLine). line.change) (find (changes_import net i) lines)
 
 -- the state of an import after the lines
 abbrev pub pin_state_by : Network → List PriceLine → Priced → PinState
 pin_state_by net lines i = changed_state (pin_state_of net i) (change_of net lines i)
 
 -- the import with the weight of its state
-abbrev pub import_as : Priced → PinState → Priced
-import_as i (Weighs w) = record { from = i.from; to = i.to; amount = w }
-import_as i (Stays w) = record { from = i.from; to = i.to; amount = most_weight + 1 }
+abbrev pub import_with_state : Priced → PinState → Priced
+import_with_state i (Weighs w) = record { from = i.from; to = i.to; amount = w }
+import_with_state i (Stays w) = record { from = i.from; to = i.to; amount = most_weight + 1 }
 
 -- its pin, if the state is pinned
-abbrev pub pin_as : Priced → PinState → List Priced
-pin_as i (Weighs w) = []
-pin_as i (Stays w) = record { from = i.from; to = i.to; amount = w } ∷ []
+abbrev pub pin_of_state : Priced → PinState → List Priced
+pin_of_state i (Weighs w) = []
+pin_of_state i (Stays w) = record { from = i.from; to = i.to; amount = w } ∷ []
 
 -- the network with these states of its imports
 abbrev pub with_pin_states : Network → (Priced → PinState) → Network
 with_pin_states net pin_state = record {
   names = net.names;
-  imports = map (λ i. import_as i (pin_state i)) net.imports;
-  pins = flat_map (λ i. pin_as i (pin_state i)) net.imports;
+  imports = map (λ i. import_with_state i (pin_state i)) net.imports;
+  pins = flat_map (λ i. pin_of_state i (pin_state i)) net.imports;
 }
 
 -- the network after these lines: each import has the state after its line, or its state without one
@@ -178,8 +178,8 @@ pub record IsPriceOverflow (net : Network) (bytes : List ℕ) : Type 0 where
 -- the outcome of the file for the network: the network with the prices, or the first error
 abbrev pub IsPriceOutcome : Network → List ℕ → Result Network PriceFault → Type 0
 IsPriceOutcome net bytes (Ok priced) = IsPriced net bytes priced × (unpinned_weight priced ≤ most_weight)
-IsPriceOutcome net bytes (Err (BadLine line)) = (k : ℕ) × (line ≡ k + 1) × IsBadPrice net bytes k
-IsPriceOutcome net bytes (Err (NoSuchImport line)) = (k : ℕ) × (line ≡ k + 1) × IsNoImport net bytes k
+IsPriceOutcome net bytes (Err (BadLine line)) = (k : ℕ) × (line ≡ k + 1) × IsBadPriceLine net bytes k
+IsPriceOutcome net bytes (Err (NoSuchImport line)) = (k : ℕ) × (line ≡ k + 1) × IsUnknownImport net bytes k
 IsPriceOutcome net bytes (Err (TwicePrice line)) = (k : ℕ) × (line ≡ k + 1) × IsTwicePrice net bytes k
 IsPriceOutcome net bytes (Err PriceOverflow) = IsPriceOverflow net bytes
 IsPriceOutcome net bytes (Err Memory) = ⊥

@@ -75,8 +75,9 @@ pub(crate) struct NetBuilder {
     pub(crate) imports: IndexMap<(usize, usize), u64, Seed>,
 }
 
-/// The bytes that the tables read: none if the first line is invalid, so that no digest is computed and no slot allocated for them.
-pub(crate) fn text_read(bytes: &[u8]) -> &[u8] {
+/// The text by whose length tables and hash seeds are chosen: empty if the first line is invalid, so that no digest is computed and no
+/// slot allocated for a text that is rejected at once.
+pub(crate) fn text_for_sizing(bytes: &[u8]) -> &[u8] {
     let first = match cut_at_byte(bytes, b'\n') {
         Some((piece, _)) => piece,
         None => bytes,
@@ -87,14 +88,14 @@ pub(crate) fn text_read(bytes: &[u8]) -> &[u8] {
     &bytes[..0]
 }
 
-/// The hash seed for a text: one whose names or imports were chosen to collide with one seed gets another.
+/// The hash seed for a text. It depends on the text, so names or imports that were chosen to collide under one seed get another.
 pub(crate) fn seed_of(bytes: &[u8]) -> Seed {
-    let text = text_read(bytes);
+    let text = text_for_sizing(bytes);
     Seed::for_keys(text, text.len() / BYTES_A_NAME)
 }
 
 /// The index of a name in order of first occurrence. A new name is added.
-pub(crate) fn note_name(
+pub(crate) fn intern_name(
     alloc: Global,
     names: &mut IndexSet<String, Seed>,
     name: &str,
@@ -139,7 +140,7 @@ impl NetBuilder {
     fn add_module(&mut self, alloc: Global, name: &str) -> Result<(), NetLineFault>
         ensures { (before : List NetLine) → HasLines before self.old → IsNetLine (Module name.now) → AddsLine before (Module name.now) result self.new }
     {
-        note_name(alloc, &mut self.names, name)?;
+        intern_name(alloc, &mut self.names, name)?;
         if self.names.len() > MOST_NAMES {
             return Err(NetLineFault::TooMany);
         }
@@ -155,8 +156,8 @@ impl NetBuilder {
     ) -> Result<(), NetLineFault>
         ensures { (before : List NetLine) → HasLines before self.old → IsNetLine (Import importer.now imported.now weight) → AddsLine before (Import importer.now imported.now weight) result self.new }
     {
-        let from = note_name(alloc, &mut self.names, importer)?;
-        let to = note_name(alloc, &mut self.names, imported)?;
+        let from = intern_name(alloc, &mut self.names, importer)?;
+        let to = intern_name(alloc, &mut self.names, imported)?;
         if insert_import(&mut self.imports, (from, to), weight)? {
             return Err(NetLineFault::TwiceImport);
         }

@@ -8,7 +8,7 @@ use crate::Priced;
 pub struct Cut {
     /// The imports to remove, each with its weight as amount.
     pub imports: Vec<Priced>,
-    /// The claimed sum of their weights, in qualified references.
+    /// The claimed sum of their weights.
     pub weight: u64,
     /// The imports with flow, each with its flow as amount.
     pub flow: Vec<Priced>,

@@ -10,7 +10,7 @@ use digraph::Edge;
 use std::alloc::{AllocError, Global};
 
 /// The imports as edges, without their weights.
-pub(crate) fn pairs_of(alloc: Global, imports: &[Priced]) -> Result<Vec<Edge>, AllocError>
+pub(crate) fn import_edges(alloc: Global, imports: &[Priced]) -> Result<Vec<Edge>, AllocError>
     ensures { IfOk result (λ pairs. pairs.items ≡ map edge_of imports.now) }
 {
     let mut pairs = Vec::with_capacity(alloc, imports.len())?;
@@ -25,7 +25,7 @@ pub(crate) fn pairs_of(alloc: Global, imports: &[Priced]) -> Result<Vec<Edge>, A
 
 /// The canonical cycle of the imports, as module numbers; none if they are acyclic. The imports are strictly sorted and lead between the
 /// first `nodes` modules.
-pub(crate) fn cycle_of(
+pub(crate) fn find_canonical_cycle(
     alloc: Global,
     imports: &[Priced],
     nodes: usize,
@@ -38,6 +38,6 @@ pub(crate) fn cycle_of(
     ensures within { IfOk result (λ answer. IfSome answer (λ cycle. All (λ m. m < nodes) cycle.items)) }
     ensures none { IfOk result (λ answer. IfNone answer (IsAcyclic imports.now)) }
 {
-    let pairs = pairs_of(alloc, imports)?;
+    let pairs = import_edges(alloc, imports)?;
     digraph::cycle(alloc, pairs.as_slice(), nodes)
 }

@@ -10,7 +10,7 @@ ghost use Rattle.cut_net.specs.Prices.{IsPriceOutcome};
 ghost use Rattle.cut_net.specs.AnswerClaim.{AnswerClaim};
 ghost use Rattle.cut_net.specs.Lines.{IsAnswer, IsCheapestAnswer};
 ghost use Rattle.cut_net.specs.Pins.{ArePins, AreReportedWithPins, IsAnswerWithPins, IsCheapestAnswerWithPins, IsCheapestWithPins, IsCutWithPins, IsFlowWithPins, InSourceSideWithPins, PinChain};
-ghost use Rattle.cut_net.specs.Cuts.{AreThose, AreReported, Chain, IsCut, IsCheapest, IsFlow, LeavesSourceSide, InSourceSide, Outside, Reached, weight, without};
+ghost use Rattle.cut_net.specs.Cuts.{IsSetOf, AreReported, Chain, IsCut, IsCheapest, IsFlow, LeavesSourceSide, InSourceSide, Outside, Reached, weight, without};
 
 use crate::Priced;
 
@@ -29,8 +29,8 @@ pub fn source_side_by_flow()
     // The reachable modules are the minimal source side.
     ensures { (net : Network) (a b : ℕ) (flow : Priced → ℕ) (value : ℕ) (modules : ℕ → Bool) →
         AreBetween net.imports (length net.names) → a < length net.names → IsFlow net a b flow value →
-        AreThose modules (Reached net flow a) → modules b ≡ false →
-        AreThose modules (InSourceSide net a b) }
+        IsSetOf modules (Reached net flow a) → modules b ≡ false →
+        IsSetOf modules (InSourceSide net a b) }
 {}
 
 /// If b isn't reachable from a in the residual graph of a flow, the reported imports are a cheapest cut, whose weight is the value of the
@@ -39,7 +39,7 @@ pub fn reported_is_cheapest()
     // The reported imports are a cheapest cut, and weigh as much as the flow's value.
     ensures { (net : Network) (a b : ℕ) (flow : Priced → ℕ) (value : ℕ) (modules : ℕ → Bool) →
         AreBetween net.imports (length net.names) → a < length net.names → IsFlow net a b flow value →
-        AreThose modules (Reached net flow a) → modules b ≡ false →
+        IsSetOf modules (Reached net flow a) → modules b ≡ false →
         (x : Priced → Bool) → AreReported net a b x →
         IsCheapest net a b x × (weight net.imports x ≡ value) }
 {}

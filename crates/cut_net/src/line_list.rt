@@ -2,18 +2,18 @@
 //! repeated import is reported at once if the imports before it are known to be distinct. All other texts are left to the builder, which
 //! finds the first error.
 ghost use Rattle.std.specs.Prelude.{◌≡◌, ◌≤◌, ◌<◌, ◌++◌, ◌∷◌, [], ℕ, true, IfErr, IfOk, IfSome, OnOk, List, length, map};
-ghost use Rattle.cut_net.specs.NetList.{AreNumbersOf, GoesOn, IsList, IsListOf, IsRepeat, IsRepeatAt, Repeats};
+ghost use Rattle.cut_net.specs.NetList.{AreNumbersOf, AddsFirstPiece, IsList, IsListOf, IsRepeat, IsRepeatAt, Repeats};
 ghost use Rattle.cut_net.specs.NetReading.{import_line, line_content, net_of};
-ghost use Rattle.cut_net.specs.NetText.{AreGood, IsNetLine, IsNetOutcome, NetLine, net_line, NetText, Module, Import, Spell, UnlessMemory};
+ghost use Rattle.cut_net.specs.NetText.{AreValidLines, IsNetLine, IsNetOutcome, NetLine, net_line, NetText, Module, Import, Spell, UnlessMemory};
 ghost use Rattle.cut_net.specs.WellFormed.{AreBetween};
 ghost use Rattle.cut_net.specs.declared.line_list.Stop.TheVariants.{Twice};
-ghost use Rattle.cut_net.specs.declared.line_list.Filled.TheVariants as filled;
+ghost use Rattle.cut_net.specs.declared.line_list.FillResult.TheVariants as filled;
 
-use crate::builder::{MOST_IMPORTS, MOST_NAMES, seed_of, text_read};
+use crate::builder::{MOST_IMPORTS, MOST_NAMES, seed_of, text_for_sizing};
 use crate::lines::{Line, parse_line, parse_line_within};
-use crate::numbering::{numbers_of, renumbered, sort_imports, sorted};
-use crate::ordering::{is_ascending, scan_for_repeat};
-use crate::recent::{ImportSlots, Recent};
+use crate::numbering::{numbers_of, renumbered_import, sort_imports, sorted};
+use crate::ordering::{are_imports_distinct, is_ascending};
+use crate::recent::{ImportSlots, NameCache};
 use crate::{NetFault, Priced};
 use indexmap::IndexSet;
 use std::alloc::{AllocError, AllocFailed, Global};
@@ -54,7 +54,7 @@ impl<T: Drop> From<AllocFailed<T>> for Stop {
 }
 
 /// How far a text was read.
-pub(crate) enum Filled {
+pub(crate) enum FillResult {
     /// To its end.
     Whole,
     /// To the line of this number, whose import an earlier line has.
@@ -66,9 +66,9 @@ pub(crate) enum Filled {
 }
 
 /// The number of bytes before the first check for repeats.
-const FIRST_LOOK: usize = 4096;
+const FIRST_CHECK: usize = 4096;
 
-/// The largest number of names in a table with the common seed.
+/// The largest number of names in a table with the fixed seed. For more names the seed is made from the text.
 const FEW_NAMES: usize = 1024;
 
 /// The names of the lines read so far, and their imports by the indices of the names.
@@ -76,7 +76,7 @@ const FEW_NAMES: usize = 1024;
 pub(crate) struct LineList {
     pub(crate) names: IndexSet<String, Seed>,
     pub(crate) imports: Vec<Priced>,
-    recent: Recent,
+    recent: NameCache,
     import_slots: ImportSlots,
     /// The number of bytes before the next check for repeats.
     look: usize,
@@ -92,9 +92,9 @@ impl LineList {
         LineList {
             names: IndexSet::with_hasher(alloc, seed),
             imports: Vec::new(alloc),
-            recent: Recent::new(alloc, bytes),
+            recent: NameCache::new(alloc, bytes),
             import_slots: ImportSlots::new(alloc, bytes),
-            look: FIRST_LOOK,
+            look: FIRST_CHECK,
             most,
         }
     }
@@ -175,7 +175,7 @@ impl LineList {
 
     /// Adds the first line of a text, which is delimited by its line end, and returns the rest.
     fn consume_first<'a>(&mut self, alloc: Global, text: &'a [u8]) -> Result<&'a [u8], Stop>
-        ensures goes_on { IfOk result (λ rest. (before : List NetLine) → IsList before self.old → GoesOn text.now rest.now before self.new) }
+        ensures goes_on { IfOk result (λ rest. (before : List NetLine) → IsList before self.old → AddsFirstPiece text.now rest.now before self.new) }
         ensures shorter { IfOk result (λ rest. 0 < length text.now → length rest.now < length text.now) }
         ensures twice { IfErr result (λ stop. stop ≡ Twice → (before : List NetLine) → IsList before self.old → Repeats text.now before self.new) }
     {
@@ -194,11 +194,12 @@ impl LineList {
 
     /// Whether no import of the list repeats: known at once if each has a slot, otherwise by a scan, unless its allocation fails. The
     /// next check follows after four times as many bytes.
-    fn check_for_repeat(&mut self, alloc: Global) -> bool
+    fn has_distinct_imports(&mut self, alloc: Global) -> bool
         ensures { (lines : List NetLine) → IsList lines self.old → IsList lines self.new }
     {
         self.look = self.look.saturating_mul(4);
-        self.import_slots.has_all() || scan_for_repeat(alloc, &self.imports).unwrap_or(true)
+        self.import_slots.has_slot_for_each()
+            || are_imports_distinct(alloc, &self.imports).unwrap_or(true)
     }
 
     /// Adds the next line, after this many bytes, and returns the rest. A line is parsed before its end is known, but not beyond the
@@ -209,7 +210,7 @@ impl LineList {
         text: &'a [u8],
         read: usize,
     ) -> Result<&'a [u8], Stop>
-        ensures goes_on { IfOk result (λ rest. (before : List NetLine) → IsList before self.old → GoesOn text.now rest.now before self.new) }
+        ensures goes_on { IfOk result (λ rest. (before : List NetLine) → IsList before self.old → AddsFirstPiece text.now rest.now before self.new) }
         ensures shorter { IfOk result (λ rest. 0 < length text.now → length rest.now < length text.now) }
         ensures twice { IfErr result (λ stop. stop ≡ Twice → (before : List NetLine) → IsList before self.old → Repeats text.now before self.new) }
     {
@@ -223,7 +224,7 @@ impl LineList {
                 Err(stop) => Err(stop),
             };
         }
-        if near < text.len() && !self.check_for_repeat(alloc) {
+        if near < text.len() && !self.has_distinct_imports(alloc) {
             return Err(Stop::Unread);
         }
         self.consume_first(alloc, text)
@@ -241,7 +242,7 @@ fn after_line_end(text: &[u8], near: usize) -> Option<&[u8]>
 }
 
 /// Adds the lines of the text to an empty list.
-fn fill(alloc: Global, bytes: &[u8], list: &mut LineList) -> Filled
+fn fill_list(alloc: Global, bytes: &[u8], list: &mut LineList) -> FillResult
     requires { IsList [] list.old }
     ensures whole { result ≡ filled.Whole → IsListOf bytes.now list.new }
     ensures twice { (line : ℕ) → result ≡ filled.Twice line → IsRepeatAt bytes.now line list.new }
@@ -253,25 +254,25 @@ fn fill(alloc: Global, bytes: &[u8], list: &mut LineList) -> Filled
         let read = bytes.len().saturating_sub(rest.len());
         match list.consume_line(alloc, rest, read) {
             Ok(after) => rest = after,
-            Err(Stop::Twice) => return Filled::Twice(line),
-            Err(Stop::Many) => return Filled::Many,
-            Err(Stop::Unread) => return Filled::Unread,
+            Err(Stop::Twice) => return FillResult::Twice(line),
+            Err(Stop::Many) => return FillResult::Many,
+            Err(Stop::Unread) => return FillResult::Unread,
         }
     }
-    Filled::Whole
+    FillResult::Whole
 }
 
-/// As `fill`, first with the common seed and a limit on the names, and beyond the limit again with the seed of the text. So few lines are
+/// As `fill_list`, first with the fixed seed and a limit on the names, and beyond the limit again with the seed of the text. So few lines are
 /// read twice, and no digest is computed for a text with an early error.
-fn fill_with_seed(alloc: Global, bytes: &[u8], list: &mut LineList) -> Filled
+fn fill_with_seed(alloc: Global, bytes: &[u8], list: &mut LineList) -> FillResult
     requires { IsList [] list.old }
     ensures whole { result ≡ filled.Whole → IsListOf bytes.now list.new }
     ensures twice { (line : ℕ) → result ≡ filled.Twice line → IsRepeatAt bytes.now line list.new }
 {
-    match fill(alloc, bytes, list) {
-        Filled::Many => {
+    match fill_list(alloc, bytes, list) {
+        FillResult::Many => {
             *list = LineList::new(alloc, bytes.len(), seed_of(bytes), MOST_NAMES);
-            fill(alloc, bytes, list)
+            fill_list(alloc, bytes, list)
         }
         ended => ended,
     }
@@ -279,7 +280,7 @@ fn fill_with_seed(alloc: Global, bytes: &[u8], list: &mut LineList) -> Filled
 
 /// Whether no import of the list repeats.
 fn has_no_repeat(alloc: Global, list: &LineList) -> Result<bool, AllocError>
-    ensures { IfOk result (λ apart. apart ≡ true → (lines : List NetLine) → IsList lines list.now → AreGood lines) }
+    ensures { IfOk result (λ apart. apart ≡ true → (lines : List NetLine) → IsList lines list.now → AreValidLines lines) }
 {
     let mut imports = list.imports.to_vec(alloc)?;
     sort_imports(&mut imports);
@@ -287,7 +288,7 @@ fn has_no_repeat(alloc: Global, list: &LineList) -> Result<bool, AllocError>
 }
 
 /// The imports with other numbers of their modules.
-fn renumbered_all(
+fn renumbered_imports(
     alloc: Global,
     numbers: &[u32],
     imports: &[Priced],
@@ -299,13 +300,16 @@ fn renumbered_all(
     let mut list = Vec::with_capacity(alloc, imports.len())?;
     for import in imports {
         let ends = (import.from as usize, import.to as usize);
-        list.push(renumbered(numbers, ends, import.amount))?;
+        list.push(renumbered_import(numbers, ends, import.amount))?;
     }
     Ok(list)
 }
 
 /// The names and imports of the network of the list's lines. None if an import repeats.
-fn ordered(alloc: Global, list: &LineList) -> Result<Option<(Vec<String>, Vec<Priced>)>, AllocError>
+fn sorted_if_distinct(
+    alloc: Global,
+    list: &LineList,
+) -> Result<Option<(Vec<String>, Vec<Priced>)>, AllocError>
     requires { (lines : List NetLine) × IsList lines list.now }
     ensures text { IfOk result (λ found. IfSome found (λ lists. (bytes : List ℕ) → IsListOf bytes list.now → NetText bytes (net_of lists.0.items lists.1.items))) }
     ensures few_names { IfOk result (λ found. IfSome found (λ lists. length lists.0.items ≤ 8192)) }
@@ -313,7 +317,7 @@ fn ordered(alloc: Global, list: &LineList) -> Result<Option<(Vec<String>, Vec<Pr
 {
     let names = sorted(alloc, list.names.as_slice())?;
     let numbers = numbers_of(alloc, list.names.as_slice(), &names)?;
-    let mut imports = renumbered_all(alloc, &numbers, &list.imports)?;
+    let mut imports = renumbered_imports(alloc, &numbers, &list.imports)?;
     sort_imports(&mut imports);
     if is_ascending(&imports) {
         Ok(Some((names, imports)))
@@ -333,16 +337,16 @@ pub(crate) fn lists_in_one_pass(
     ensures fault { IfErr result (λ fault. UnlessMemory fault (λ refusal. IsNetOutcome bytes.now (Err refusal))) }
 {
     let seed = Seed::for_keys(&[], 0);
-    let mut list = LineList::new(alloc, text_read(bytes).len(), seed, FEW_NAMES);
+    let mut list = LineList::new(alloc, text_for_sizing(bytes).len(), seed, FEW_NAMES);
     match fill_with_seed(alloc, bytes, &mut list) {
-        Filled::Whole => Ok(ordered(alloc, &list)?),
-        Filled::Twice(line) => {
+        FillResult::Whole => Ok(sorted_if_distinct(alloc, &list)?),
+        FillResult::Twice(line) => {
             if has_no_repeat(alloc, &list)? {
                 Err(NetFault::TwiceImport { line })
             } else {
                 Ok(None)
             }
         }
-        Filled::Many | Filled::Unread => Ok(None),
+        FillResult::Many | FillResult::Unread => Ok(None),
     }
 }

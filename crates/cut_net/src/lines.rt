@@ -4,8 +4,8 @@ ghost use Rattle.std.specs.List.{list_all};
 ghost use Rattle.cut_net.specs.NetText.{net_line, IsNetLine};
 ghost use Rattle.cut_net.specs.NetReading.{after_word, import_of, line_of_piece, line_content, module_of};
 
-use texts::fields::{cut_at_byte, field_name, field_number};
-use texts::prefixes::{parse_amount, parse_name, strip_byte};
+use texts::fields::{cut_at_byte, parse_field_name, parse_field_number};
+use texts::prefixes::{parse_name, parse_names_and_number, strip_byte};
 
 /// The content of a line.
 #[derive(Drop)]
@@ -17,7 +17,7 @@ pub(crate) enum Line<'a> {
 }
 
 /// The fields after a line's keyword and one space. The keyword has no space, so none is searched for.
-pub(crate) fn fields_after<'a>(word: &[u8], piece: &'a [u8]) -> Option<&'a [u8]>
+pub(crate) fn fields_after_keyword<'a>(word: &[u8], piece: &'a [u8]) -> Option<&'a [u8]>
     requires { list_all (λ b. not (b == 32)) word.now ≡ true }
     ensures { option_map (λ fields. fields.now) result ≡ after_word word.now piece.now }
 {
@@ -29,7 +29,7 @@ pub(crate) fn fields_after<'a>(word: &[u8], piece: &'a [u8]) -> Option<&'a [u8]>
 fn parse_module(fields: &[u8]) -> Option<Line<'_>>
     ensures { option_map line_content result ≡ module_of fields.now }
 {
-    Some(Line::Module(field_name(fields)?))
+    Some(Line::Module(parse_field_name(fields)?))
 }
 
 #[tactic(auto, unfolding(crate::specs::NetReading::import_of))]
@@ -38,9 +38,9 @@ fn parse_import(fields: &[u8]) -> Option<Line<'_>>
 {
     let (importer, rest) = cut_at_byte(fields, b' ')?;
     let (imported, weight) = cut_at_byte(rest, b' ')?;
-    let importer = field_name(importer)?;
-    let imported = field_name(imported)?;
-    Some(Line::Import(importer, imported, field_number(weight)?))
+    let importer = parse_field_name(importer)?;
+    let imported = parse_field_name(imported)?;
+    Some(Line::Import(importer, imported, parse_field_number(weight)?))
 }
 
 /// The line that these bytes are, without a line end.
@@ -48,10 +48,10 @@ fn parse_import(fields: &[u8]) -> Option<Line<'_>>
 pub(crate) fn parse_line(piece: &[u8]) -> Option<Line<'_>>
     ensures { option_map line_content result ≡ line_of_piece piece.now }
 {
-    if let Some(fields) = fields_after(b"module", piece) {
+    if let Some(fields) = fields_after_keyword(b"module", piece) {
         return parse_module(fields);
     }
-    parse_import(fields_after(b"import", piece)?)
+    parse_import(fields_after_keyword(b"import", piece)?)
 }
 
 /// The first line of the text, and the bytes after its line end. Parses in one pass without searching for the line end. None for a line
@@ -61,7 +61,7 @@ pub(crate) fn parse_first_line(text: &[u8]) -> Option<(Line<'_>, &[u8])>
     ensures text { IfSome result (λ x. text.now ≡ net_line (line_content x.0) ++ 10 ∷ x.1.now) }
 {
     if let Some(fields) = text.strip_prefix(b"import ") {
-        let ((importer, imported, weight), rest) = parse_amount(fields)?;
+        let ((importer, imported, weight), rest) = parse_names_and_number(fields)?;
         return Some((Line::Import(importer, imported, weight), rest));
     }
     let (name, rest) = parse_name(text.strip_prefix(b"module ")?)?;

@@ -11,7 +11,7 @@ ghost use Rattle.cut_net.specs.Prices.{as_weighed};
 ghost use Rattle.cut_net.specs.WellFormed.{IsNetwork};
 
 use crate::Priced;
-use crate::found::line_of;
+use crate::found::find_import;
 use std::alloc::Global;
 use std::marker::Model;
 
@@ -139,7 +139,7 @@ impl Net {
         ensures { IfSome (slice_get self.now.imports import) (λ i. result ≡ as_weighed self.now i) }
     {
         let import = self.imports[import as usize];
-        match line_of(self.pins.as_slice(), import) {
+        match find_import(self.pins.as_slice(), import) {
             Some(pin) => Priced {
                 from: import.from,
                 to: import.to,
@@ -156,7 +156,7 @@ impl Net {
         // It is whether the import is pinned.
         ensures { IfSome (slice_get self.now.imports import) (λ i. result ≡ is_pinned self.now i) }
     {
-        line_of(self.pins.as_slice(), self.imports[import as usize]).is_some()
+        find_import(self.pins.as_slice(), self.imports[import as usize]).is_some()
     }
 
     /// The pinned imports, strictly sorted, each with the weight that it had before it was pinned.

@@ -12,12 +12,12 @@ ghost use Rattle.cut_net.specs.WellFormed.{AreBetween, AreNamesInOrder};
 use crate::Priced;
 use crate::builder::NetBuilder;
 use crate::net::name_index;
-use crate::ordering::{in_order, is_ascending};
-use crate::recent::Recent;
+use crate::ordering::{is_ascending, sorted_by_counting};
+use crate::recent::NameCache;
 use std::alloc::{AllocError, Global};
 
 /// A copy of the names.
-pub(crate) fn copied(alloc: Global, names: &[String]) -> Result<Vec<String>, AllocError>
+pub(crate) fn copy_names(alloc: Global, names: &[String]) -> Result<Vec<String>, AllocError>
     ensures { IfOk result (λ copies. texts copies.items ≡ texts names.now) }
 {
     let mut copies = Vec::with_capacity(alloc, names.len())?;
@@ -33,7 +33,7 @@ pub(crate) fn sorted(alloc: Global, names: &[String]) -> Result<Vec<String>, All
     ensures ascending { IfOk result (λ sorted. AreNamesInOrder (texts sorted.items)) }
     ensures same { IfOk result (λ sorted. IsPermutation (texts names.now) (texts sorted.items)) }
 {
-    let mut sorted = copied(alloc, names)?;
+    let mut sorted = copy_names(alloc, names)?;
     sorted.sort_unstable();
     Ok(sorted)
 }
@@ -48,16 +48,16 @@ fn number_of(names: &[String], name: &str) -> u32
     name_index(names, name).unwrap() as u32
 }
 
-/// The number of a name, which is compared with the name at index `guess` before a binary search.
-fn number_by_guess(names: &[String], guess: usize, name: &str) -> u32
+/// The number of a name, which is compared with the name at index `cached_index` before a binary search.
+fn number_by_guess(names: &[String], cached_index: usize, name: &str) -> u32
     requires ascending { AreNamesInOrder (texts names.now) }
     requires few { length names.now ≤ 8192 }
     requires known { Contains (texts names.now) name.now }
     ensures within { result < length names.now }
     ensures place { slice_index_or (texts names.now) result [] ≡ name.now }
 {
-    if guess < names.len() && names[guess].as_str() == name {
-        guess as u32
+    if cached_index < names.len() && names[cached_index].as_str() == name {
+        cached_index as u32
     } else {
         number_of(names, name)
     }
@@ -75,17 +75,17 @@ pub(crate) fn numbers_of(
     ensures size { IfOk result (λ numbers. vec_len numbers ≡ length old.now) }
     ensures numbers { IfOk result (λ numbers. (k : ℕ) → k < length numbers.items → (slice_index numbers.items k < length (texts names.now)) × (slice_index_or (texts names.now) (slice_index numbers.items k) [] ≡ slice_index_or (texts old.now) k [])) }
 {
-    let slots = Recent::of(alloc, names);
+    let slots = NameCache::of(alloc, names);
     let mut numbers = Vec::with_capacity(alloc, old.len())?;
     for name in old {
         let name = name.as_str();
-        numbers.push(number_by_guess(names, slots.guess(name), name))?;
+        numbers.push(number_by_guess(names, slots.cached_index(name), name))?;
     }
     Ok(numbers)
 }
 
 /// The import with the indices of its names replaced by module numbers.
-pub(crate) fn renumbered(numbers: &[u32], ends: (usize, usize), amount: u64) -> Priced
+pub(crate) fn renumbered_import(numbers: &[u32], ends: (usize, usize), amount: u64) -> Priced
     requires placed { (ends.0 < length numbers.now) × (ends.1 < length numbers.now) }
     ensures between { (old names : List (List ℕ)) → ((k : ℕ) → k < length numbers.now → (slice_index numbers.now k < length names) × (slice_index_or names (slice_index numbers.now k) [] ≡ slice_index_or old k [])) → (result.from < length names) × (result.to < length names) }
     ensures line { (old names : List (List ℕ)) → ((k : ℕ) → k < length numbers.now → (slice_index numbers.now k < length names) × (slice_index_or names (slice_index numbers.now k) [] ≡ slice_index_or old k [])) → import_line names result ≡ entry_line old (ends, amount) }
@@ -98,7 +98,7 @@ pub(crate) fn renumbered(numbers: &[u32], ends: (usize, usize), amount: u64) -> 
 }
 
 /// The imports with module numbers, in order of first occurrence.
-fn numbered(
+fn numbered_imports(
     alloc: Global,
     builder: &NetBuilder,
     names: &[String],
@@ -113,7 +113,7 @@ fn numbered(
     let numbers = numbers_of(alloc, builder.names.as_slice(), names)?;
     let mut imports = Vec::with_capacity(alloc, builder.imports.len())?;
     for (ends, weight) in &builder.imports {
-        imports.push(renumbered(&numbers, *ends, *weight))?;
+        imports.push(renumbered_import(&numbers, *ends, *weight))?;
     }
     Ok(imports)
 }
@@ -129,7 +129,7 @@ pub fn sort_imports(imports: &mut Vec<Priced>)
     if is_ascending(imports) {
         return;
     }
-    if let Ok(Some(listed)) = in_order(*imports.allocator(), imports) {
+    if let Ok(Some(listed)) = sorted_by_counting(*imports.allocator(), imports) {
         *imports = listed;
         return;
     }
@@ -147,7 +147,7 @@ pub(crate) fn sorted_lists(
     ensures few_imports { IfOk result (λ lists. length lists.1.items ≤ 65536) }
 {
     let names = sorted(alloc, builder.names.as_slice())?;
-    let mut imports = numbered(alloc, builder, names.as_slice())?;
+    let mut imports = numbered_imports(alloc, builder, names.as_slice())?;
     sort_imports(&mut imports);
     Ok((names, imports))
 }

@@ -3,8 +3,8 @@ ghost use Rattle.std.specs.Prelude.{◌<◌, IfNone, IfOk, IfSome, length};
 ghost use Rattle.cut_net.specs.Pins.{IsLeastPinChain, PinChain};
 
 use crate::Net;
-use crate::cycle::pairs_of;
-use digraph::least_chain;
+use crate::cycle::import_edges;
+use digraph::shortest_path;
 use std::alloc::AllocError;
 
 impl Net {
@@ -23,7 +23,7 @@ impl Net {
     {
         self.invariants();
         let alloc = *self.names.allocator();
-        let pairs = pairs_of(alloc, self.pins())?;
-        least_chain(alloc, pairs.as_slice(), self.nodes() as usize, from, to)
+        let pairs = import_edges(alloc, self.pins())?;
+        shortest_path(alloc, pairs.as_slice(), self.nodes() as usize, from, to)
     }
 }

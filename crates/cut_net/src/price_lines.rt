@@ -2,9 +2,9 @@
 ghost use Rattle.std.specs.Prelude.{◌≡◌, option_map};
 ghost use Rattle.cut_net.specs.PriceReading.{line_content, pin_of_fields, price_line_of, price_of_fields};
 
-use crate::lines::fields_after;
+use crate::lines::fields_after_keyword;
 use crate::pin_state::Change;
-use texts::fields::{cut_at_byte, field_name, field_number};
+use texts::fields::{cut_at_byte, parse_field_name, parse_field_number};
 
 /// A line: the names of its import, and the change.
 #[derive(Clone, Copy)]
@@ -15,12 +15,12 @@ pub(crate) struct PriceLine<'a> {
 }
 
 #[tactic(auto, unfolding(crate::specs::PriceReading::pin_of_fields))]
-fn pin_in(fields: &[u8]) -> Option<PriceLine<'_>>
+fn parse_pin(fields: &[u8]) -> Option<PriceLine<'_>>
     ensures { option_map line_content result ≡ pin_of_fields fields.now }
 {
     let (importer, imported) = cut_at_byte(fields, b' ')?;
-    let importer = field_name(importer)?;
-    let imported = field_name(imported)?;
+    let importer = parse_field_name(importer)?;
+    let imported = parse_field_name(imported)?;
     Some(PriceLine {
         importer,
         imported,
@@ -29,14 +29,14 @@ fn pin_in(fields: &[u8]) -> Option<PriceLine<'_>>
 }
 
 #[tactic(auto, unfolding(crate::specs::PriceReading::price_of_fields))]
-fn price_in(fields: &[u8]) -> Option<PriceLine<'_>>
+fn parse_price(fields: &[u8]) -> Option<PriceLine<'_>>
     ensures { option_map line_content result ≡ price_of_fields fields.now }
 {
     let (importer, rest) = cut_at_byte(fields, b' ')?;
     let (imported, weight) = cut_at_byte(rest, b' ')?;
-    let importer = field_name(importer)?;
-    let imported = field_name(imported)?;
-    let weight = field_number(weight)?;
+    let importer = parse_field_name(importer)?;
+    let imported = parse_field_name(imported)?;
+    let weight = parse_field_number(weight)?;
     Some(PriceLine {
         importer,
         imported,
@@ -46,11 +46,11 @@ fn price_in(fields: &[u8]) -> Option<PriceLine<'_>>
 
 /// The line that these bytes are, without a line end.
 #[tactic(auto, unfolding(crate::specs::PriceReading::price_line_of))]
-pub(crate) fn price_line_in(piece: &[u8]) -> Option<PriceLine<'_>>
+pub(crate) fn parse_price_line(piece: &[u8]) -> Option<PriceLine<'_>>
     ensures { option_map line_content result ≡ price_line_of piece.now }
 {
-    if let Some(fields) = fields_after(b"pin", piece) {
-        return pin_in(fields);
+    if let Some(fields) = fields_after_keyword(b"pin", piece) {
+        return parse_pin(fields);
     }
-    price_in(fields_after(b"price", piece)?)
+    parse_price(fields_after_keyword(b"price", piece)?)
 }

@@ -7,6 +7,6 @@ pub struct Priced {
     pub from: u32,
     /// The number of the imported module.
     pub to: u32,
-    /// The number of qualified references across the import, or the flow on it.
+    /// The weight of the import or the flow on it. In the network of a tree the unit is one qualified reference.
     pub amount: u64,
 }

@@ -7,14 +7,14 @@ ghost use Rattle.cut_net.specs.declared.pin_state.Change.{Change};
 ghost use Rattle.cut_net.specs.declared.pin_state.PinState.{PinState};
 ghost use Rattle.cut_net.specs.Network.{Network, missing_item};
 ghost use Rattle.cut_net.specs.Pins.{most_weight};
-ghost use Rattle.cut_net.specs.Prices.{import_as, is_named, pin_as, pin_state_of, with_pin_states, changed_state, initial_state, IsPriceOutcome, PriceLine, HasOutcome, UnlessMemory};
-ghost use Rattle.cut_net.specs.PriceReading.{unpinned_part, AreChanges, AreChangesOf, Notes};
+ghost use Rattle.cut_net.specs.Prices.{import_with_state, is_named, pin_of_state, pin_state_of, with_pin_states, changed_state, initial_state, IsPriceOutcome, PriceLine, HasOutcome, UnlessMemory};
+ghost use Rattle.cut_net.specs.PriceReading.{unpinned_part, AreChanges, AreChangesOf, TakesPricePiece};
 
-use crate::found::{import_index, line_of};
-use crate::numbering::copied;
+use crate::found::{find_import, find_import_index};
+use crate::numbering::copy_names;
 use crate::pin_state::{Change, PinState};
 use crate::price_fault::PriceLineFault;
-use crate::price_lines::price_line_in;
+use crate::price_lines::parse_price_line;
 use crate::{Net, PriceFault, Priced};
 use std::alloc::{AllocError, Global};
 
@@ -22,7 +22,7 @@ use std::alloc::{AllocError, Global};
 const MOST_WEIGHT: u64 = 1 << 40;
 
 /// The number of the import between the modules of two names; none if the network lacks it.
-pub fn import_named(net: &Net, importer: &str, imported: &str) -> Option<usize>
+pub fn find_import_number(net: &Net, importer: &str, imported: &str) -> Option<usize>
     // It is the number of an import between the modules of these names.
     ensures found { IfSome result (λ k. (k < length net.now.imports) × (is_named net.now importer.now imported.now (slice_index_or net.now.imports k missing_item) ≡ true)) }
     // Without a result the network has no import between them.
@@ -31,7 +31,7 @@ pub fn import_named(net: &Net, importer: &str, imported: &str) -> Option<usize>
     net.invariants();
     let from = net.index_of(importer)?;
     let to = net.index_of(imported)?;
-    import_index(
+    find_import_index(
         net.imports(),
         Priced {
             from,
@@ -44,16 +44,16 @@ pub fn import_named(net: &Net, importer: &str, imported: &str) -> Option<usize>
 /// Records the change of the line that these bytes are, at the number of its import; nothing for an empty line.
 fn note(net: &Net, changes: &mut Vec<Option<Change>>, piece: &[u8]) -> Result<(), PriceLineFault>
     requires { length changes.old.items ≡ length net.now.imports }
-    ensures { (before : List PriceLine) → AreChanges net.now before changes.old.items → Notes net.now before piece.now result changes.new.items }
+    ensures { (before : List PriceLine) → AreChanges net.now before changes.old.items → TakesPricePiece net.now before piece.now result changes.new.items }
 {
     net.invariants();
     if piece.is_empty() {
         return Ok(());
     }
-    let Some(line) = price_line_in(piece) else {
+    let Some(line) = parse_price_line(piece) else {
         return Err(PriceLineFault::BadLine);
     };
-    let Some(number) = import_named(net, line.importer, line.imported) else {
+    let Some(number) = find_import_number(net, line.importer, line.imported) else {
         return Err(PriceLineFault::NoSuchImport);
     };
     if changes[number].is_some() {
@@ -64,7 +64,7 @@ fn note(net: &Net, changes: &mut Vec<Option<Change>>, piece: &[u8]) -> Result<()
 }
 
 /// For each import its change, none without a line; or the error of the first line that has one.
-fn changes_of(alloc: Global, net: &Net, bytes: &[u8]) -> Result<Vec<Option<Change>>, PriceFault>
+fn read_changes(alloc: Global, net: &Net, bytes: &[u8]) -> Result<Vec<Option<Change>>, PriceFault>
     ensures changes { IfOk result (λ changes. AreChangesOf net.now bytes.now changes.items) }
     ensures fault { IfErr result (λ fault. UnlessMemory fault (IsPriceOutcome net.now bytes.now (Err fault))) }
 {
@@ -114,14 +114,14 @@ fn pin_states_of(
     let imports = net.imports();
     let mut pin_states = Vec::new(alloc);
     for number in 0..imports.len() {
-        let pin = line_of(net.pins(), imports[number]);
+        let pin = find_import(net.pins(), imports[number]);
         pin_states.push(pin_state_after(imports[number], pin, changes[number]))?;
     }
     Ok(pin_states)
 }
 
 /// Whether the weights of the unpinned imports sum to at most 2^40.
-fn is_light(pin_states: &[PinState]) -> bool
+fn are_weights_in_limit(pin_states: &[PinState]) -> bool
     ensures { IsTrue result ↔ (sum_by unpinned_part pin_states.now ≤ most_weight) }
 {
     let mut total: u64 = 0;
@@ -137,8 +137,8 @@ fn is_light(pin_states: &[PinState]) -> bool
 }
 
 /// The import with the weight of its state.
-fn import_as(import: Priced, pin_state: PinState) -> Priced
-    ensures { result ≡ import_as import pin_state }
+fn import_with_state(import: Priced, pin_state: PinState) -> Priced
+    ensures { result ≡ import_with_state import pin_state }
 {
     let amount = match pin_state {
         PinState::Weighs(weight) => weight,
@@ -152,29 +152,29 @@ fn import_as(import: Priced, pin_state: PinState) -> Priced
 }
 
 /// The imports with the weights of their states.
-fn imports_as(
+fn imports_with_states(
     alloc: Global,
     imports: &[Priced],
     pin_states: &[PinState],
 ) -> Result<Vec<Priced>, AllocError>
     requires { length pin_states.now ≡ length imports.now }
-    ensures { IfOk result (λ changed. (pin_state : Priced → PinState) → pin_states.now ≡ map pin_state imports.now → changed.items ≡ map (λ i. import_as i (pin_state i)) imports.now) }
+    ensures { IfOk result (λ changed. (pin_state : Priced → PinState) → pin_states.now ≡ map pin_state imports.now → changed.items ≡ map (λ i. import_with_state i (pin_state i)) imports.now) }
 {
     let mut changed = Vec::new(alloc);
     for number in 0..imports.len() {
-        changed.push(import_as(imports[number], pin_states[number]))?;
+        changed.push(import_with_state(imports[number], pin_states[number]))?;
     }
     Ok(changed)
 }
 
 /// The pinned imports, each with the weight that it had before it was pinned.
-fn pins_as(
+fn pins_of_states(
     alloc: Global,
     imports: &[Priced],
     pin_states: &[PinState],
 ) -> Result<Vec<Priced>, AllocError>
     requires { length pin_states.now ≡ length imports.now }
-    ensures { IfOk result (λ pins. (pin_state : Priced → PinState) → pin_states.now ≡ map pin_state imports.now → pins.items ≡ flat_map (λ i. pin_as i (pin_state i)) imports.now) }
+    ensures { IfOk result (λ pins. (pin_state : Priced → PinState) → pin_states.now ≡ map pin_state imports.now → pins.items ≡ flat_map (λ i. pin_of_state i (pin_state i)) imports.now) }
 {
     let mut pins = Vec::new(alloc);
     for number in 0..imports.len() {
@@ -196,9 +196,9 @@ fn with_pin_states(alloc: Global, net: &Net, pin_states: &[PinState]) -> Result<
     ensures { IfOk result (λ changed. (pin_state : Priced → PinState) → pin_states.now ≡ map pin_state net.now.imports → changed ≡ with_pin_states net.now pin_state) }
 {
     net.invariants();
-    let names = copied(alloc, net.names.as_slice())?;
-    let imports = imports_as(alloc, net.imports(), pin_states)?;
-    let pins = pins_as(alloc, net.imports(), pin_states)?;
+    let names = copy_names(alloc, net.names.as_slice())?;
+    let imports = imports_with_states(alloc, net.imports(), pin_states)?;
+    let pins = pins_of_states(alloc, net.imports(), pin_states)?;
     Ok(Net::with_pins(names, imports, pins))
 }
 
@@ -222,9 +222,9 @@ impl Net {
         ensures { HasOutcome result (IsPriceOutcome self.now bytes.now) }
     {
         let alloc = *self.names.allocator();
-        let changes = changes_of(alloc, self, bytes)?;
+        let changes = read_changes(alloc, self, bytes)?;
         let pin_states = pin_states_of(alloc, self, &changes)?;
-        if !is_light(&pin_states) {
+        if !are_weights_in_limit(&pin_states) {
             return Err(PriceFault::PriceOverflow);
         }
         Ok(with_pin_states(alloc, self, &pin_states)?)

@@ -10,7 +10,7 @@ ghost use Rattle.cut_net.specs.Cuts.{Any, Imports};
 ghost use Rattle.cut_net.specs.WellFormed.{AreBetween, IsAcyclic};
 
 use crate::builder::{NetBuilder, seed_of};
-use crate::cycle::cycle_of;
+use crate::cycle::find_canonical_cycle;
 use crate::line_list::lists_in_one_pass;
 use crate::numbering::{fits, names_of_nodes, sorted_lists};
 use crate::{Net, NetFault, Priced};
@@ -78,14 +78,14 @@ fn names_on_cycle(
     ensures named { IfOk result (λ found. IfSome found (λ named. (cycle : List ℕ) × IsCanonicalCycle (Imports imports.now Any) cycle × (texts named.items ≡ map (λ m. slice_index_or (texts names.now) m []) cycle))) }
     ensures none { IfOk result (λ found. IfNone found (IsAcyclic imports.now)) }
 {
-    match cycle_of(alloc, imports, names.len())? {
+    match find_canonical_cycle(alloc, imports, names.len())? {
         None => Ok(None),
         Some(cycle) => Ok(Some(names_of_nodes(alloc, names, cycle.as_slice())?)),
     }
 }
 
 /// The network of the text, or its first error.
-fn net_in(alloc: Global, bytes: &[u8]) -> Result<Net, NetFault>
+fn read_net(alloc: Global, bytes: &[u8]) -> Result<Net, NetFault>
     ensures { HasOutcome result (IsNetOutcome bytes.now) }
 {
     let (names, imports) = lists_of_text(alloc, bytes)?;
@@ -110,6 +110,6 @@ impl Net {
         // Any outcome of the text is the result, unless an allocation failed.
         ensures only { (o : Result Network NetError) → IsNetOutcome bytes.now o → HasOutcome result (λ p. p ≡ o) }
     {
-        net_in(alloc, bytes)
+        read_net(alloc, bytes)
     }
 }

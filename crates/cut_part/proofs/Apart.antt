@@ -1,4 +1,4 @@
--- Flows by number and flows by ends are the same where no two imports have the same ends: no order is needed.
+-- Flows by import number and flows by the ends of imports agree if no two imports have the same ends, in any order.
 use Rattle.std.proofs.Common.{◌≡◌, ℕ, zero, suc, ◌<◌, Bool, true, false, eqb, ◌&&◌, List, [], ◌∷◌, length, map, get_or, refl, ◌∙◌, arith}
 use Rattle.std.proofs.lemmas.Bool.{false_from_ne_true}
 use Rattle.std.proofs.lemmas.List.{length-map, get_or-map}
@@ -10,7 +10,7 @@ use Rattle.cut_part.specs.Apart.{AreApart, flow_lines}
 use Rattle.cut_part.specs.CapacityReduction.{import_in}
 use Rattle.cut_part.specs.Reversal.{reversed}
 
--- imports in order are apart
+-- strictly sorted imports have distinct ends
 pub ascending_apart : (imports : List Priced) → IsAscending imports → AreApart imports
 ascending_apart imports up j k d less in_k =
     false_from_ne_true _ (λ t. apart {i = get_or imports j d} {j = get_or imports k d} (before_from (get_or imports j d) (get_or imports k d) (up j k d less in_k)) (same_sym (same_from (get_or imports k d) (get_or imports j d) t)))
@@ -21,7 +21,7 @@ both_orders true false = refl
 both_orders false true = refl
 both_orders false false = refl
 
--- and so they are when each is turned round
+-- and so have the reversed imports
 pub turned_apart : (imports : List Priced) → AreApart imports → AreApart (map reversed imports)
 turned_apart imports are j k d less in_k =
     let len = length-map imports reversed in

@@ -1,4 +1,4 @@
--- An import that is lowered to what is enough loses no flow, and a flow that is greatest then was greatest before.
+-- Reducing the weight of an import to one that suffices loses no flow, and a maximum flow of the reduced network is one of the original.
 use Rattle.std.proofs.Common.{◌≡◌, ◌≢◌, ℕ, ◌+◌, ◌≤◌, ◌<◌, ◌==◌, Bool, true, false, cond, not, eqb, ◌&&◌, List, [], ◌∷◌, length, get_or, refl, sym, ap, ◌∙◌, subst, arith, inl, inr}
 use Rattle.std.specs.Prelude.{Contains}
 use Rattle.std.proofs.lemmas.Bool.{cases_Bool, cases_eq, cases_lt, both_ways, eq-eqb, ne_eqb, cond-true}
@@ -13,7 +13,7 @@ use Rattle.cut_net.specs.Cuts.{entering, leaving, leaves, IsFlow}
 use Rattle.cut_net.specs.Lines.{flow_by, edge_of}
 use Rattle.cut_net.proofs.ListSums.{sum_by-mono, sum_by-both, sum_by-tight}
 use Rattle.cut_net.proofs.Duality.{across, enters, cond_le}
-use Rattle.cut_part.specs.CapacityReduction.{ends_of, import_in, weighing, reweighed, weight_leaving, weight_entering, IsBarred, IsBarrier, IsByEnds, IsEnough, IsMaxFlow, IsReducedAt, AreReductions, IsReduced}
+use Rattle.cut_part.specs.CapacityReduction.{ends_of, import_in, weighing, reweighed, weight_leaving, weight_entering, IsBarred, IsBarrier, DependsOnEndsOnly, IsEnough, IsMaxFlow, IsReducedAt, AreReductions, IsReduced}
 use Rattle.cut_part.proofs.Sums.{same_entering, same_leaving, sum_one, sum_two}
 
 -- what holds at each number holds of each import, and each import has its number
@@ -89,7 +89,7 @@ module _ (net : Network) (a b : ℕ) (flow : Priced → ℕ) (value : ℕ) (is_f
       let same : cond (i.from == i.from) (flow i) 0 ≡ flow i = cond-true (i.from == i.from) (flow i) 0 (eq-eqb i.from i.from refl) in
       omega arith
 
-  -- what is enough holds the flow
+  -- a weight that suffices is at least the flow
   pub enough_holds : AreBetween net.imports (length net.names) → a < length net.names → a ≢ b →
       (k amount : ℕ) → k < length net.imports → IsEnough net a b (import_in net.imports k) amount → flow (import_in net.imports k) ≤ amount
   enough_holds between a_in apart k amount h enough =
@@ -104,8 +104,8 @@ module _ (net : Network) (a b : ℕ) (flow : Priced → ℕ) (value : ℕ) (is_f
 pub ends_reweighed : (net : Network) (k amount : ℕ) → ends_of (reweighed net k amount).imports ≡ ends_of net.imports
 ends_reweighed net k amount = map-set_same edge_of net.imports k (weighing (import_in net.imports k) amount) missing_item refl
 
-module _ (net : Network) (a b : ℕ) (flow : Priced → ℕ) (value : ℕ) (by_ends : IsByEnds flow) (k amount : ℕ) (present : k < length net.imports) where
-  -- an import of the new network is the one that was lowered, or was there
+module _ (net : Network) (a b : ℕ) (flow : Priced → ℕ) (value : ℕ) (by_ends : DependsOnEndsOnly flow) (k amount : ℕ) (present : k < length net.imports) where
+  -- an import of the new network is the one that was reduced, or was there
   import_now : (j : ℕ) → (j ≡ k → import_in (reweighed net k amount).imports j ≡ weighing (import_in net.imports k) amount) × (j ≢ k → import_in (reweighed net k amount).imports j ≡ import_in net.imports j)
   import_now j = (
     λ e. rw e (get_or-set_same net.imports k (weighing (import_in net.imports k) amount) missing_item present),
@@ -130,7 +130,7 @@ module _ (net : Network) (a b : ℕ) (flow : Priced → ℕ) (value : ℕ) (by_e
         at_start = let i = into a in let o = out a in let s = is_flow.at_start in omega arith;
       }
 
-  -- an import but the one that was lowered is in the new network
+  -- an import but the one that was reduced is in the new network
   still_there : (j : ℕ) → j < length net.imports → j ≢ k → Contains (reweighed net k amount).imports (import_in net.imports j)
   still_there j h ne =
       subst (Contains (reweighed net k amount).imports) ((import_now j).1 ne)
@@ -142,7 +142,7 @@ module _ (net : Network) (a b : ℕ) (flow : Priced → ℕ) (value : ℕ) (by_e
       (renumbering (reweighed net k amount).imports k (omega (arith, length-set net.imports k (weighing (import_in net.imports k) amount))))
 
   module _ (modules : ℕ → Bool) (barrier : IsBarrier (reweighed net k amount) flow a b modules) where
-    -- where the lowered import doesn't lead out of the modules they are a barrier as they are
+    -- where the reduced import doesn't lead out of the modules they are a barrier as they are
     same_barrier : (modules (import_in net.imports k).from ≡ true → modules (import_in net.imports k).to ≡ true) → IsBarrier net flow a b modules
     same_barrier goes = record {
       start = barrier.start;
@@ -314,7 +314,7 @@ still_between xs ys n e between = at_numbers xs (λ i. (i.from < n) × (i.to < n
 
 module _ (old new : Network) (a b : ℕ) (reduced_capacities : IsReduced old new a b) where
   -- a flow of the new network is one of the old network
-  pub flow_back : (flow : Priced → ℕ) (value : ℕ) → IsByEnds flow → IsFlow new a b flow value → IsFlow old a b flow value
+  pub flow_back : (flow : Priced → ℕ) (value : ℕ) → DependsOnEndsOnly flow → IsFlow new a b flow value → IsFlow old a b flow value
   flow_back flow value by_ends is_flow =
       let into = λ (m : ℕ). same_entering flow by_ends new.imports old.imports m reduced_capacities.ends in
       let out = λ (m : ℕ). same_leaving flow by_ends new.imports old.imports m reduced_capacities.ends in
@@ -329,12 +329,12 @@ module _ (old new : Network) (a b : ℕ) (reduced_capacities : IsReduced old new
         at_start = let i = into a in let o = out a in let s = is_flow.at_start in omega arith;
       }
 
-  pub greatest_back : (flow : Priced → ℕ) (value : ℕ) → IsByEnds flow → IsMaxFlow new a b flow value → IsMaxFlow old a b flow value
+  pub greatest_back : (flow : Priced → ℕ) (value : ℕ) → DependsOnEndsOnly flow → IsMaxFlow new a b flow value → IsMaxFlow old a b flow value
   greatest_back flow value by_ends greatest =
       let is_flow = flow_back flow value by_ends greatest.is_flow in
       record { is_flow = is_flow; barred = reduced_capacities.barred flow value by_ends is_flow greatest.barred }
 
--- two narrowings, one after the other
+-- two reductions, one after the other
 pub narrowed_twice : (one two three : Network) (a b : ℕ) → IsReduced one two a b → IsReduced two three a b → IsReduced one three a b
 narrowed_twice one two three a b first second = record {
   names = second.names ∙ first.names;
@@ -364,6 +364,6 @@ lowered_all ((k, amount) ∷ steps) old new a b between a_in apart (step, more) 
     narrowed_twice old (reweighed old k amount) new a b (lowered_at old (reweighed old k amount) a b k amount between a_in apart step)
     (lowered_all steps (reweighed old k amount) new a b (still_between (reweighed old k amount).imports old.imports (length old.names) (ends_reweighed old k amount) between) a_in apart more)
 
--- a flow by lines is told by the ends
-pub by_lines : (lines : List Priced) → IsByEnds (flow_by lines)
+-- a flow given by lines depends only on the ends of an import
+pub by_lines : (lines : List Priced) → DependsOnEndsOnly (flow_by lines)
 by_lines lines i j e f = rw (e, f) refl

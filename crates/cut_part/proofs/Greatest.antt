@@ -1,11 +1,11 @@
--- A flow whose residual imports don't lead from a to b has the greatest value.
+-- A flow in whose residual graph b isn't reachable from a has the maximum value.
 use Rattle.std.proofs.Common.{◌≡◌, ℕ, ◌≤◌, ◌<◌, Bool, true, false, cond, not, List, [], ◌∷◌, length, refl, ◌∙◌, arith, sum_by, inl, inr}
 use Rattle.std.proofs.lemmas.Bool.{cases_Bool, both_ways, and_parts, not-true, cases_lt}
 use Rattle.std.proofs.lemmas.List.Sums.{sum_by-cons}
 use Rattle.cut_net.specs.declared.priced.Priced.{Priced}
 use Rattle.cut_net.specs.Network.{Network}
 use Rattle.cut_net.specs.WellFormed.{AreBetween}
-use Rattle.cut_net.specs.Cuts.{leaves, weight, AreThose, IsFlow, Reached}
+use Rattle.cut_net.specs.Cuts.{leaves, weight, IsSetOf, IsFlow, Reached}
 use Rattle.cut_net.proofs.ListSums.{sum_by-same}
 use Rattle.cut_net.proofs.Duality.{across, enters, value_within}
 use Rattle.cut_part.specs.CapacityReduction.{IsBarred, IsBarrier}
@@ -23,7 +23,7 @@ cond_zero true x h = h refl
 cond_zero false x h = refl
 
 module _ (net : Network) (a b : ℕ) (flow : Priced → ℕ) (value : ℕ) (between : AreBetween net.imports (length net.names)) (a_in : a < length net.names) (is_flow : IsFlow net a b flow value) where
-  -- the imports that leave a barrier weigh what the flow carries
+  -- the imports that leave a separating set weigh as much as the flow's value
   pub barrier_weighs : (modules : ℕ → Bool) → IsBarrier net flow a b modules → weight net.imports (leaves modules) ≡ value
   barrier_weighs modules barrier =
       let e = across net a b flow value modules between a_in is_flow (record { start = barrier.start; end = barrier.end }) in
@@ -51,7 +51,7 @@ module _ (net : Network) (a b : ℕ) (flow : Priced → ℕ) (value : ℕ) (betw
       omega arith
 
 -- so what is reached lacks b
-pub end_unreached : (net : Network) (a b : ℕ) (flow : Priced → ℕ) (modules : ℕ → Bool) → IsBarred net flow a b → AreThose modules (Reached net flow a) → modules b ≡ false
+pub end_unreached : (net : Network) (a b : ℕ) (flow : Priced → ℕ) (modules : ℕ → Bool) → IsBarred net flow a b → IsSetOf modules (Reached net flow a) → modules b ≡ false
 end_unreached net a b flow modules barred those =
     elim (cases_Bool (modules b)) [
       | inl t ↦ absurd (both_ways (barred.0 b) barred.1.end ((those b).0 t barred.0 barred.1.start barred.1.closed))
@@ -59,7 +59,7 @@ end_unreached net a b flow modules barred those =
     ]
 
 -- and where b isn't reached they don't lead to it
-pub barrier_by_reached : (net : Network) (a b : ℕ) (flow : Priced → ℕ) (modules : ℕ → Bool) → AreThose modules (Reached net flow a) → modules b ≡ false → IsBarrier net flow a b modules
+pub barrier_by_reached : (net : Network) (a b : ℕ) (flow : Priced → ℕ) (modules : ℕ → Bool) → IsSetOf modules (Reached net flow a) → modules b ≡ false → IsBarrier net flow a b modules
 barrier_by_reached net a b flow modules those end = record {
   start = (those a).1 (λ _ start _. start);
   end = end;

@@ -1,4 +1,4 @@
--- What a search over the imports marks, and what comes of the marks.
+-- The modules that a search over the imports flags, and the flags of the subnetwork.
 use Rattle.std.proofs.Common.{◌≡◌, ℕ, ◌-◌, ◌≤◌, ◌<◌, Bool, true, false, ◌&&◌, List, [], ◌∷◌, length, map, get_or, refl, sym, ap, ◌∙◌, subst, arith}
 use Rattle.std.specs.Prelude.{All}
 use Rattle.std.proofs.lemmas.Bool.{and_parts, and_from}
@@ -8,7 +8,7 @@ use Rattle.digraph.proofs.Members.{from_map}
 use Rattle.cut_net.specs.declared.priced.Priced.{Priced}
 use Rattle.cut_net.specs.Network.{Network, missing_item}
 use Rattle.cut_net.specs.WellFormed.{AreBetween}
-use Rattle.cut_net.specs.Cuts.{Any, AreThose, Chain, IsChain}
+use Rattle.cut_net.specs.Cuts.{Any, IsSetOf, Chain, IsChain}
 use Rattle.residual_graph.specs.declared.arc.Arc.{Arc}
 use Rattle.residual_graph.specs.Graphs.{no_arc, room, head, tail, is_flagged, AreClosed, AreReached}
 use Rattle.residual_graph.proofs.Walking.{along, reaches_itself}
@@ -72,7 +72,7 @@ module _ (imports : List Priced) where
     are_chained m =
         (to_chain m, λ (more, chain). along_chain start ((reached.each start).1 (start_in, reaches_itself (map open_arc imports) start)) more m chain)
 
--- a chain over the turned imports, the other way
+-- a path of reversed imports, read backwards
 pub chain_back : (imports : List Priced) (b : ℕ) (more : List ℕ) (m : ℕ) → IsChain (map reversed imports) Any b more m → Chain imports Any m b
 chain_back imports b [] m e = ([], sym e)
 chain_back imports b (n ∷ more) m ((i, c, from, to, any), rest) =
@@ -86,9 +86,9 @@ pub chain_forth : (imports : List Priced) (b : ℕ) (more : List ℕ) (m : ℕ) 
 chain_forth imports b more m chain =
     chain_back (map reversed imports) m more b (subst (λ (all : List Priced). IsChain all Any m more b) (sym (twice imports)) chain)
 
--- the marks of both searches are those of the modules between
+-- the flags of both searches are those of the modules between
 pub both_between : (net : Network) (a b : ℕ) (forth back marks : List Bool) → AreReachable net.imports a forth → AreReachable (map reversed net.imports) b back →
-    ((m : ℕ) → is_flagged marks m ≡ (is_flagged forth m && is_flagged back m)) → AreThose (is_flagged marks) (IsBetween net a b)
+    ((m : ℕ) → is_flagged marks m ≡ (is_flagged forth m && is_flagged back m)) → IsSetOf (is_flagged marks) (IsBetween net a b)
 both_between net a b forth back marks from_a to_b both m = (
   λ t.
       let parts = and_parts (is_flagged forth m) (is_flagged back m) (sym (both m) ∙ t) in

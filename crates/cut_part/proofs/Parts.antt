@@ -1,4 +1,4 @@
--- The part as a network, and what is so of it told of the whole one.
+-- The subnetwork as a network, and its properties as properties of the whole network.
 use Rattle.std.proofs.Common.{◌≡◌, ℕ, suc, ◌≤◌, ◌<◌, ◌==◌, Bool, true, false, cond, not, List, [], ◌∷◌, length, map, filter, get_or, set, refl, sym, ap, ◌∙◌, subst, arith, sum_by, inl, inr, get_or-set_same, get_or-set_other}
 use Rattle.std.specs.Prelude.{All, Contains}
 use Rattle.std.specs.Cmp.Lexicographic.{slice_cmp}
@@ -17,13 +17,13 @@ use Rattle.digraph.proofs.SpreadMarks.{mark_within}
 use Rattle.cut_net.specs.declared.priced.Priced.{Priced}
 use Rattle.cut_net.specs.Network.{Network, name_of, missing_item}
 use Rattle.cut_net.specs.WellFormed.{AreBetween, AreNamesInOrder, IsAcyclic, IsNetwork}
-use Rattle.cut_net.specs.Cuts.{Any, AreThose, AreReported, Chain, IsChain, IsFlow, Imports}
+use Rattle.cut_net.specs.Cuts.{Any, IsSetOf, AreReported, Chain, IsChain, IsFlow, Imports}
 use Rattle.cut_net.specs.Lines.{IsAscending, comes_before}
 use Rattle.cut_net.proofs.Ends.{before_from, before_true}
 use Rattle.cut_net.proofs.ListSums.{here, present, sum_by-mono, sum_by-same}
 use Rattle.residual_graph.specs.Graphs.{is_flagged}
 use Rattle.cut_part.specs.Subnetworks.{are_ends_in, part_of, IsBetween}
-use Rattle.cut_part.specs.Marks.{flow_in_net, reported_in_net, with_ends, IsNumbering, IsPart}
+use Rattle.cut_part.specs.Marks.{flow_in_net, reported_in_net, with_ends, IsNumbering, IsSubnetwork}
 use Rattle.cut_part.specs.CapacityReduction.{IsMaxFlow}
 use Rattle.cut_part.specs.Renumbering.{flow_renumbered, renumbered, IsRenumbered}
 use Rattle.cut_part.proofs.Subnetworks.{cond_le, flow_of_part, greatest_of_part, has_chain, chain_there, has_chain-true, has_chain-false, onward, sum_by-filter}
@@ -31,7 +31,7 @@ use Rattle.cut_part.proofs.PrintedBetween.{same_printed}
 use Rattle.cut_part.proofs.Renumbering.{flow_up_is, greatest_up_is, printed_up_is}
 use Rattle.cut_part.proofs.Sums.{sum_by-map}
 
--- a module that was marked is marked still, and both ends are
+-- a module that was flagged is flagged still, and both ends are
 set_still : (marks : List Bool) (k m : ℕ) → is_flagged marks m ≡ true → is_flagged (set marks k true) m ≡ true
 set_still marks k m t =
     let in_marks = mark_within marks m t in
@@ -67,8 +67,8 @@ names_of_ascending net up (m ∷ more) low ascend = (
 )
 
 module _ (net : Network) (a b : ℕ) (marks : List Bool) (numbers new_numbers : List ℕ) (size : length marks ≡ length net.names)
-    (between : AreThose (is_flagged marks) (IsBetween net a b)) (is : IsNumbering (with_ends marks a b) numbers new_numbers) where
-  -- the lines between marked modules, by the places of these
+    (between : IsSetOf (is_flagged marks) (IsBetween net a b)) (is : IsNumbering (with_ends marks a b) numbers new_numbers) where
+  -- the lines between flagged modules, by the indices of these
   abbrev pub small_lines : List Priced → List Priced
   small_lines lines = map (renumbered (λ m. get_or new_numbers m 0)) (filter (are_ends_in (is_flagged marks)) lines)
 
@@ -118,7 +118,7 @@ module _ (net : Network) (a b : ℕ) (marks : List Bool) (numbers new_numbers : 
     between = lines_between net.imports;
   }
 
-  pub is_part : IsPart net a b marks numbers new_numbers small
+  pub is_part : IsSubnetwork net a b marks numbers new_numbers small
   is_part = record { between = between; size = size; renumbering = is; count = count_names; renumbered = is_renumbered }
 
   pub numbers_low : All (λ m. m < length net.names) numbers
@@ -127,7 +127,7 @@ module _ (net : Network) (a b : ℕ) (marks : List Bool) (numbers new_numbers : 
       let low = is.low k h in
       rw (get_or_default numbers k d 0 h) (omega arith)
 
-  -- the places of marked modules ascend
+  -- the indices of flagged modules ascend
   places_ascend : (m n : ℕ) → is_flagged (with_ends marks a b) m ≡ true → is_flagged (with_ends marks a b) n ≡ true → m < n → get_or new_numbers m 0 < get_or new_numbers n 0
   places_ascend m n m_in n_in less =
       let at_m = is.number_is m m_in in
@@ -248,8 +248,8 @@ greatest_same net a b flow other value same greatest = record {
   );
 }
 
--- a marked module has its name
-pub name_of_small : (net : Network) (a b : ℕ) (marks : List Bool) (numbers new_numbers : List ℕ) (small : Network) → IsPart net a b marks numbers new_numbers small →
+-- a flagged module has its name
+pub name_of_small : (net : Network) (a b : ℕ) (marks : List Bool) (numbers new_numbers : List ℕ) (small : Network) → IsSubnetwork net a b marks numbers new_numbers small →
     (m : ℕ) → is_flagged marks m ≡ true → name_of small (get_or new_numbers m 0) ≡ name_of net m
 name_of_small net a b marks numbers new_numbers small part m t =
     let t_too = still_marked marks a b m t in
@@ -257,9 +257,9 @@ name_of_small net a b marks numbers new_numbers small part m t =
     let low = part.renumbering.place_low m t_too in
     part.renumbered.named (get_or new_numbers m 0) (omega arith) ∙ ap (name_of net) (part.renumbering.number_is m t_too)
 
--- what is so of the small network is so of the whole one
+-- a property of the small network is one of the whole network
 module _ (net : Network) (a b : ℕ) (a_in : a < length net.names) (b_in : b < length net.names) (marks : List Bool) (numbers new_numbers : List ℕ) (small : Network)
-    (part : IsPart net a b marks numbers new_numbers small) where
+    (part : IsSubnetwork net a b marks numbers new_numbers small) where
   start_in : is_flagged (with_ends marks a b) a ≡ true
   start_in = let size = part.size in start_marked marks a b (omega arith)
 
@@ -312,7 +312,7 @@ none_sums (i ∷ more) t =
     let first : cond {A = ℕ} (t i) 0 0 ≡ 0 = elim (t i) as (λ u. cond {A = ℕ} u 0 0 ≡ 0) [ true ↦ refl | false ↦ refl ] in
     omega (arith, sum_by-cons (λ j. cond (t j) 0 0) i more)
 
--- where no chain leads from a to b no flow is greater than none
+-- without a path from a to b no flow has a value above 0
 pub none_is_greatest : (net : Network) (a b : ℕ) → (Chain net.imports Any a b → ⊥) → IsMaxFlow net a b (λ i. 0) 0
 none_is_greatest net a b none = record {
   is_flow = record {

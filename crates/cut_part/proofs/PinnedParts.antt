@@ -1,4 +1,4 @@
--- The pins of the part are pins of a network.
+-- The pins of the subnetwork satisfy the invariant of pins.
 use Rattle.std.proofs.Common.{◌≡◌, ℕ, ◌≤◌, Bool, true, false, cond, not, List, [], ◌∷◌, length, map, filter, get_or, refl, sym, ap, ◌∙◌, subst, arith, inl, inr}
 use Rattle.std.specs.Prelude.{All, Contains, find, is_some}
 use Rattle.std.proofs.lemmas.Bool.{and_from, and_parts, both_ways, cases_Bool}
@@ -8,7 +8,7 @@ use Rattle.std.proofs.lemmas.List.Filters.{length-filter_both}
 use Rattle.digraph.proofs.Members.{from_map, in_filter, in_map, of_filter}
 use Rattle.cut_net.specs.declared.priced.Priced.{Priced}
 use Rattle.cut_net.specs.Network.{Network}
-use Rattle.cut_net.specs.Cuts.{AreThose, have_equal_ends}
+use Rattle.cut_net.specs.Cuts.{IsSetOf, have_equal_ends}
 use Rattle.cut_net.specs.Lines.{IsImport}
 use Rattle.cut_net.specs.Pins.{is_pinned, unpinned_weight, ArePins}
 use Rattle.cut_net.proofs.Ends.{same_from, same_true}
@@ -21,12 +21,12 @@ use Rattle.cut_part.proofs.Subnetworks.{cond_le, sum_by-filter}
 use Rattle.cut_part.proofs.Parts.{both_marked, lines_ascend, small}
 use Rattle.cut_part.proofs.Sums.{sum_by-map}
 
--- what is so of each member is so of all
+-- a property of each member holds of all
 all_members : (P : Priced → Type 0) (lines : List Priced) → ((i : Priced) → Contains lines i → P i) → All P lines
 all_members P lines each k d h = each (get_or lines k d) (Contains-get_or lines k d h)
 
 module _ (net : Network) (a b : ℕ) (marks : List Bool) (numbers new_numbers : List ℕ) (size : length marks ≡ length net.names)
-    (between : AreThose (is_flagged marks) (IsBetween net a b)) (is : IsNumbering (with_ends marks a b) numbers new_numbers) where
+    (between : IsSetOf (is_flagged marks) (IsBetween net a b)) (is : IsNumbering (with_ends marks a b) numbers new_numbers) where
   abbrev part : Network
   part = small net a b marks numbers new_numbers size between is
 
@@ -36,7 +36,7 @@ module _ (net : Network) (a b : ℕ) (marks : List Bool) (numbers new_numbers : 
   same_module : (m n : ℕ) → is_flagged (with_ends marks a b) m ≡ true → is_flagged (with_ends marks a b) n ≡ true → get_or new_numbers m 0 ≡ get_or new_numbers n 0 → m ≡ n
   same_module m n m_in n_in e = sym (is.number_is m m_in) ∙ ap (λ k. get_or numbers k 0) e ∙ is.number_is n n_in
 
-  -- two imports between marked modules have the same ends where they have the same places
+  -- two imports between flagged modules have the same ends where they have the same indices
   same_placed : (i p : Priced) → are_ends_in (is_flagged marks) i ≡ true → are_ends_in (is_flagged marks) p ≡ true → have_equal_ends (place i) (place p) ≡ true → have_equal_ends i p ≡ true
   same_placed i p i_in p_in e =
       let ends = same_from (place i) (place p) e in
@@ -75,7 +75,7 @@ module _ (net : Network) (a b : ℕ) (marks : List Bool) (numbers new_numbers : 
       not_so true none = absurd (none refl)
       not_so false none = refl
 
-  -- a pin of the part is one of the whole network
+  -- a pin of the subnetwork is one of the whole network
   pinned_placed : (i : Priced) → Contains (filter (are_ends_in (is_flagged marks)) net.imports) i → is_pinned part (place i) ≡ is_pinned net i
   pinned_placed i c = pin_placed net.pins i (of_filter (are_ends_in (is_flagged marks)) net.imports i c).1
 

@@ -1,19 +1,19 @@
--- What is printed of the part between two modules is what is printed of the whole network.
+-- The reported imports of the subnetwork between two modules are those of the whole network.
 use Rattle.std.proofs.Common.{◌≡◌, ℕ, ◌≤◌, Bool, true, false, cond, not, ◌&&◌, List, [], ◌∷◌, sym, ◌∙◌, refl, ap, arith, sum_by, inl, inr}
 use Rattle.std.specs.Prelude.{Contains}
 use Rattle.std.proofs.lemmas.Bool.{cases_Bool, both_ways, and_parts, and_from, not-true, not_from_false}
 use Rattle.digraph.proofs.Members.{in_filter, of_filter}
 use Rattle.cut_net.specs.declared.priced.Priced.{Priced}
 use Rattle.cut_net.specs.Network.{Network}
-use Rattle.cut_net.specs.Cuts.{Any, Chain, IsChain, AreThose, AreReported, IsMinimumSide, IsReported, IsSide, LeavesSourceSide, InSourceSide, leaves, weight}
+use Rattle.cut_net.specs.Cuts.{Any, Chain, IsChain, IsSetOf, AreReported, IsMinimumSide, IsReported, IsSide, LeavesSourceSide, InSourceSide, leaves, weight}
 use Rattle.cut_net.proofs.Certificate.{weight-mono}
 use Rattle.cut_net.proofs.Chains.{chain_or_none, step, widened}
 use Rattle.cut_net.proofs.ListSums.{sum_by-same, sum_by-mono}
 use Rattle.cut_part.specs.Subnetworks.{IsBetween, are_ends_in, part_of}
 use Rattle.cut_part.proofs.Subnetworks.{cond_le, has_chain, has_chain-true, has_chain-false, chain_there, onward, sum_by-filter}
 
--- of the modules that have no mark those that have no chain to b
-module _ (net : Network) (kept : ℕ → Bool) (a b : ℕ) (those : AreThose kept (IsBetween net a b)) where
+-- of the modules that have no flag those that have no path to b
+module _ (net : Network) (kept : ℕ → Bool) (a b : ℕ) (those : IsSetOf kept (IsBetween net a b)) where
   widen : (ℕ → Bool) → ℕ → Bool
   widen side m = cond (kept m) (side m) (not (has_chain net.imports m b))
 
@@ -25,7 +25,7 @@ module _ (net : Network) (kept : ℕ → Bool) (a b : ℕ) (those : AreThose kep
   unfolding widen
   widen_other side m f = rw f refl
 
-  -- an import out of the modules with a chain to b ends where there is none
+  -- an import out of the modules with a path to b ends where there is none
   no_way : (side : ℕ → Bool) (m : ℕ) → (Chain net.imports Any m b → ⊥) → widen side m ≡ true
   no_way side m none =
       elim (cases_Bool (kept m)) [
@@ -136,7 +136,7 @@ module _ (net : Network) (kept : ℕ → Bool) (a b : ℕ) (those : AreThose kep
         omega arith;
   }
 
-  -- an import that leaves the near modules leaves one that a reaches
+  -- an import that leaves the minimal source side leaves one that a reaches
   from_reached : (i : Priced) → LeavesSourceSide net a b i → Chain net.imports Any a i.from
   unfolding only_reached
   from_reached i l =
@@ -157,7 +157,7 @@ module _ (net : Network) (kept : ℕ → Bool) (a b : ℕ) (those : AreThose kep
       let parts = and_parts (kept i.from) (kept i.to) t in
       (to_net i.from l.0, λ near. l.1 (to_part i.to parts.1 near))
 
-  -- a chain to b from a module that a reaches stays inside
+  -- a path to b from a module that a reaches stays inside
   chain_in_part : (m : ℕ) → Chain net.imports Any a m → (more : List ℕ) → IsChain net.imports (λ j. LeavesSourceSide net a b j → ⊥) m more b → IsChain (part_of net kept).imports (λ j. LeavesSourceSide (part_of net kept) a b j → ⊥) m more b
   chain_in_part m before [] e = e
   chain_in_part m before (n ∷ more) ((i, c, from, to, not_leaves), rest) =
@@ -190,7 +190,7 @@ module _ (net : Network) (kept : ℕ → Bool) (a b : ℕ) (those : AreThose kep
     ),
   )
 
-  -- the same imports are printed
+  -- the same imports are reported
   pub same_printed : (x : Priced → Bool) → AreReported (part_of net kept) a b x → AreReported net a b (λ i. are_ends_in kept i && x i)
   same_printed x printed i c = (
     λ t. let parts = and_parts (are_ends_in kept i) (x i) t in

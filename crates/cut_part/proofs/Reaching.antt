@@ -1,4 +1,4 @@
--- Chains of imports are followed along trails.
+-- Paths of imports are followed along linked lists.
 use Rattle.std.proofs.Common.{◌≡◌, ℕ, ◌+◌, ◌<◌, Bool, true, false, List, [], ◌∷◌, ◌++◌, length, replicate, set, refl, sym, ap, ◌∙◌, subst, arith, inl, inr}
 use Rattle.std.proofs.lemmas.Bool.{cases_eq}
 use Rattle.std.proofs.lemmas.List.{get_or_default}
@@ -11,30 +11,30 @@ use Rattle.cut_net.specs.Cuts.{Any, Chain, IsChain}
 use Rattle.residual_graph.specs.Graphs.{is_flagged}
 use Rattle.cut_part.specs.Marks.{AreReachable}
 use Rattle.cut_part.specs.CapacityReduction.{import_in}
-use Rattle.cut_part.specs.Reach.{imported, IsFollowing, IsSpreading, Makes}
+use Rattle.cut_part.specs.Reach.{imported, IsFollowing, IsSpreading, IsImporter}
 use Rattle.cut_part.proofs.Subnetworks.{onward}
 
 -- ---- one module's imports
 
 module _ (imports : List Priced) (start : ℕ) (marks : List Bool) (waiting : List ℕ) (m : ℕ) where
-  pub following_starts : (next : ℕ) → IsLast (Makes imports m) (length imports) next → IsSpreading imports start marks (waiting ++ m ∷ []) → IsFollowing imports start marks waiting m next
+  pub following_starts : (next : ℕ) → IsLast (IsImporter imports m) (length imports) next → IsSpreading imports start marks (waiting ++ m ∷ []) → IsFollowing imports start marks waiting m next
   following_starts next last s = record {
     started = s.started;
     mark_reachable = s.mark_reachable;
-    spread = follow_starts (Makes imports) (imported imports) (length imports) marks waiting m next last s.spread;
+    spread = follow_starts (IsImporter imports) (imported imports) (length imports) marks waiting m next last s.spread;
   }
 
   pub following_ends : IsFollowing imports start marks waiting m 0 → IsSpreading imports start marks waiting
-  following_ends f = record { started = f.started; mark_reachable = f.mark_reachable; spread = follow_ends (Makes imports) (imported imports) (length imports) marks waiting m f.spread }
+  following_ends f = record { started = f.started; mark_reachable = f.mark_reachable; spread = follow_ends (IsImporter imports) (imported imports) (length imports) marks waiting m f.spread }
 
-  module _ (number next : ℕ) (low : number < length imports) (own : Makes imports m number) (last : IsLast (Makes imports m) number next)
+  module _ (number next : ℕ) (low : number < length imports) (own : IsImporter imports m number) (last : IsLast (IsImporter imports m) number next)
       (f : IsFollowing imports start marks waiting m (number + 1)) where
-    -- the imported module has a mark already
+    -- the imported module has its flag set already
     pub follows_marked : is_flagged marks (imported imports number) ≡ true → IsFollowing imports start marks waiting m next
     follows_marked on = record {
       started = f.started;
       mark_reachable = f.mark_reachable;
-      spread = follow_marked (Makes imports) (imported imports) (length imports) marks waiting m number next last f.spread on;
+      spread = follow_marked (IsImporter imports) (imported imports) (length imports) marks waiting m number next last f.spread on;
     }
 
     -- it gets one, and waits
@@ -50,7 +50,7 @@ module _ (imports : List Priced) (start : ℕ) (marks : List Bool) (waiting : Li
                 subst (Chain imports Any start) (sym e) (onward imports start (import_in imports number) (Contains-get_or imports number missing_item low) to_from)
             | inr ne ↦ f.mark_reachable x (mark_before marks to x ne on)
           ];
-          spread = follow_unmarked (Makes imports) (imported imports) (length imports) marks waiting m number next last f.spread within;
+          spread = follow_unmarked (IsImporter imports) (imported imports) (length imports) marks waiting m number next last f.spread within;
         }
 
 -- ---- the whole
@@ -59,7 +59,7 @@ pub spreading_starts : (imports : List Priced) (start modules : ℕ) → start <
 spreading_starts imports start modules low = record {
   started = start_marked start modules low;
   mark_reachable = λ x on. ([], sym (start_alone start modules x on));
-  spread = spread_starts start modules (Makes imports) (imported imports) (length imports) low;
+  spread = spread_starts start modules (IsImporter imports) (imported imports) (length imports) low;
 }
 
 along : (imports : List Priced) (start : ℕ) (marks : List Bool) → IsSpreading imports start marks [] → (m : ℕ) → is_flagged marks m ≡ true → (more : List ℕ) (n : ℕ) → IsChain imports Any m more n → is_flagged marks n ≡ true

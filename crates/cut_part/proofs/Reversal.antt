@@ -1,4 +1,4 @@
--- A network and the network turned round have the same flows, with the ends exchanged.
+-- A network and its reversed network have equal flows, with source and sink exchanged.
 use Rattle.std.proofs.Common.{◌≡◌, ◌≢◌, ℕ, ◌≤◌, ◌<◌, ◌==◌, Bool, true, false, cond, not, ◌&&◌, List, [], ◌∷◌, length, map, refl, sym, ap, ap₂, ◌∙◌, subst, arith, inl, inr}
 use Rattle.std.proofs.lemmas.Bool.{cases_Bool, both_ways}
 use Rattle.cut_net.specs.declared.priced.Priced.{Priced}
@@ -12,7 +12,7 @@ use Rattle.cut_part.specs.Reversal.{reversed, reversed_net, reversed_flow}
 use Rattle.cut_part.proofs.Sums.{sum_by-map}
 use Rattle.cut_part.proofs.CapacityReduction.{at_end}
 
--- turned twice
+-- an import reversed twice
 pub twice : (imports : List Priced) → map reversed (map reversed imports) ≡ imports
 twice [] = refl
 twice (i ∷ more) = ap (λ (rest : List Priced). i ∷ rest) (twice more)
@@ -69,7 +69,7 @@ barred_round net a b flow (modules, barrier) = (
   },
 )
 
--- the network is what comes of turning it twice
+-- a network reversed twice is the network
 turned_twice : (net : Network) → reversed_net (reversed_net net) ≡ net
 turned_twice net = ap₂ (λ (imports pins : List Priced). record { names = net.names; imports = imports; pins = pins }) (twice net.imports) (twice net.pins)
 
@@ -99,7 +99,7 @@ both_orders true false = refl
 both_orders false true = refl
 both_orders false false = refl
 
--- the lines of a flow, turned, are the lines of the flow turned
+-- the reversed lines of a flow are the lines of the reversed flow
 pub lines_turned : (lines : List Priced) (i : Priced) → flow_by (map reversed lines) i ≡ reversed_flow (flow_by lines) i
 lines_turned [] i = refl
 lines_turned (l ∷ lines) i =

@@ -1,4 +1,4 @@
--- Between two modules a network has the flows of its modules on a chain from the one to the other.
+-- A network has exactly the flows between two modules of the subnetwork of the modules on paths between them.
 use Rattle.std.proofs.Common.{◌≡◌, ℕ, ◌+◌, ◌≤◌, ◌<◌, ◌==◌, Bool, true, false, cond, not, List, [], ◌∷◌, length, filter, refl, sym, ap, ◌∙◌, arith, sum_by, inl, inr}
 use Rattle.std.specs.Prelude.{Contains}
 use Rattle.std.proofs.lemmas.Bool.{cases_Bool, both_ways, and_parts, and_from}
@@ -6,7 +6,7 @@ use Rattle.std.proofs.lemmas.List.Sums.{sum_by-cons}
 use Rattle.cut_net.specs.declared.priced.Priced.{Priced}
 use Rattle.cut_net.specs.Network.{Network}
 use Rattle.cut_net.specs.WellFormed.{AreBetween, IsAcyclic}
-use Rattle.cut_net.specs.Cuts.{Any, Chain, IsFlow, AreThose, entering, leaving, leaves}
+use Rattle.cut_net.specs.Cuts.{Any, Chain, IsFlow, IsSetOf, entering, leaving, leaves}
 use Rattle.cut_net.proofs.Chains.{chain_or_none, joined, step}
 use Rattle.digraph.proofs.Members.{in_filter, of_filter}
 use Rattle.cut_net.proofs.ListSums.{here, present, sum_by-same}
@@ -28,7 +28,7 @@ sum_by-filter f p (x ∷ xs) =
     let first = filter_one f x (p x) (filter p xs) in
     first ∙ omega (arith, sum_by-cons (λ y. cond (p y) (f y) 0) x xs)
 
--- whether a chain leads from the one module to the other
+-- whether a path leads from the one module to the other
 module _ (imports : List Priced) (m n : ℕ) where
   pub has_chain : Bool
   has_chain = elim (chain_or_none imports Any (λ i. inl tt) m n) [ inl _ ↦ true | inr _ ↦ false ]
@@ -46,7 +46,7 @@ module _ (imports : List Priced) (m n : ℕ) where
   pub chain_there : has_chain ≡ true → Chain imports Any m n
   chain_there t = elim (chain_or_none imports Any (λ i. inl tt) m n) [ inl c ↦ c | inr none ↦ absurd (both_ways has_chain (has_chain-false none) t) ]
 
--- an import at the end of a chain
+-- an import at the end of a path
 pub onward : (imports : List Priced) (a : ℕ) (i : Priced) → Contains imports i → Chain imports Any a i.from → Chain imports Any a i.to
 onward imports a i c chain = joined imports Any a i.from i.to chain (i.to ∷ [], ((i, c, refl, refl, tt), refl))
 
@@ -117,8 +117,8 @@ module _ (net : Network) (a b : ℕ) (flow : Priced → ℕ) (value : ℕ) (betw
             is_none net.imports flow (enters set) i c (rw (from_out, to_in) refl) (omega arith)
       ]
 
-  -- so a flow carries nothing but on imports between modules that are on a chain from a to b
-  pub none_outside : (kept : ℕ → Bool) → AreThose kept (IsBetween net a b) → (i : Priced) → Contains net.imports i → are_ends_in kept i ≡ false → flow i ≡ 0
+  -- so a flow carries nothing but on imports between modules that are on a path from a to b
+  pub none_outside : (kept : ℕ → Bool) → IsSetOf kept (IsBetween net a b) → (i : Priced) → Contains net.imports i → are_ends_in kept i ≡ false → flow i ≡ 0
   none_outside kept those i c out =
       elim (chain_or_none net.imports Any (λ i. inl tt) a i.from) [
         | inr none ↦ none_before i c none
@@ -137,7 +137,7 @@ swapped true false n = refl
 swapped false true n = refl
 swapped false false n = refl
 
--- what enters and leaves is counted inside
+-- inflow and outflow count only imports inside the subnetwork
 entering_part : (net : Network) (kept : ℕ → Bool) (flow : Priced → ℕ) (m : ℕ) → entering (part_of net kept).imports flow m ≡ entering net.imports (internal_flow kept flow) m
 entering_part net kept flow m =
     sum_by-filter (λ i. cond (i.to == m) (flow i) 0) (are_ends_in kept) net.imports
@@ -152,7 +152,7 @@ pub cond_le : (t : Bool) (x y : ℕ) → (t ≡ true → x ≤ y) → cond t x 0
 cond_le true x y h = h refl
 cond_le false x y h = omega arith
 
--- a flow of the part, with 0 on all other imports, is a flow of the whole, whatever modules were kept
+-- a flow of the subnetwork, with 0 on all other imports, is a flow of the whole, whatever modules were kept
 pub flow_of_part : (net : Network) (kept : ℕ → Bool) (a b : ℕ) (flow : Priced → ℕ) (value : ℕ) → IsFlow (part_of net kept) a b flow value → IsFlow net a b (internal_flow kept flow) value
 flow_of_part net kept a b flow value is_flow =
     let into = entering_part net kept flow in
@@ -163,7 +163,7 @@ flow_of_part net kept a b flow value is_flow =
       at_start = let i = into a in let o = out a in let s = is_flow.at_start in omega arith;
     }
 
--- a flow that carries nothing outside is a flow of the part
+-- a flow that carries nothing outside is a flow of the subnetwork
 pub flow_in_part : (net : Network) (kept : ℕ → Bool) (a b : ℕ) (flow : Priced → ℕ) (value : ℕ) → ((i : Priced) → Contains net.imports i → are_ends_in kept i ≡ false → flow i ≡ 0) →
     IsFlow net a b flow value → IsFlow (part_of net kept) a b flow value
 flow_in_part net kept a b flow value none is_flow =
@@ -179,8 +179,8 @@ flow_in_part net kept a b flow value none is_flow =
       at_start = let i = into a in let o = out a in let s = is_flow.at_start in omega arith;
     }
 
--- the modules of the part that are there, and of the others those that a reaches
-module _ (net : Network) (kept : ℕ → Bool) (a b : ℕ) (those : AreThose kept (IsBetween net a b)) (flow : Priced → ℕ) (modules : ℕ → Bool) (barrier : IsBarrier (part_of net kept) flow a b modules) where
+-- the modules of the subnetwork that are there, and of the others those that a reaches
+module _ (net : Network) (kept : ℕ → Bool) (a b : ℕ) (those : IsSetOf kept (IsBetween net a b)) (flow : Priced → ℕ) (modules : ℕ → Bool) (barrier : IsBarrier (part_of net kept) flow a b modules) where
   pub spread : ℕ → Bool
   spread m = cond (kept m) (modules m) (has_chain net.imports a m)
 
@@ -192,7 +192,7 @@ module _ (net : Network) (kept : ℕ → Bool) (a b : ℕ) (those : AreThose kep
   unfolding spread
   spread_other m f = rw f refl
 
-  -- each of them is reached from a by a chain
+  -- each of them is reached from a by a path
   pub spread_reached : (m : ℕ) → spread m ≡ true → Chain net.imports Any a m
   spread_reached m t =
       elim (cases_Bool (kept m)) [
@@ -232,7 +232,7 @@ module _ (net : Network) (kept : ℕ → Bool) (a b : ℕ) (those : AreThose kep
     };
   }
 
-pub greatest_of_part : (net : Network) (kept : ℕ → Bool) (a b : ℕ) → AreThose kept (IsBetween net a b) → (flow : Priced → ℕ) (value : ℕ) →
+pub greatest_of_part : (net : Network) (kept : ℕ → Bool) (a b : ℕ) → IsSetOf kept (IsBetween net a b) → (flow : Priced → ℕ) (value : ℕ) →
     IsMaxFlow (part_of net kept) a b flow value → IsMaxFlow net a b (internal_flow kept flow) value
 greatest_of_part net kept a b those flow value greatest = record {
   is_flow = flow_of_part net kept a b flow value greatest.is_flow;

@@ -6,7 +6,7 @@ use Rattle.cut_net.specs.declared.priced.Priced.{Priced}
 use Rattle.cut_net.specs.Cuts.{entering, leaving}
 use Rattle.cut_net.specs.Lines.{edge_of}
 use Rattle.cut_net.proofs.ListSums.{sum_by-same}
-use Rattle.cut_part.specs.CapacityReduction.{ends_of, IsByEnds}
+use Rattle.cut_part.specs.CapacityReduction.{ends_of, DependsOnEndsOnly}
 
 -- a term is within the sum
 pub sum_one : {X : Type 0} (g : X → ℕ) (xs : List X) (k : ℕ) (d : X) → k < length xs → g (get_or xs k d) ≤ sum_by g xs
@@ -31,7 +31,7 @@ sum_by-map f g (x ∷ xs) = let rest = sum_by-map f g xs in omega (arith, sum_by
 bare : Edge → Priced
 bare p = record { from = p.from; to = p.to; amount = 0 }
 
-module _ (flow : Priced → ℕ) (by_ends : IsByEnds flow) where
+module _ (flow : Priced → ℕ) (by_ends : DependsOnEndsOnly flow) where
   entering_by_ends : (xs : List Priced) (m : ℕ) → entering xs flow m ≡ sum_by (λ p. cond (p.to == m) (flow (bare p)) 0) (ends_of xs)
   unfolding bare
   entering_by_ends xs m =
@@ -44,7 +44,7 @@ module _ (flow : Priced → ℕ) (by_ends : IsByEnds flow) where
       sum_by-same _ (λ i. cond (i.from == m) (flow (bare (edge_of i))) 0) xs (λ i c. ap (λ n. cond (i.from == m) n 0) (by_ends i (bare (edge_of i)) refl refl))
       ∙ sym (sum_by-map (λ p. cond (p.from == m) (flow (bare p)) 0) edge_of xs)
 
-  -- what enters and leaves is told by the ends of the imports
+  -- inflow and outflow depend only on the ends of the imports
   pub same_entering : (xs ys : List Priced) (m : ℕ) → ends_of xs ≡ ends_of ys → entering xs flow m ≡ entering ys flow m
   same_entering xs ys m e = entering_by_ends xs m ∙ ap (λ (ps : List Edge). sum_by (λ p. cond (p.to == m) (flow (bare p)) 0) ps) e ∙ sym (entering_by_ends ys m)
 

@@ -1,4 +1,4 @@
--- Lowering one import, with the sums of weights kept beside.
+-- Reducing the weight of one import, and updating the sums of weights.
 use Rattle.std.proofs.Common.{◌≡◌, ◌≢◌, ◌⊎◌, ℕ, ◌-◌, ◌≤◌, ◌<◌, cond, eqb, List, [], length, get_or, set, refl, sym, ap, ◌∙◌, subst, arith, sum_by, inl, inr}
 use Rattle.std.proofs.lemmas.Bool.{cases_eq, eq-eqb, ne_eqb}
 use Rattle.std.proofs.lemmas.List.{get_or-set_same, get_or-set_other, length-set, set-get_or}
@@ -6,11 +6,11 @@ use Rattle.std.proofs.lemmas.List.Sums.{sum_by-set}
 use Rattle.cut_net.specs.declared.priced.Priced.{Priced}
 use Rattle.cut_net.specs.Network.{missing_item}
 use Rattle.cut_part.specs.CapacityReduction.{import_in, weighing, reweighed, IsEnough, IsReduced}
-use Rattle.cut_part.specs.WeightSums.{AreWeightSums, IsRoom, ReducesTo}
+use Rattle.cut_part.specs.WeightSums.{AreWeightSums, IsReducedWeight, ReducesTo}
 use Rattle.cut_part.proofs.Sums.{sum_one}
 use Rattle.cut_part.proofs.CapacityReduction.{ends_reweighed, lowered_at, narrowed_none, narrowed_twice, renumbering, still_between}
 
--- the sums with the weight of one import lowered
+-- the sums with the weight of one import reduced
 module _ (imports : List Priced) (k amount : ℕ) (present : k < length imports) (below : amount ≤ (import_in imports k).amount) (end : Priced → ℕ) (same_end : end (weighing (import_in imports k) amount) ≡ end (import_in imports k)) where
   within_sum : (import_in imports k).amount ≤ sum_by (λ i. cond (eqb (end i) (end (import_in imports k))) i.amount 0) imports
   within_sum =
@@ -94,7 +94,7 @@ module _ (imports : List Priced) (out into : List ℕ) (are : AreWeightSums impo
             (record { present = present; below = below; enough = is names pins; changed = refl })
       ]
 
-  pub narrows_into : (a b amount : ℕ) → a < length out → a ≢ b → (import_in imports k).to ≢ b → IsRoom (import_in imports k).amount amount (get_or out (import_in imports k).to 0) →
+  pub narrows_into : (a b amount : ℕ) → a < length out → a ≢ b → (import_in imports k).to ≢ b → IsReducedWeight (import_in imports k).amount amount (get_or out (import_in imports k).to 0) →
       ReducesTo (length out) imports (set imports k (weighing (import_in imports k) amount)) a b
   narrows_into a b amount a_in apart not_b room =
       step a b amount a_in apart room.below (elim room.enough [
@@ -102,7 +102,7 @@ module _ (imports : List Priced) (out into : List ℕ) (are : AreWeightSums impo
         | inr le ↦ inr (λ names pins. let is = are.leave (import_in imports k).to to_in in inl (not_b, omega arith))
       ])
 
-  pub narrows_out : (a b amount : ℕ) → a < length out → a ≢ b → (import_in imports k).from ≢ a → IsRoom (import_in imports k).amount amount (get_or into (import_in imports k).from 0) →
+  pub narrows_out : (a b amount : ℕ) → a < length out → a ≢ b → (import_in imports k).from ≢ a → IsReducedWeight (import_in imports k).amount amount (get_or into (import_in imports k).from 0) →
       ReducesTo (length out) imports (set imports k (weighing (import_in imports k) amount)) a b
   narrows_out a b amount a_in apart not_a room =
       step a b amount a_in apart room.below (elim room.enough [

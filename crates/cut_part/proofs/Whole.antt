@@ -1,4 +1,4 @@
--- What is answered of the part between two modules is an answer of the whole network, each line by the numbers of the whole.
+-- An answer for the subnetwork between two modules is, after renumbering its lines, an answer for the whole network.
 use Rattle.std.proofs.Common.{◌≡◌, ℕ, ◌<◌, ◌==◌, ◌&&◌, Bool, true, false, cond, List, [], ◌∷◌, length, map, filter, get_or, refl, sym, ap, ◌∙◌, subst, arith, sum_by, inl, inr, Option, Some, None}
 use Rattle.std.specs.Prelude.{Contains, IfSome, find, is_some}
 use Rattle.std.proofs.lemmas.Bool.{and_parts, and_from, both_ways, cases_Bool, cases_eq, eq-eqb, ne_eqb, false_from_ne_true}
@@ -16,7 +16,7 @@ use Rattle.cut_net.proofs.Ends.{before_from, before_true, same_from}
 use Rattle.cut_net.proofs.ListSums.{here, present, sum_by-mono, sum_by-same}
 use Rattle.residual_graph.specs.Graphs.{is_flagged}
 use Rattle.cut_part.specs.Subnetworks.{are_ends_in}
-use Rattle.cut_part.specs.Marks.{flow_in_net, reported_in_net, claim_in_net, with_ends, IsPart}
+use Rattle.cut_part.specs.Marks.{flow_in_net, reported_in_net, claim_in_net, with_ends, IsSubnetwork}
 use Rattle.cut_part.specs.Renumbering.{renumbered}
 use Rattle.cut_part.proofs.Subnetworks.{cond_le, onward, sum_by-filter}
 use Rattle.cut_part.proofs.Parts.{end_marked, flow_of_small, flow_same, printed_of_small, start_marked, still_marked}
@@ -77,7 +77,7 @@ both_conds true u n = refl
 both_conds false u n = refl
 
 module _ (net : Network) (a b : ℕ) (a_in : a < length net.names) (b_in : b < length net.names) (marks : List Bool) (numbers new_numbers : List ℕ) (small : Network)
-    (part : IsPart net a b marks numbers new_numbers small) where
+    (part : IsSubnetwork net a b marks numbers new_numbers small) where
   abbrev up : Priced → Priced
   up = renumbered (λ m. get_or numbers m 0)
 
@@ -158,7 +158,7 @@ module _ (net : Network) (a b : ℕ) (a_in : a < length net.names) (b_in : b < l
         | inr f ↦ no_cond (are_ends_in (is_flagged marks) i) (flow_by lines (down i)) f ∙ sym (ap amount_in (found_none i f lines known))
       ]
 
-  -- a set of imports weighs in the part what its imports between the marked modules weigh
+  -- a set of imports weighs in the subnetwork what its imports between the flagged modules weigh
   weight_part : (y : Priced → Bool) → sum_by (λ i. cond (are_ends_in (is_flagged marks) i) (cond (y i) i.amount 0) 0) net.imports ≡ weight small.imports (λ i. y (up i))
   weight_part y =
       sym (sum_by-filter (λ i. cond (y i) i.amount 0) (are_ends_in (is_flagged marks)) net.imports)
@@ -173,7 +173,7 @@ module _ (net : Network) (a b : ℕ) (a_in : a < length net.names) (b_in : b < l
       ∙ sum_by-same (λ i. cond (removed_by lines (down (up i))) i.amount 0) (λ i. cond (removed_by lines i) i.amount 0) small.imports
       (λ i c. ap (λ j. cond (removed_by lines j) i.amount 0) (down_up i c))
 
-  -- lines of imports of the part, in order, are lines of imports of the whole network, in order
+  -- lines of imports of the subnetwork, in order, are lines of imports of the whole network, in order
   known_up : (line : Priced) → IsImport small line → IsImport net (up line)
   known_up line (i, c, from, to, any) = (up i, (up_in i c).0, ap (λ m. get_or numbers m 0) from, ap (λ m. get_or numbers m 0) to, tt)
 
@@ -198,7 +198,7 @@ module _ (net : Network) (a b : ℕ) (a_in : a < length net.names) (b_in : b < l
         (before_up (get_or lines j missing_item) (get_or lines k missing_item) (order.known j missing_item j_in) (order.known k missing_item k_in) (order.ascending j k missing_item less k_in));
   }
 
-  -- a chain of the whole network without lines of the part is a chain of the part without them
+  -- a path of the whole network without lines of the subnetwork is a path of the subnetwork without them
   chain_down : (lines : List Priced) → AreKnown lines → (m : ℕ) → Chain net.imports Any a m → (more : List ℕ) →
       IsChain net.imports (Outside (removed_by (map up lines))) m more b → Chain small.imports (Outside (removed_by lines)) (get_or new_numbers m 0) (get_or new_numbers b 0)
   chain_down lines known m before [] e = ([], ap (λ k. get_or new_numbers k 0) e)
@@ -216,7 +216,7 @@ module _ (net : Network) (a b : ℕ) (a_in : a < length net.names) (b_in : b < l
   cut_up : (lines : List Priced) → AreKnown lines → IsCut small (get_or new_numbers a 0) (get_or new_numbers b 0) (removed_by lines) → IsCut net a b (removed_by (map up lines))
   cut_up lines known cut (more, chain) = cut (chain_down lines known a ([], refl) more chain)
 
-  -- and a chain of the part is one of the whole network
+  -- and a path of the subnetwork is one of the whole network
   chain_up : (y : Priced → Bool) (m n : ℕ) (more : List ℕ) → IsChain small.imports (Outside (λ i. y (up i))) m more n →
       IsChain net.imports (Outside y) (get_or numbers m 0) (map (λ k. get_or numbers k 0) more) (get_or numbers n 0)
   chain_up y m n [] e = ap (λ k. get_or numbers k 0) e

@@ -7,8 +7,8 @@ use Rattle.cut_net.specs.Cuts.{entering, leaving, IsClosed, IsFlow}
 use Rattle.cut_net.specs.Lines.{edge_of}
 
 -- the flow depends only on the modules of an import, not on its weight
-abbrev pub IsByEnds : (Priced → ℕ) → Type 0
-IsByEnds flow = (i j : Priced) → i.from ≡ j.from → i.to ≡ j.to → flow i ≡ flow j
+abbrev pub DependsOnEndsOnly : (Priced → ℕ) → Type 0
+DependsOnEndsOnly flow = (i j : Priced) → i.from ≡ j.from → i.to ≡ j.to → flow i ≡ flow j
 
 -- no residual import leaves the set of modules, which has a and lacks b
 pub record IsBarrier (net : Network) (flow : Priced → ℕ) (a b : ℕ) (modules : ℕ → Bool) : Type 0 where
@@ -39,8 +39,8 @@ pub record IsReduced (old new : Network) (a b : ℕ) : Type 0 where
   pub pins : new.pins ≡ old.pins
   pub ends : ends_of new.imports ≡ ends_of old.imports
   pub reduced : (k : ℕ) → (import_in new.imports k).amount ≤ (import_in old.imports k).amount
-  pub flows : (flow : Priced → ℕ) (value : ℕ) → IsByEnds flow → IsFlow old a b flow value → IsFlow new a b flow value
-  pub barred : (flow : Priced → ℕ) (value : ℕ) → IsByEnds flow → IsFlow old a b flow value → IsBarred new flow a b → IsBarred old flow a b
+  pub flows : (flow : Priced → ℕ) (value : ℕ) → DependsOnEndsOnly flow → IsFlow old a b flow value → IsFlow new a b flow value
+  pub barred : (flow : Priced → ℕ) (value : ℕ) → DependsOnEndsOnly flow → IsFlow old a b flow value → IsBarred new flow a b → IsBarred old flow a b
 
 -- the outgoing and the incoming weight of a module
 abbrev pub weight_leaving : Network → ℕ → ℕ

@@ -2,7 +2,7 @@
 use Rattle.std.specs.Prelude.{◌≡◌, ◌&&◌, ℕ, ◌<◌, ◌≤◌, Bool, true, List, length, map, slice_index, slice_set}
 use Rattle.cut_net.specs.declared.priced.Priced.{Priced}
 use Rattle.cut_net.specs.Network.{Network}
-use Rattle.cut_net.specs.Cuts.{Any, AreThose, Chain}
+use Rattle.cut_net.specs.Cuts.{Any, IsSetOf, Chain}
 use Rattle.cut_net.specs.AnswerClaim.{AnswerClaim, CutOf, BlockedBy}
 use Rattle.residual_graph.specs.declared.arc.Arc.{Arc}
 use Rattle.residual_graph.specs.Graphs.{is_flagged}
@@ -15,7 +15,7 @@ open_arc i = record { from = i.from; to = i.to; capacity = 1; flow = 0 }
 
 -- the flagged modules are those that paths from the start reach
 abbrev pub AreReachable : List Priced → ℕ → List Bool → Type 0
-AreReachable imports start marks = AreThose (is_flagged marks) (Chain imports Any start)
+AreReachable imports start marks = IsSetOf (is_flagged marks) (Chain imports Any start)
 
 -- the flags, with those of two modules set
 abbrev pub with_ends : List Bool → ℕ → ℕ → List Bool
@@ -34,8 +34,8 @@ pub record IsNumbering (marks : List Bool) (numbers new_numbers : List ℕ) : Ty
 
 -- the subnetwork has the modules on paths from a to b, which are flagged, and a and b themselves, with new numbers, and the imports
 -- between the flagged ones
-pub record IsPart (net : Network) (a b : ℕ) (marks : List Bool) (numbers new_numbers : List ℕ) (small : Network) : Type 0 where
-  pub between : AreThose (is_flagged marks) (IsBetween net a b)
+pub record IsSubnetwork (net : Network) (a b : ℕ) (marks : List Bool) (numbers new_numbers : List ℕ) (small : Network) : Type 0 where
+  pub between : IsSetOf (is_flagged marks) (IsBetween net a b)
   pub size : length marks ≡ length net.names
   pub renumbering : IsNumbering (with_ends marks a b) numbers new_numbers
   pub count : length small.names ≡ length numbers

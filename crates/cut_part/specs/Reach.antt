@@ -7,9 +7,9 @@ use Rattle.cut_net.specs.Cuts.{Any, Chain}
 use Rattle.residual_graph.specs.Graphs.{is_flagged}
 use Rattle.cut_part.specs.CapacityReduction.{import_in}
 
--- the import of this number is one by the module
-abbrev pub Makes : List Priced → ℕ → ℕ → Type 0
-Makes imports m k = IsInList (λ j. (import_in imports j).from) m k
+-- the import of this number has the module as importer
+abbrev pub IsImporter : List Priced → ℕ → ℕ → Type 0
+IsImporter imports m k = IsInList (λ j. (import_in imports j).from) m k
 
 -- the module that the import of this number imports
 abbrev pub imported : List Priced → ℕ → ℕ
@@ -17,16 +17,16 @@ imported imports k = (import_in imports k).to
 
 -- the lists of the first count imports by importer: for each module its last one, and for each import the previous one by its importer
 abbrev pub AreImportLists : List Priced → ℕ → List ℕ → List ℕ → ℕ → Type 0
-AreImportLists imports modules last before count = AreLinkedLists (Makes imports) modules last before count
+AreImportLists imports modules last before count = AreLinkedLists (IsImporter imports) modules last before count
 
 -- paths lead from the start to all flagged modules, and the imports of a flagged module that doesn't wait are flagged
 pub record IsSpreading (imports : List Priced) (start : ℕ) (marks : List Bool) (waiting : List ℕ) : Type 0 where
   pub started : is_flagged marks start ≡ true
   pub mark_reachable : (m : ℕ) → is_flagged marks m ≡ true → Chain imports Any start m
-  pub spread : IsSpread (Makes imports) (imported imports) (length imports) marks waiting
+  pub spread : IsSpread (IsImporter imports) (imported imports) (length imports) marks waiting
 
 -- as `IsSpreading`, while the imports of one module are followed in descending order: those with a number below next are left
 pub record IsFollowing (imports : List Priced) (start : ℕ) (marks : List Bool) (waiting : List ℕ) (one next : ℕ) : Type 0 where
   pub started : is_flagged marks start ≡ true
   pub mark_reachable : (m : ℕ) → is_flagged marks m ≡ true → Chain imports Any start m
-  pub spread : IsSpreadBut (Makes imports) (imported imports) (length imports) marks waiting one next
+  pub spread : IsSpreadBut (IsImporter imports) (imported imports) (length imports) marks waiting one next

@@ -4,14 +4,14 @@ ghost use Rattle.std.specs.Prelude.{ℕ, ◌≡◌, ◌≢◌, ◌<◌, ◌≤�
 ghost use Rattle.cut_net.specs.declared.priced.Priced.{Priced};
 ghost use Rattle.cut_net.specs.Network.{name_of, Network};
 ghost use Rattle.cut_net.specs.WellFormed.{AreBetween, IsAcyclic};
-ghost use Rattle.cut_net.specs.Cuts.{Any, AreReported, AreThose, Chain, IsFlow, Reached};
+ghost use Rattle.cut_net.specs.Cuts.{Any, AreReported, IsSetOf, Chain, IsFlow, Reached};
 ghost use Rattle.cut_net.specs.Lines.{flow_by, IsAnswer, IsAscending, IsCheapestAnswer};
 ghost use Rattle.cut_net.specs.AnswerClaim.{AnswerClaim};
 ghost use Rattle.residual_graph.specs.Graphs.{is_flagged};
 ghost use Rattle.cut_part.specs.Apart.{flow_lines, AreApart};
 ghost use Rattle.cut_part.specs.Subnetworks.{internal_flow, are_ends_in, part_of, IsBetween};
-ghost use Rattle.cut_part.specs.Marks.{flow_in_net, reported_in_net, claim_in_net, IsPart};
-ghost use Rattle.cut_part.specs.CapacityReduction.{import_in, AreReductions, IsBarred, IsByEnds, IsMaxFlow, IsReducedAt, IsReduced};
+ghost use Rattle.cut_part.specs.Marks.{flow_in_net, reported_in_net, claim_in_net, IsSubnetwork};
+ghost use Rattle.cut_part.specs.CapacityReduction.{import_in, AreReductions, IsBarred, DependsOnEndsOnly, IsMaxFlow, IsReducedAt, IsReduced};
 ghost use Rattle.cut_part.specs.Renumbering.{flow_renumbered, renumbered, IsRenumbered};
 ghost use Rattle.cut_part.specs.Reversal.{reversed_flow, reversed, reversed_net};
 
@@ -39,14 +39,14 @@ pub fn steps_keep_flows()
 /// A reduced network has exactly the flows of the original one between the two modules.
 pub fn reduced_has_equal_flows()
     // A flow of the one network is a flow of the other.
-    ensures { (old new : Network) (a b : ℕ) → IsReduced old new a b → (flow : Priced → ℕ) (value : ℕ) → IsByEnds flow →
+    ensures { (old new : Network) (a b : ℕ) → IsReduced old new a b → (flow : Priced → ℕ) (value : ℕ) → DependsOnEndsOnly flow →
         (IsFlow old a b flow value) ↔ (IsFlow new a b flow value) }
 {}
 
 /// A maximum flow of the reduced network is one of the original network: b isn't reachable from a in its residual graph.
 pub fn reduced_maximum_is_maximum()
     // A maximum flow of the reduced network is one of the original network.
-    ensures { (old new : Network) (a b : ℕ) → IsReduced old new a b → (flow : Priced → ℕ) (value : ℕ) → IsByEnds flow →
+    ensures { (old new : Network) (a b : ℕ) → IsReduced old new a b → (flow : Priced → ℕ) (value : ℕ) → DependsOnEndsOnly flow →
         IsMaxFlow new a b flow value → IsMaxFlow old a b flow value }
 {}
 
@@ -56,14 +56,14 @@ pub fn maximum_has_most()
     ensures most { (net : Network) (a b : ℕ) (flow : Priced → ℕ) (value : ℕ) → AreBetween net.imports (length net.names) → a < length net.names →
         IsMaxFlow net a b flow value → (other : Priced → ℕ) (more : ℕ) → IsFlow net a b other more → more ≤ value }
     // The sink is separated in the residual graph exactly if it isn't reachable there.
-    ensures unreached { (net : Network) (a b : ℕ) (flow : Priced → ℕ) (modules : ℕ → Bool) → AreThose modules (Reached net flow a) →
+    ensures unreached { (net : Network) (a b : ℕ) (flow : Priced → ℕ) (modules : ℕ → Bool) → IsSetOf modules (Reached net flow a) →
         (IsBarred net flow a b) ↔ (modules b ≡ false) }
 {}
 
 /// A flow given by lines depends only on the modules of an import.
 pub fn lines_are_by_ends()
     // The flow of lines depends only on the modules of an import.
-    ensures { (lines : List Priced) → IsByEnds (flow_by lines) }
+    ensures { (lines : List Priced) → DependsOnEndsOnly (flow_by lines) }
 {}
 
 /// A flow from a to b is a flow from b to a in the reversed network, with an equal value, and vice versa.
@@ -94,21 +94,21 @@ pub fn part_flow_is_flow()
 pub fn flow_stays_between()
     // Imports outside the subnetwork carry nothing, and the flow is one of the subnetwork.
     ensures { (net : Network) (kept : ℕ → Bool) (a b : ℕ) (flow : Priced → ℕ) (value : ℕ) → AreBetween net.imports (length net.names) → a < length net.names →
-        IsAcyclic net.imports → AreThose kept (IsBetween net a b) → IsFlow net a b flow value →
+        IsAcyclic net.imports → IsSetOf kept (IsBetween net a b) → IsFlow net a b flow value →
         ((i : Priced) → Contains net.imports i → are_ends_in kept i ≡ false → flow i ≡ 0) × IsFlow (part_of net kept) a b flow value }
 {}
 
 /// A maximum flow of the subnetwork of the modules on paths from a to b, extended by 0, is a maximum flow of the whole network.
 pub fn part_maximum_is_maximum()
     // The extended flow is a maximum flow of the whole network.
-    ensures { (net : Network) (kept : ℕ → Bool) (a b : ℕ) → AreThose kept (IsBetween net a b) → (flow : Priced → ℕ) (value : ℕ) →
+    ensures { (net : Network) (kept : ℕ → Bool) (a b : ℕ) → IsSetOf kept (IsBetween net a b) → (flow : Priced → ℕ) (value : ℕ) →
         IsMaxFlow (part_of net kept) a b flow value → IsMaxFlow net a b (internal_flow kept flow) value }
 {}
 
-/// The reported imports of that subnetwork are those of the whole network.
+/// The reported imports of the subnetwork of the modules on paths from a to b are those of the whole network.
 pub fn part_reports_equal_cut()
     // The reported imports of the subnetwork are those of the whole network.
-    ensures { (net : Network) (kept : ℕ → Bool) (a b : ℕ) → AreThose kept (IsBetween net a b) →
+    ensures { (net : Network) (kept : ℕ → Bool) (a b : ℕ) → IsSetOf kept (IsBetween net a b) →
         (x : Priced → Bool) → AreReported (part_of net kept) a b x → AreReported net a b (λ i. are_ends_in kept i && x i) }
 {}
 
@@ -129,16 +129,16 @@ pub fn renumbered_reports_equal_cut()
         (x : Priced → Bool) → AreReported small a b x → AreReported whole (number a) (number b) (λ i. x (renumbered back i)) }
 {}
 
-/// A flow of the network that `between` returns, extended by 0, is a flow of the whole network, with an equal value; a maximum flow is a
-/// maximum flow.
+/// A flow of the network that `between` returns, extended by 0, is a flow of the whole network, with an equal value. If it is maximum in
+/// the subnetwork, it is maximum in the whole network.
 pub fn subnetwork_has_equal_flows()
     // The extended flow is a flow of the whole network.
     ensures flows { (net small : Network) (a b : ℕ) (marks : List Bool) (numbers new_numbers : List ℕ) → a < length net.names → b < length net.names →
-        IsPart net a b marks numbers new_numbers small → (flow : Priced → ℕ) (value : ℕ) →
+        IsSubnetwork net a b marks numbers new_numbers small → (flow : Priced → ℕ) (value : ℕ) →
         IsFlow small (slice_index new_numbers a) (slice_index new_numbers b) flow value → IsFlow net a b (flow_in_net marks new_numbers flow) value }
     // If it is maximum in the subnetwork, it is maximum in the whole network.
     ensures greatest { (net small : Network) (a b : ℕ) (marks : List Bool) (numbers new_numbers : List ℕ) → a < length net.names → b < length net.names →
-        IsPart net a b marks numbers new_numbers small → (flow : Priced → ℕ) (value : ℕ) →
+        IsSubnetwork net a b marks numbers new_numbers small → (flow : Priced → ℕ) (value : ℕ) →
         IsMaxFlow small (slice_index new_numbers a) (slice_index new_numbers b) flow value → IsMaxFlow net a b (flow_in_net marks new_numbers flow) value }
 {}
 
@@ -146,10 +146,10 @@ pub fn subnetwork_has_equal_flows()
 pub fn subnetwork_reports_equal_cut()
     // The reported imports of the subnetwork are those of the whole network.
     ensures printed { (net small : Network) (a b : ℕ) (marks : List Bool) (numbers new_numbers : List ℕ) → a < length net.names → b < length net.names →
-        IsPart net a b marks numbers new_numbers small → (x : Priced → Bool) →
+        IsSubnetwork net a b marks numbers new_numbers small → (x : Priced → Bool) →
         AreReported small (slice_index new_numbers a) (slice_index new_numbers b) x → AreReported net a b (reported_in_net marks new_numbers x) }
     // Corresponding modules have equal names.
-    ensures names { (net small : Network) (a b : ℕ) (marks : List Bool) (numbers new_numbers : List ℕ) → IsPart net a b marks numbers new_numbers small →
+    ensures names { (net small : Network) (a b : ℕ) (marks : List Bool) (numbers new_numbers : List ℕ) → IsSubnetwork net a b marks numbers new_numbers small →
         (m : ℕ) → is_flagged marks m ≡ true → name_of small (slice_index new_numbers m) ≡ name_of net m }
 {}
 
@@ -158,11 +158,11 @@ pub fn subnetwork_reports_equal_cut()
 pub fn subnetwork_has_equal_answers()
     // The renumbered answer is one for the whole network.
     ensures answer { (net small : Network) (a b : ℕ) (marks : List Bool) (numbers new_numbers : List ℕ) → a < length net.names → b < length net.names →
-        IsPart net a b marks numbers new_numbers small → (claim : AnswerClaim) →
+        IsSubnetwork net a b marks numbers new_numbers small → (claim : AnswerClaim) →
         IsAnswer small (slice_index new_numbers a) (slice_index new_numbers b) claim → IsAnswer net a b (claim_in_net numbers claim) }
     // If its cut is cheapest in the subnetwork, it is cheapest in the whole network.
     ensures cheapest { (net small : Network) (a b : ℕ) (marks : List Bool) (numbers new_numbers : List ℕ) → a < length net.names → b < length net.names →
-        IsPart net a b marks numbers new_numbers small → (claim : AnswerClaim) → IsAnswer small (slice_index new_numbers a) (slice_index new_numbers b) claim →
+        IsSubnetwork net a b marks numbers new_numbers small → (claim : AnswerClaim) → IsAnswer small (slice_index new_numbers a) (slice_index new_numbers b) claim →
         IsCheapestAnswer small (slice_index new_numbers a) (slice_index new_numbers b) claim → IsCheapestAnswer net a b (claim_in_net numbers claim) }
 {}
 

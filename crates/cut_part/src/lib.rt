@@ -1,7 +1,8 @@
 //! Smaller networks with equal flows between two modules: the subnetwork of the modules on paths between them, capacities reduced along
 //! paths, and the reversed imports.
 //! Depends on `cut_net` for networks, `residual_graph` for flags of nodes, and `digraph` for linked lists.
-//! The main calls are `between` and `reduced_capacities`. An answer for the subnetwork is, after renumbering, an answer for the whole network;
+//! The main calls are `between` and `reduced_capacities`. An answer for the subnetwork is, after renumbering, an answer for the whole
+//! network;
 //! reduced capacities lose no flow.
 #![tactic(auto)]
 

@@ -1,4 +1,4 @@
-//! Topological order of imports (Kahn 1962). Proved is only that the numbers are those of imports.
+//! Topological order of imports (Kahn 1962). The order itself isn't proved, only that it has no number but those of imports.
 ghost use Rattle.std.specs.Prelude.{◌≡◌, ◌<◌, ◌≤◌, All, IfOk, OnOk, length, vec_len};
 ghost use Rattle.cut_net.specs.WellFormed.{AreBetween};
 
@@ -13,8 +13,12 @@ struct ImportRanges {
     entering: Vec<u32>,
 }
 
-/// One pass over the imports. Those of a module are adjacent.
-fn count_all(alloc: Global, imports: &[Priced], modules: u32) -> Result<ImportRanges, AllocError>
+/// The ranges and in-degrees of the modules, in one pass over the imports. The imports of a module are adjacent.
+fn import_ranges_of(
+    alloc: Global,
+    imports: &[Priced],
+    modules: u32,
+) -> Result<ImportRanges, AllocError>
     requires between { AreBetween imports.now modules }
     requires few { length imports.now ≤ 65536 }
     ensures begins { IfOk result (λ c. vec_len c.begins ≡ modules) }
@@ -55,7 +59,7 @@ fn sources_of(alloc: Global, entering: &[u32]) -> Result<Vec<u32>, AllocError>
 }
 
 /// Appends the numbers of these imports and removes them; an imported module whose in-degree becomes 0 is free.
-fn remove_node(
+fn remove_imports(
     imports: &[Priced],
     begin: u32,
     end: u32,
@@ -101,7 +105,7 @@ pub fn topological_imports(
     // The result has only numbers of imports.
     ensures { IfOk result (λ numbers. All (λ k. k < length imports.now) numbers.items) }
 {
-    let counted = count_all(alloc, imports, modules)?;
+    let counted = import_ranges_of(alloc, imports, modules)?;
     let mut entering = counted.entering;
     let mut free = sources_of(alloc, &entering)?;
     let mut numbers = Vec::with_capacity(alloc, imports.len())?;
@@ -113,7 +117,7 @@ pub fn topological_imports(
             counted.begins[importer as usize],
             counted.ends[importer as usize],
         );
-        remove_node(imports, begin, end, &mut entering, &mut free, &mut numbers)?;
+        remove_imports(imports, begin, end, &mut entering, &mut free, &mut numbers)?;
     }
     Ok(numbers)
 }

@@ -1,11 +1,11 @@
 //! Subnetworks: the modules on paths between two modules, with the imports between them.
 ghost use Rattle.std.specs.Prelude.{◌≡◌, ◌<◌, ◌≤◌, ◌&&◌, ℕ, IfOk, All, filter, map, length, slice_index};
-ghost use Rattle.cut_net.specs.Cuts.{AreThose};
+ghost use Rattle.cut_net.specs.Cuts.{IsSetOf};
 ghost use Rattle.cut_net.specs.Network.{name_of, texts};
 ghost use Rattle.cut_net.specs.WellFormed.{AreBetween};
 ghost use Rattle.residual_graph.specs.Graphs.{is_flagged};
 ghost use Rattle.cut_part.specs.Subnetworks.{are_ends_in, IsBetween};
-ghost use Rattle.cut_part.specs.Marks.{imports_in_net, with_ends, IsNumbering, IsPart};
+ghost use Rattle.cut_part.specs.Marks.{imports_in_net, with_ends, IsNumbering, IsSubnetwork};
 ghost use Rattle.cut_part.specs.Renumbering.{renumbered};
 ghost use Rattle.cut_part.specs.Reversal.{reversed};
 
@@ -21,7 +21,7 @@ pub struct Subnetwork {
     pub net: Net,
     /// For each module of the subnetwork its number in the whole network.
     pub numbers: Vec<u32>,
-    /// For each module of the whole network that is in the subnetwork its number there.
+    /// For each module of the whole network its number in the subnetwork; meaningless for a module that isn't in it.
     pub new_numbers: Vec<u32>,
     /// For each module of the whole network whether it is on a path from the one module to the other.
     pub marks: Vec<bool>,
@@ -107,11 +107,16 @@ fn imports_between(
 }
 
 /// Flags the modules on paths from the one module to the other.
-fn path_marks(alloc: Global, net: &Net, from: u32, to: u32) -> Result<Vec<bool>, AllocError>
+fn flag_modules_on_paths(
+    alloc: Global,
+    net: &Net,
+    from: u32,
+    to: u32,
+) -> Result<Vec<bool>, AllocError>
     requires from { from < length net.now.names }
     requires to { to < length net.now.names }
     ensures size { IfOk result (λ marks. length marks.items ≡ length net.now.names) }
-    ensures between { IfOk result (λ marks. AreThose (is_flagged marks.items) (IsBetween net.now from to)) }
+    ensures between { IfOk result (λ marks. IsSetOf (is_flagged marks.items) (IsBetween net.now from to)) }
 {
     net.invariants();
     let forth = mark_reachable(alloc, net.imports(), net.nodes(), from)?;
@@ -122,7 +127,12 @@ fn path_marks(alloc: Global, net: &Net, from: u32, to: u32) -> Result<Vec<bool>,
 }
 
 /// The flags, with those of the two modules set.
-fn with_both(alloc: Global, marks: &[bool], from: u32, to: u32) -> Result<Vec<bool>, AllocError>
+fn flags_with_ends(
+    alloc: Global,
+    marks: &[bool],
+    from: u32,
+    to: u32,
+) -> Result<Vec<bool>, AllocError>
     requires from { from < length marks.now }
     requires to { to < length marks.now }
     ensures { IfOk result (λ all. all.items ≡ with_ends marks.now from to) }
@@ -145,12 +155,12 @@ fn renumbering_with_ends(
     requires to { to < length marks.now }
     ensures { IfOk result (λ r. IsNumbering (with_ends marks.now from to) r.0.items r.1.items) }
 {
-    let all = with_both(alloc, marks, from, to)?;
+    let all = flags_with_ends(alloc, marks, from, to)?;
     renumbering(alloc, &all)
 }
 
 /// The imports and the pins between flagged modules, with new numbers.
-fn lines_between(
+fn imports_and_pins_between(
     alloc: Global,
     net: &Net,
     marks: &[bool],
@@ -180,7 +190,7 @@ fn names_of(alloc: Global, net: &Net, numbers: &[u32]) -> Result<Vec<String>, Al
 }
 
 /// The line with the module numbers of the whole network.
-fn line_in_net(line: Priced, numbers: &[u32]) -> Priced
+fn import_in_net(line: Priced, numbers: &[u32]) -> Priced
     requires from { line.from < length numbers.now }
     requires to { line.to < length numbers.now }
     ensures { result ≡ renumbered (slice_index numbers.now) line }
@@ -205,7 +215,7 @@ pub fn imports_in_net(
 {
     let mut all = Vec::with_capacity(alloc, lines.len())?;
     for line in lines {
-        all.push(line_in_net(*line, numbers))?;
+        all.push(import_in_net(*line, numbers))?;
     }
     Ok(all)
 }
@@ -218,12 +228,12 @@ pub fn between(alloc: Global, net: &Net, from: u32, to: u32) -> Result<Subnetwor
     // `to` is a module.
     requires to { to < length net.now.names }
     // It is the subnetwork of the modules on paths from `from` to `to`.
-    ensures { IfOk result (λ part. IsPart net.now from to part.marks.items part.numbers.items part.new_numbers.items part.net) }
+    ensures { IfOk result (λ part. IsSubnetwork net.now from to part.marks.items part.numbers.items part.new_numbers.items part.net) }
 {
     net.invariants();
-    let marks = path_marks(alloc, net, from, to)?;
+    let marks = flag_modules_on_paths(alloc, net, from, to)?;
     let (numbers, new_numbers) = renumbering_with_ends(alloc, &marks, from, to)?;
-    let (imports, pins) = lines_between(alloc, net, &marks, &new_numbers)?;
+    let (imports, pins) = imports_and_pins_between(alloc, net, &marks, &new_numbers)?;
     let names = names_of(alloc, net, &numbers)?;
     Ok(Subnetwork {
         net: Net::with_pins(names, imports, pins),

@@ -10,7 +10,7 @@ use digraph::{LinkedLists, link_by_key};
 use std::alloc::{AllocError, Global};
 
 /// Flags the modules that a module imports; a newly flagged one joins the worklist.
-fn follow(
+fn flag_imported(
     imports: &[Priced],
     linked: &LinkedLists,
     importer: u32,
@@ -62,7 +62,7 @@ pub(crate) fn mark_reachable(
     marks[start as usize] = true;
     waiting.push(start)?;
     while let Some(importer) = waiting.pop() {
-        follow(imports, &linked, importer, &mut marks, &mut waiting)?;
+        flag_imported(imports, &linked, importer, &mut marks, &mut waiting)?;
     }
     Ok(marks)
 }

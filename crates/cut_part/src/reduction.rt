@@ -2,7 +2,7 @@
 ghost use Rattle.std.specs.Prelude.{◌≡◌, ◌≢◌, ◌<◌, ◌≤◌, ◌^◌, ◌+◌, ◌-◌, All, IfOk, length, slice_set, slice_index, sum_by, vec_len};
 ghost use Rattle.cut_net.specs.WellFormed.{AreBetween};
 ghost use Rattle.cut_part.specs.CapacityReduction.{import_in, weighing};
-ghost use Rattle.cut_part.specs.WeightSums.{weight_of, AreWeightSums, IsRoom, ReducesTo};
+ghost use Rattle.cut_part.specs.WeightSums.{weight_of, AreWeightSums, IsReducedWeight, ReducesTo};
 
 use cut_net::Priced;
 use std::alloc::{AllocError, Global};
@@ -25,7 +25,7 @@ fn add_at(sums: &mut Vec<u64>, place: usize, amount: u64)
 }
 
 /// Subtracts an amount from the sum at an index.
-fn take_at(sums: &mut Vec<u64>, place: usize, amount: u64)
+fn subtract_at(sums: &mut Vec<u64>, place: usize, amount: u64)
     requires place { place < vec_len sums.old }
     requires fits { amount ≤ slice_index sums.old.items place }
     ensures items { sums.new.items ≡ slice_set sums.old.items place (slice_index sums.old.items place - amount) }
@@ -35,7 +35,7 @@ fn take_at(sums: &mut Vec<u64>, place: usize, amount: u64)
 
 /// The minimum of the weight and the sum.
 fn reduced_weight(weight: u64, sum: u64) -> u64
-    ensures { IsRoom weight result sum }
+    ensures { IsReducedWeight weight result sum }
 {
     if sum < weight { sum } else { weight }
 }
@@ -52,8 +52,8 @@ impl WeightSums {
     {
         let import = self.imports[number];
         let less = import.amount - amount;
-        take_at(&mut self.leaving, import.from as usize, less);
-        take_at(&mut self.entering, import.to as usize, less);
+        subtract_at(&mut self.leaving, import.from as usize, less);
+        subtract_at(&mut self.entering, import.to as usize, less);
         self.imports[number] = Priced {
             from: import.from,
             to: import.to,

@@ -36,8 +36,9 @@ fn climbs(graph: &ResidualGraph, step: ResidualArc, levels: &[u32]) -> bool
     levels[tail as usize] < levels[head as usize] && graph.residual(step) > 0
 }
 
-/// Augments if the path begins at the source; otherwise extends it by a step, or retreats. Returns false if it can't retreat.
-fn make_move(
+/// Augments if the path begins at the source; otherwise extends it by a step, passes an arc that can't extend it, or retreats. Returns
+/// false if it can't retreat.
+fn advance_descent(
     graph: &mut ResidualGraph,
     levels: &[u32],
     from: u32,
@@ -106,7 +107,7 @@ pub(crate) fn blocking_flow(
         at: to,
     };
     for _ in 0..u64::MAX {
-        let moved = make_move(graph, levels, from, to, &mut descent)?;
+        let moved = advance_descent(graph, levels, from, to, &mut descent)?;
         if !moved {
             return Ok(());
         }

@@ -11,8 +11,8 @@ use residual_graph::{
 };
 use std::alloc::{AllocError, Global};
 
-/// Raises the flow if the search has reached the sink.
-fn raise(
+/// Raises the flow by a path of the search, which has reached the sink, and then by a blocking flow.
+fn raise_flow(
     alloc: Global,
     graph: &mut ResidualGraph,
     found: &SearchResult,
@@ -57,7 +57,7 @@ pub(crate) fn maximum_flow(
     blocking_flow(alloc, graph, &places, from, to)?;
     let mut found = search(alloc, graph, from)?;
     while found.reached_flags[to as usize] {
-        raise(alloc, graph, &found, from, to)?;
+        raise_flow(alloc, graph, &found, from, to)?;
         graph.invariants();
         found = search(alloc, graph, from)?;
     }

@@ -7,7 +7,10 @@ ghost use Rattle.cut_solve.specs.Solving.{AreNeeded, IsSolveOutcome, SolveError}
 
 use crate::maximum_flow::maximum_flow;
 use cut_net::{Answer, Cut, Net};
-use cut_solve::{SolveFault, as_answer, blocked, flow_of, graph_of, minimum_cut, module_of};
+use cut_solve::{
+    SolveFault, answer_of_cut, find_blocked_answer, graph_of, minimum_cut, module_number,
+    nonzero_flow,
+};
 use std::alloc::{AllocError, Global};
 
 /// A cheapest cut between two modules, with a flow that proves it.
@@ -22,7 +25,7 @@ fn solve(alloc: Global, net: &Net, from: u32, to: u32) -> Result<Cut, AllocError
     let mut graph = graph_of(alloc, net)?;
     let source_side = maximum_flow(alloc, &mut graph, from, to)?;
     graph.invariants();
-    let flow = flow_of(alloc, graph.arcs())?;
+    let flow = nonzero_flow(alloc, graph.arcs())?;
     minimum_cut(alloc, net, &source_side.reached_flags, flow, from, to)
 }
 
@@ -42,14 +45,14 @@ pub fn plain(alloc: Global, net: &Net, from: &str, to: &str) -> Result<Answer, S
     ensures needed { IfOk result (λ answer. AreNeeded net.now from.now to.now (answer_claim answer)) }
 {
     net.invariants();
-    let from = module_of(alloc, net, from)?;
-    let to = module_of(alloc, net, to)?;
+    let from = module_number(alloc, net, from)?;
+    let to = module_number(alloc, net, to)?;
     if from == to {
         return Err(SolveFault::SameModule);
     }
-    if let Some(answer) = blocked(alloc, net, from, to)? {
+    if let Some(answer) = find_blocked_answer(alloc, net, from, to)? {
         return Ok(answer);
     }
     let cut = solve(alloc, net, from, to)?;
-    Ok(as_answer(net, cut, from, to))
+    Ok(answer_of_cut(net, cut, from, to))
 }

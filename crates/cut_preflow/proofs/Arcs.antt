@@ -1,4 +1,4 @@
--- The tests of the definitions, read as facts.
+-- The Boolean tests of the definitions as propositions.
 use Rattle.std.proofs.Common.{◌≡◌, ◌≢◌, ℕ, zero, suc, ◌+◌, ◌-◌, ◌*◌, ◌/◌, ◌%◌, ◌<◌, ◌≤◌, min, inl, inr, Bool, true, false, not, ◌&&◌, ◌==◌, if◌then◌else◌, nat_lt, nat_le, Option, Some, None, refl, sym, subst, arith}
 use Rattle.std.proofs.lemmas.Bool.{cases_lt, cases_eq}
 use Rattle.std.proofs.lemmas.Bool.Decides.{nat_tests}
@@ -179,7 +179,7 @@ least_some net s v (suc k) arc l t r =
     earlier true o x w = (smaller (Some w.0) x, rw (w.1) refl, omega (arith, w.2))
     earlier false o x w = w
 
--- and an arc of the node with residual above 0 leads to that label
+-- and an arc of the node with residual capacity leads to that label
 pub least_at : (net : FlowNetwork) (s : State) (v k least : ℕ) → least_head net s v k ≡ Some least → (arc : ℕ) × (arc < k) × (tail net arc ≡ v) × (0 < residual net s arc) × (label_at s (head net arc) ≡ least)
 least_at net s v zero least e = cc
 least_at net s v (suc k) least e = go (tail net k == v && nat_lt 0 (residual net s k)) refl (least_head net s v k) (λ y q. least_at net s v k y q) e

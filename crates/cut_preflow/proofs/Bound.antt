@@ -52,7 +52,7 @@ active_after net s flow u w lw a ne same =
     t = record { flow = flow; label = s.label }
 
 module _ (net : FlowNetwork) (most : ℕ) where
-  -- what a step that applies does to the three sums
+  -- the change of the three sums by a step that applies
   abbrev pub Falls : State → State → Type 0
   Falls s t = active_labels net t + most * levels net s + 2 * labels net s + 1 ≤ active_labels net s + most * levels net t + 2 * labels net t
 
@@ -207,7 +207,7 @@ module _ (net : FlowNetwork) (most : ℕ) where
         subst (λ ys. Falls s (record { flow = ys; label = s.label })) flows falls)
   ]
 
-  -- a relabel that lifts one label
+  -- a relabel that raises one label
   lifts : (a a' l l' d d' old new : ℕ) → a' + old ≡ a + new → d' + old ≡ d + new → old < new → most * l ≤ most * l' → a' + most * l + 2 * d + 1 ≤ a + most * l' + 2 * d'
   lifts a a' l l' d d' old new p q r le = omega arith
 

@@ -8,7 +8,7 @@ use Rattle.cut_preflow.specs.declared.ends.FlowEnds.{FlowEnds}
 use Rattle.cut_preflow.specs.Preflow.{FlowNetwork, State, count, import_at, flow_at, inflow, outflow, excess, is_forward, tail, head, residual, is_active, push_amount, pushed}
 use Rattle.cut_preflow.specs.Kept.{IsValidPreflow}
 use Rattle.cut_preflow.specs.Trace.{IsSound, IsWithinLimits, flow_network}
-use Rattle.cut_preflow.specs.Indexed.{AreActive, IsIndexed, brought, carried, is_active_by}
+use Rattle.cut_preflow.specs.Indexed.{AreActive, IsIndexed, with_added_excess, carried, is_active_by}
 use Rattle.cut_preflow.proofs.Choices.{choice_le, choice_same, choice_other, pick_true, pick_false, true_or_false}
 use Rattle.cut_preflow.proofs.Totals.{total-le}
 use Rattle.cut_preflow.proofs.Pushes.{by_key_raised}
@@ -49,7 +49,7 @@ module _ (net : FlowNetwork) (s : State) (arc : ℕ) (kept : IsValidPreflow net 
         omega (arith, enters, leaves, from, to))
   ]
 
--- and what that is to the excess
+-- and the effect on the excess
 pub push_carries : (net : FlowNetwork) (s : State) (arc : ℕ) → IsSound net s → Pushable net s arc → (v : ℕ) → v < net.nodes → v ≢ net.source →
     excess net (after_push net s arc) v + (if tail net arc == v then push_amount net s arc else 0) ≡ excess net s v + (if head net arc == v then push_amount net s arc else 0)
 push_carries net s arc sound can v low ne =
@@ -60,7 +60,7 @@ eq_false : (a b : ℕ) → a ≢ b → (a == b) ≡ false
 eq_false a b h = grind (arith, nat_tests)
 
 -- an excess after an amount came to a node
-pub brought_at : (source : ℕ) (xs : List ℕ) (node amount v : ℕ) → node < length xs → v ≢ source → get_or (brought source xs node amount) v 0 ≡ get_or xs v 0 + (if node == v then amount else 0)
+pub brought_at : (source : ℕ) (xs : List ℕ) (node amount v : ℕ) → node < length xs → v ≢ source → get_or (with_added_excess source xs node amount) v 0 ≡ get_or xs v 0 + (if node == v then amount else 0)
 brought_at source xs node amount v l ne = elim (cases_eq node source) [
   | inl e ↦
       (let none = choice_other node v amount 0 (λ q. ne (sym q ∙ e)) in

@@ -1,4 +1,4 @@
--- Flows and sides, over plain functions: n nodes, m imports, each with its ends, its capacity and its flow.
+-- Flows and source sides, stated over functions: n nodes, m imports, each with its ends, its capacity and its flow.
 use Rattle.std.proofs.Common.{◌≡◌, ◌≢◌, ℕ, ◌+◌, ◌<◌, ◌≤◌, inl, inr, Bool, true, false, not, ◌&&◌, ◌==◌, if◌then◌else◌, nat_lt, refl, sym, ap, ◌∙◌, arith}
 use Rattle.std.proofs.lemmas.Bool.{cases_lt, cases_eq}
 use Rattle.std.proofs.lemmas.Bool.Decides.{nat_tests}
@@ -73,7 +73,7 @@ module _ (n m : ℕ) (from to capacity flow : ℕ → ℕ) (from_low : (i : ℕ)
       ]
 
   module _ (fits : (i : ℕ) → i < m → flow i ≤ capacity i) where
-    -- a closed side is left by its whole weight
+    -- the flow out of a closed side is its weight
     pub closed_full : (side : ℕ → Bool) → Closed m from to capacity flow side → leaving m from to flow side ≡ leaving m from to capacity side
     closed_full side closed =
         total-same m (λ i. if side (from i) && not (side (to i)) then flow i else 0) (λ i. if side (from i) && not (side (to i)) then capacity i else 0)
@@ -104,7 +104,7 @@ module _ (n m : ℕ) (from to capacity flow : ℕ → ℕ) (from_low : (i : ℕ)
                 | inr other ↦ rw (kept v l ne other) refl
               ]
 
-      -- a closed side weighs the value
+      -- the weight of a closed side is the value of the flow
       pub value_of_closed : (side : ℕ → Bool) → side source ≡ true → side sink ≡ false → Closed m from to capacity flow side → total m (λ i. if from i == source then flow i else 0) ≡ total m (λ i. if to i == source then flow i else 0) + leaving m from to capacity side
       value_of_closed side a b closed = omega (arith, value_over side a b, closed_full side closed, nothing_enters side closed)
 

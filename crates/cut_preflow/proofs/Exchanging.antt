@@ -1,4 +1,4 @@
--- Two places of an order exchanged, and what that does to a set of nodes.
+-- Two indices of a permutation swapped, and the effect on a set of nodes.
 use Rattle.std.proofs.Common.{◌≡◌, ◌≢◌, ℕ, zero, suc, ◌+◌, ◌-◌, ◌^◌, ◌<◌, ◌≤◌, Bool, true, false, nat_lt, List, [], ◌∷◌, length, get_or, set, map, replicate, inl, inr, refl, sym, ap, ◌∙◌, subst, arith, length-set, get_or-set_same, get_or-set_other}
 use Rattle.std.proofs.lemmas.Bool.{cases_eq}
 use Rattle.std.proofs.lemmas.Bool.Decides.{nat_tests}
@@ -19,7 +19,7 @@ exchanged_second first second p e = grind (arith, nat_tests)
 exchanged_other : (first second p : ℕ) → p ≢ first → p ≢ second → exchanged first second p ≡ p
 exchanged_other first second p f s = grind (arith, nat_tests)
 
--- the nodes at two places, each given the other place
+-- the nodes at two indices, each given the other index
 pub places_exchanged : (order position : List ℕ) (first second : ℕ) → AreInverse order position → first < length order → second < length order →
     set (set position (get_or order first 0) second) (get_or order second 0) first ≡ map (exchanged first second) position
 places_exchanged order position first second inv in_first in_second =
@@ -63,7 +63,7 @@ places_exchanged order position first second inv in_first in_second =
               ]
         ]
 
--- exchanged twice it is as it was
+-- swapping twice changes nothing
 exchanged_again : (first second p : ℕ) → exchanged first second (exchanged first second p) ≡ p
 exchanged_again first second p = elim (cases_eq p first) [
   | inl e ↦ ap (exchanged first second) (exchanged_first first second p e) ∙ exchanged_second first second second refl ∙ sym e
@@ -84,7 +84,7 @@ exchanged_within first second p n in_first in_second within = elim (cases_eq p f
   ]
 ]
 
--- what stands at each place once two are exchanged
+-- what stands at each index once two are exchanged
 order_exchanged : (order : List ℕ) (first second i : ℕ) → first < length order → second < length order →
     get_or (set (set order first (get_or order second 0)) second (get_or order first 0)) i 0 ≡ get_or order (exchanged first second i) 0
 order_exchanged order first second i in_first in_second =
@@ -145,7 +145,7 @@ inverse_exchanged order position first second inv in_first in_second =
           ∙ inv.ordered v within;
     })
 
--- a node at another place, with another bound on the places of members, which is to change nothing for the other nodes
+-- a node at another index, with another bound on the indices of members, which is to change nothing for the other nodes
 pub members_exchanged : (order position : List ℕ) (node other old new : ℕ) (is : Bool) → AreInverse order position → node < length position →
     nat_lt other new ≡ is →
     ((p : ℕ) → p ≢ get_or position node 0 → nat_lt (exchanged (get_or position node 0) other p) new ≡ nat_lt p old) →
@@ -196,7 +196,7 @@ members_more order position node size inv l past =
           new ∙ grind (arith, nat_tests)
     ]
 
--- the last member in the place of another, which is then past the members
+-- the last member in the index of another, which is then past the members
 pub members_less : (order position : List ℕ) (node size : ℕ) → AreInverse order position → node < length position → get_or position node 0 < size →
     map (λ p. nat_lt p (size - 1)) (map (exchanged (get_or position node 0) (size - 1)) position) ≡ set (map (λ p. nat_lt p size) position) node false
 members_less order position node size inv l low =
@@ -212,7 +212,7 @@ members_less order position node size inv l low =
           new ∙ grind (arith, nat_tests)
     ]
 
--- a write of what is there already
+-- writing the value that an index has already
 pub members_same : (position : List ℕ) (node size : ℕ) (is : Bool) → node < length position → nat_lt (get_or position node 0) size ≡ is →
     map (λ p. nat_lt p size) position ≡ set (map (λ p. nat_lt p size) position) node is
 members_same position node size is l was =
@@ -229,7 +229,7 @@ members_same position node size is l was =
       | inr ne ↦ sym (get_or-set_other (map test position) node v is false ne)
     ]
 
--- a vector of places written through its whole slice
+-- a vector of indices written through its whole slice
 pub places_written : (positions : Vec ℕ Global) (slice new : List ℕ) (first other node : ℕ) → length positions.items ≡ positions.len →
     new ≡ map (exchanged first other) slice → slice ≡ positions.items → first ≡ get_or positions.items node 0 →
     (with_items positions new).items ≡ map (exchanged (get_or positions.items node 0) other) positions.items
@@ -258,7 +258,7 @@ has_placed order position i size inv l low =
     ∙ ap (λ p. nat_lt p size) (inv.placed i l)
     ∙ grind (arith, nat_tests)
 
--- where there are no members, no node is one
+-- with size 0 no node is a member
 pub none_of_none : (position : List ℕ) (size v : ℕ) → size ≡ 0 → get_or (map (λ p. nat_lt p size) position) v false ≡ false
 none_of_none [] size v none = refl
 none_of_none (p ∷ ps) size zero none = grind (arith, nat_tests)

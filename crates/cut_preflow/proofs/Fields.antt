@@ -1,4 +1,4 @@
--- What holds of a preflow's fields holds of what contracts see.
+-- Properties of a preflow's fields as properties of its specification.
 use Rattle.std.proofs.Common.{◌≡◌, sym, subst}
 use Rattle.cut_preflow.specs.declared.preflow_core.PreflowCore.TheInside.{Inside}
 use Rattle.cut_preflow.specs.Preflow.{FlowNetwork, State}

@@ -1,19 +1,19 @@
--- A quiet state's flow and side are those of the network.
+-- In a state without active nodes, the flow is one of the network and the reached nodes are the minimal source side.
 use Rattle.std.proofs.Common.{◌≡◌, ◌≢◌, ℕ, ◌<◌, ◌≤◌, ◌==◌, if◌then◌else◌, Bool, true, false, List, length, refl, sym, ◌∙◌, subst, arith, inl, inr}
 use Rattle.std.proofs.lemmas.Bool.{both_ways, cases_lt, false_from_ne_true}
 use Rattle.std.proofs.lemmas.List.Elements.{Contains-get_or}
 use Rattle.cut_net.specs.Network.{Network, missing_item}
 use Rattle.cut_net.specs.WellFormed.{AreBetween}
-use Rattle.cut_net.specs.Cuts.{AreThose, IsClosed, IsFlow, InSourceSide, Reached}
+use Rattle.cut_net.specs.Cuts.{IsSetOf, IsClosed, IsFlow, InSourceSide, Reached}
 use Rattle.cut_net.proofs.NearSide.{is_near}
 use Rattle.cut_part.specs.CapacityReduction.{IsBarred}
 use Rattle.cut_preflow.specs.Preflow.{FlowNetwork, State, count, flow_at, import_at, inflow, outflow}
 use Rattle.cut_preflow.specs.Kept.{IsFlowNetwork, IsValidPreflow, IsQuiet}
-use Rattle.cut_preflow.specs.Flows.{AreSourceSide, AreReached, HasFlow, IsShutOff, flow_on, network_between, value_of}
-use Rattle.cut_preflow.specs.Side.{has, IsReach}
+use Rattle.cut_preflow.specs.Flows.{AreSourceSide, AreReached, HasFlow, IsSinkUnreachable, flow_on, network_between, value_of}
+use Rattle.cut_preflow.specs.Side.{has, IsReachableSet}
 use Rattle.cut_preflow.proofs.Choices.{choice_other}
 use Rattle.cut_preflow.proofs.Totals.{total-zero}
-use Rattle.cut_preflow.proofs.Carried.{at_numbers, entering_is, flow_is, leaving_is}
+use Rattle.cut_preflow.proofs.FlowGraphModel.{at_numbers, entering_is, flow_is, leaving_is}
 use Rattle.cut_preflow.proofs.Quiet.{closed_side, IsShut, quiet_conserves, source_gives}
 use Rattle.cut_preflow.proofs.Reaching.{closed_by_arcs, closed_by_imports}
 
@@ -42,8 +42,8 @@ module _ (net : Network) (a b : ℕ) (s : State) (is : IsFlowNetwork (network_be
       let there = Contains-get_or net.imports k missing_item h in
       (λ room t. closed.forward i there (omega (arith, flow_here k h, room)) t, λ some t. closed.backward i there (omega (arith, flow_here k h, some)) t)
 
-  -- the marks of what the source reaches by arcs are of what it reaches by residual imports
-  pub reached : (bits : List Bool) → IsReach net.imports s.flow a bits → AreThose (has bits) (Reached net (flow_on flow_net s) a)
+  -- the flags of what the source reaches by arcs are of what it reaches by residual imports
+  pub reached : (bits : List Bool) → IsReachableSet net.imports s.flow a bits → IsSetOf (has bits) (Reached net (flow_on flow_net s) a)
   reached bits reach m = (
     λ t modules start closed. reach.least modules start (closed_by_arcs flow_net s modules (closed_shut modules closed)) m t,
     λ r. r (has bits) reach.starts (shut_closed (has bits) (closed_by_imports flow_net s (has bits) reach.closed)),
@@ -78,8 +78,8 @@ module _ (net : Network) (a b : ℕ) (s : State) (is : IsFlowNetwork (network_be
         let some = closed_side flow_net s is kept quiet in
         (some.0, record { start = some.1; end = some.2; closed = shut_closed some.0 some.3 })
 
-    -- so what is reached is what is near
-    pub near : (modules : ℕ → Bool) → AreThose modules (Reached net (flow_on flow_net s) a) → AreThose modules (InSourceSide net a b)
+    -- so the reached modules are the minimal source side
+    pub near : (modules : ℕ → Bool) → IsSetOf modules (Reached net (flow_on flow_net s) a) → IsSetOf modules (InSourceSide net a b)
     near modules those = is_near net a b (flow_on flow_net s) (value_of flow_net s) between is.source_low has_flow modules those without
       where
         without : modules b ≡ false
@@ -93,23 +93,23 @@ quiet_has_flow flow_net s is kept quiet net of =
     subst (λ f. IsFlowNetwork f → IsValidPreflow f s → IsQuiet f s → IsFlow net f.source f.sink (flow_on f s) (value_of f s)) (sym of)
     (λ is' kept' quiet'. has_flow net flow_net.source flow_net.sink s is' kept'.flows kept' quiet') is kept quiet
 
-pub quiet_is_shut_off : (flow_net : FlowNetwork) (s : State) → IsFlowNetwork flow_net → IsValidPreflow flow_net s → IsQuiet flow_net s → IsShutOff flow_net s
+pub quiet_is_shut_off : (flow_net : FlowNetwork) (s : State) → IsFlowNetwork flow_net → IsValidPreflow flow_net s → IsQuiet flow_net s → IsSinkUnreachable flow_net s
 quiet_is_shut_off flow_net s is kept quiet net of =
     subst (λ f. IsFlowNetwork f → IsValidPreflow f s → IsQuiet f s → IsBarred net (flow_on f s) f.source f.sink) (sym of)
     (λ is' kept' quiet'. shut_off net flow_net.source flow_net.sink s is' kept'.flows kept' quiet') is kept quiet
 
-pub marks_reached : (flow_net : FlowNetwork) (s : State) (bits : List Bool) → IsFlowNetwork flow_net → length s.flow ≡ count flow_net → IsReach flow_net.imports s.flow flow_net.source bits → AreReached flow_net s bits
+pub marks_reached : (flow_net : FlowNetwork) (s : State) (bits : List Bool) → IsFlowNetwork flow_net → length s.flow ≡ count flow_net → IsReachableSet flow_net.imports s.flow flow_net.source bits → AreReached flow_net s bits
 marks_reached flow_net s bits is size reach net of =
-    subst (λ f. IsFlowNetwork f → length s.flow ≡ count f → IsReach f.imports s.flow f.source bits → AreThose (has bits) (Reached net (flow_on f s) f.source)) (sym of)
+    subst (λ f. IsFlowNetwork f → length s.flow ≡ count f → IsReachableSet f.imports s.flow f.source bits → IsSetOf (has bits) (Reached net (flow_on f s) f.source)) (sym of)
     (λ is' size' reach'. reached net flow_net.source flow_net.sink s is' size' bits reach') is size reach
 
 pub marks_near : (flow_net : FlowNetwork) (s : State) (bits : List Bool) → IsFlowNetwork flow_net → IsValidPreflow flow_net s → IsQuiet flow_net s → AreReached flow_net s bits → AreSourceSide flow_net bits
 marks_near flow_net s bits is kept quiet those net of =
-    subst (λ f. IsFlowNetwork f → IsValidPreflow f s → IsQuiet f s → AreReached f s bits → AreThose (has bits) (InSourceSide net f.source f.sink)) (sym of)
+    subst (λ f. IsFlowNetwork f → IsValidPreflow f s → IsQuiet f s → AreReached f s bits → IsSetOf (has bits) (InSourceSide net f.source f.sink)) (sym of)
     (λ is' kept' quiet' those'. near net flow_net.source flow_net.sink s is' kept'.flows kept' quiet' (has bits) (those' net refl)) is kept quiet those
 
 -- once quiet, the sink is not reached
-pub sink_outside : (flow_net : FlowNetwork) (s : State) (bits : List Bool) → IsFlowNetwork flow_net → IsValidPreflow flow_net s → IsQuiet flow_net s → IsReach flow_net.imports s.flow flow_net.source bits → has bits flow_net.sink ≡ false
+pub sink_outside : (flow_net : FlowNetwork) (s : State) (bits : List Bool) → IsFlowNetwork flow_net → IsValidPreflow flow_net s → IsQuiet flow_net s → IsReachableSet flow_net.imports s.flow flow_net.source bits → has bits flow_net.sink ≡ false
 sink_outside flow_net s bits is kept quiet reach =
     let some = closed_side flow_net s is kept quiet in
     false_from_ne_true _ (λ t. both_ways (some.0 flow_net.sink) some.2 (reach.least some.0 some.1 (closed_by_arcs flow_net s some.0 some.3) flow_net.sink t))

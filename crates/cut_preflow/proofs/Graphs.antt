@@ -11,9 +11,9 @@ use Rattle.residual_graph.specs.Flows.{pushed}
 use Rattle.residual_graph.proofs.Walking.{along, reaches_itself}
 use Rattle.residual_graph.specs.Graphs.{AreClosed, AreReached, HasArc, head, no_arc, residual, tail}
 use Rattle.residual_graph.specs.OutArcs.{IsOutOf, no_out_arc, step_of}
-use Rattle.cut_preflow.specs.FlowGraphs.{Carried, IsArcFrom, arc_opened, arcs_opened, flow_of, flows_of, import_of, imports_of, arc_number, out_arc_number}
+use Rattle.cut_preflow.specs.FlowGraphs.{FlowGraphModel, IsArcFrom, opening_arc, opening_arcs, flow_of, flows_of, import_of, imports_of, arc_number, out_arc_number}
 use Rattle.cut_preflow.specs.Preflow.{head_in, import_in, is_forward, opening_flows, residual_in, tail_in}
-use Rattle.cut_preflow.specs.Side.{IsReach, has}
+use Rattle.cut_preflow.specs.Side.{IsReachableSet, has}
 use Rattle.cut_preflow.proofs.Arcs.{eq_from, eq_true, even_forward, half_even, half_odd, odd_back}
 use Rattle.cut_preflow.proofs.Choices.{choice_le, pick_false, pick_true, true_or_false}
 
@@ -100,7 +100,7 @@ arcs_all nodes arcs v outs all a low leaves =
     (contains_number outs (numbered a) (all (numbered a) (known_is arcs a (omega arith)) (sym (tail_is arcs a) ∙ leaves)))
 
 -- the numbers of a node's arcs are those that leave from it
-pub numbers_are : (g : Carried) (v : ℕ) (outs : List OutArc) → All (IsArcFrom g v) outs → ((a : ℕ) → a < 2 * length g.imports → tail_in g.imports a ≡ v → Contains (map out_arc_number outs) a) →
+pub numbers_are : (g : FlowGraphModel) (v : ℕ) (outs : List OutArc) → All (IsArcFrom g v) outs → ((a : ℕ) → a < 2 * length g.imports → tail_in g.imports a ≡ v → Contains (map out_arc_number outs) a) →
     (a : ℕ) → Contains (map out_arc_number outs) a ↔ ((a < 2 * length g.imports) × (tail_in g.imports a ≡ v))
 numbers_are g v outs each all a = (
   λ (j, in_map, at).
@@ -112,29 +112,29 @@ numbers_are g v outs each all a = (
   λ (low, leaves). all a low leaves,
 )
 
-pub opened_imports : (source : ℕ) (imports : List Priced) → imports_of (arcs_opened source imports) ≡ imports
+pub opened_imports : (source : ℕ) (imports : List Priced) → imports_of (opening_arcs source imports) ≡ imports
 opened_imports source [] = refl
 opened_imports source (i ∷ imports) = ap (λ more. i ∷ more) (opened_imports source imports)
 
-pub opened_flows : (source : ℕ) (imports : List Priced) → flows_of (arcs_opened source imports) ≡ opening_flows source imports
+pub opened_flows : (source : ℕ) (imports : List Priced) → flows_of (opening_arcs source imports) ≡ opening_flows source imports
 opened_flows source [] = refl
 opened_flows source (i ∷ imports) = ap (λ more. (if i.from == source then i.amount else 0) ∷ more) (opened_flows source imports)
 
-opened_at : (source : ℕ) (imports : List Priced) (k : ℕ) (d : Arc) → k < length imports → get_or (arcs_opened source imports) k d ≡ arc_opened source (import_in imports k)
+opened_at : (source : ℕ) (imports : List Priced) (k : ℕ) (d : Arc) → k < length imports → get_or (opening_arcs source imports) k d ≡ opening_arc source (import_in imports k)
 opened_at source [] k d low = absurd (omega arith)
 opened_at source (i ∷ imports) zero d low = refl
 opened_at source (i ∷ imports) (suc k) d low = opened_at source imports k d (omega arith)
 
-pub opened_within : (source : ℕ) (imports : List Priced) → All (λ r. r.flow ≤ r.capacity) (arcs_opened source imports)
+pub opened_within : (source : ℕ) (imports : List Priced) → All (λ r. r.flow ≤ r.capacity) (opening_arcs source imports)
 opened_within source imports k d low =
-    let len = length-map imports (arc_opened source) in
+    let len = length-map imports (opening_arc source) in
     let i = import_in imports k in
     subst (λ (r : Arc). r.flow ≤ r.capacity) (sym (opened_at source imports k d (omega arith))) (choice_le (i.from == source) i.amount)
 
 pub opened_between : (source nodes : ℕ) (imports : List Priced) → ((k : ℕ) → k < length imports → ((import_in imports k).from < nodes) × ((import_in imports k).to < nodes)) →
-    All (λ r. (r.from < nodes) × (r.to < nodes)) (arcs_opened source imports)
+    All (λ r. (r.from < nodes) × (r.to < nodes)) (opening_arcs source imports)
 opened_between source nodes imports ends k d low =
-    let len = length-map imports (arc_opened source) in
+    let len = length-map imports (opening_arc source) in
     let in_imports : k < length imports = omega arith in
     subst (λ (r : Arc). (r.from < nodes) × (r.to < nodes)) (sym (opened_at source imports k d in_imports)) (ends k in_imports)
 
@@ -153,7 +153,7 @@ module _ (arcs : List Arc) (a amount : ℕ) where
 
 -- what a search marks is the least set with its start that no arc with something left leaves
 pub reach_is : (nodes : ℕ) (arcs : List Arc) (source : ℕ) (bits : List Bool) → source < nodes → AreReached (record { nodes = nodes; arcs = arcs }) source bits → AreClosed arcs bits →
-    IsReach (imports_of arcs) (flows_of arcs) source bits
+    IsReachableSet (imports_of arcs) (flows_of arcs) source bits
 reach_is nodes arcs source bits low reached closed =
     let len = length-map arcs import_of in
     record {

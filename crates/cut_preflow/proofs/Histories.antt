@@ -27,7 +27,7 @@ pub played_sound : (net : FlowNetwork) (s : State) (history : List Event) → Is
 played_sound net s history p =
     subst (λ t. IsSound net t) (sym (played_state net s history p)) (record { network = p.network; limits = p.limits; kept = runs_keep net history p.network })
 
--- so what contracts see is a state that a run can reach
+-- so contracts describe a reachable state
 pub played_keeps : (ends : FlowEnds) (imports : List Priced) (flows labels : List ℕ) (history : List Event) (p : Trace) → IsTrace (flow_network ends imports) flows labels history → record { net = flow_network ends imports; history = history } ≡ p → IsSound p.net (state_of p)
 played_keeps ends imports flows labels history p is view =
     subst (λ q. IsSound q.net (state_of q)) view (record { network = is.network; limits = is.limits; kept = runs_keep (flow_network ends imports) history is.network })

@@ -1,4 +1,4 @@
--- What every step keeps.
+-- Every step preserves the invariant.
 use Rattle.std.proofs.Common.{◌≡◌, ◌≢◌, ℕ, ◌+◌, ◌-◌, ◌*◌, ◌/◌, ◌<◌, ◌≤◌, inl, inr, true, false, Option, Some, None, List, [], ◌∷◌, get_or, set, refl, sym, ap, ◌∙◌, subst, arith, get_or-set_same, get_or-set_other}
 use Rattle.std.proofs.lemmas.List.{length-set}
 use Rattle.std.proofs.lemmas.Bool.{cases_eq}
@@ -23,7 +23,7 @@ moves net s arc can =
     let room : 0 < residual net s arc = can.room in
     record { some = omega arith; paid = omega arith; fits = omega arith }
 
--- a push along import i, of an amount that the importer can pay and the import can take
+-- a push along import i of an amount that is at most the importer's excess and the import's residual capacity
 pub along_keeps : (net : FlowNetwork) (s : State) (i amount : ℕ) → IsFlowNetwork net → IsValidPreflow net s → i < count net → flow_at s i + amount ≤ (import_at net i).amount → 0 < amount → outflow net s (import_at net i).from + amount ≤ inflow net s (import_at net i).from → label_at s (import_at net i).from ≡ label_at s (import_at net i).to + 1 → IsValidPreflow net (record { flow = set s.flow i (flow_at s i + amount); label = s.label })
 along_keeps net s i amount is kept il room some paid downhill =
     record {
@@ -64,7 +64,7 @@ along_keeps net s i amount is kept il room some paid downhill =
     others : (j : ℕ) → j < m → j ≢ i → high j ≡ low j
     others j l ne = get_or-set_other s.flow i j (flow_at s i + amount) 0 ne
 
--- a push back along import i, of an amount that the imported node can pay and that is on the import
+-- a push back along import i of an amount that is at most the imported node's excess and the import's flow
 pub back_keeps : (net : FlowNetwork) (s : State) (i amount : ℕ) → IsFlowNetwork net → IsValidPreflow net s → i < count net → amount ≤ flow_at s i → outflow net s (import_at net i).to + amount ≤ inflow net s (import_at net i).to → label_at s (import_at net i).to ≡ label_at s (import_at net i).from + 1 → IsValidPreflow net (record { flow = set s.flow i (flow_at s i - amount); label = s.label })
 back_keeps net s i amount is kept il room paid downhill =
     record {
@@ -189,7 +189,7 @@ relabel_keeps net s v label is kept can =
       | inr ne ↦ omega (arith, other w ne, kept.low w l)
     ]
 
--- each step keeps what a run keeps
+-- each step preserves the invariant
 pub after_keeps : (net : FlowNetwork) (s : State) (step : Step) → IsFlowNetwork net → IsValidPreflow net s → IsValidPreflow net (after net s step)
 after_keeps net s (Push arc) is kept = elim (true_or_false (can_push net s arc)) [
   | inl e ↦ rw (e) (push_keeps net s arc is kept (pushable_from net s arc e))

@@ -60,7 +60,7 @@ module _ (net : FlowNetwork) (s : State) (v : ℕ) where
   pub raised_not_over : (least : ℕ) → LeadsTo net s v least → least < label_at s v → relabel_target net s v ≡ None
   raised_not_over least leads lower = raised_none (λ label r. omega (arith, r.is_least least leads, r.none_lower))
 
--- the least label that the first of these arcs lead to, of those with residual above 0
+-- the least label that the first of these arcs lead to, of those with residual capacity
 pub record Lowest (net : FlowNetwork) (s : State) (arcs : List ℕ) (many : ℕ) (least : Option ℕ) : Type 0 where
   pub found : (l : ℕ) → least ≡ Some l → (j : ℕ) × (j < many) × (0 < residual net s (get_or arcs j 0)) × (label_at s (head net (get_or arcs j 0)) ≡ l)
   pub lowest : (j : ℕ) → j < many → 0 < residual net s (get_or arcs j 0) → (l : ℕ) × (least ≡ Some l) × (l ≤ label_at s (head net (get_or arcs j 0)))

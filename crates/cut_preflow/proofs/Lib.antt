@@ -6,7 +6,7 @@ pub mod Arcs
 pub mod Least
 pub mod Kept
 pub mod Opening
-pub mod Carried
+pub mod FlowGraphModel
 pub mod Networks
 pub mod Quiet
 pub mod Reaching

@@ -7,7 +7,7 @@ use Rattle.cut_part.proofs.Apart.{ascending_apart}
 use Rattle.cut_preflow.specs.Kept.{IsFlowNetwork}
 use Rattle.cut_preflow.specs.Trace.{IsWithinLimits}
 use Rattle.cut_preflow.specs.Flows.{AreEnds, network_between}
-use Rattle.cut_preflow.proofs.Carried.{total-sum}
+use Rattle.cut_preflow.proofs.FlowGraphModel.{total-sum}
 
 pub between_is : (net : Network) (a b : ℕ) → IsNetwork net → AreEnds net a b → IsFlowNetwork (network_between net a b)
 between_is net a b is ends = record {

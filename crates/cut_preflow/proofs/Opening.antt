@@ -1,4 +1,4 @@
--- The opening keeps what every run keeps.
+-- The initial state satisfies the invariant.
 use Rattle.std.proofs.Common.{◌≡◌, ◌≢◌, ℕ, zero, suc, ◌+◌, ◌*◌, ◌<◌, ◌≤◌, inl, inr, ◌==◌, if◌then◌else◌, List, [], ◌∷◌, length, get_or, replicate, slice_index_or, refl, sym, ap, ◌∙◌, subst, arith, get_or-set_same, get_or-set_other}
 use Rattle.std.proofs.lemmas.List.{length-set, length-replicate}
 use Rattle.std.proofs.lemmas.Bool.{cases_eq}
@@ -105,6 +105,6 @@ opening_keeps net is =
     low : (v : ℕ) → v < net.nodes → label_at (opening net) v < 2 * net.nodes
     low v l = omega (arith, label_le v)
 
--- every list of events keeps it
+-- every list of events preserves the invariant
 pub runs_keep : (net : FlowNetwork) (events : List Event) → IsFlowNetwork net → IsValidPreflow net (run net (opening net) events)
 runs_keep net events is = run_keeps net (opening net) events is (opening_keeps net is)

@@ -1,4 +1,4 @@
--- What the code of a push and of a relabel keeps.
+-- The code of a push and of a relabel preserves the invariant.
 use Rattle.std.proofs.Common.{◌≡◌, ℕ, ◌+◌, ◌-◌, ◌/◌, ◌%◌, ◌^◌, ◌<◌, ◌≤◌, inl, inr, Bool, true, false, if◌then◌else◌, Option, Some, None, is_some, List, [], ◌∷◌, ◌++◌, length, slice_set, refl, sym, ap, ◌∙◌, arith}
 use Rattle.cut_preflow.specs.declared.event.Step.{Step}
 use Rattle.cut_preflow.specs.declared.event.Step.TheVariants.{Push, Relabel}
@@ -13,7 +13,7 @@ use Rattle.cut_preflow.proofs.Arcs.{Pushable, pushable_from, ahead, back, raisab
 use Rattle.cut_preflow.proofs.Kept.{Moves, moves}
 use Rattle.cut_preflow.proofs.Histories.{played-push, run-push}
 
--- the answer of a test with a value
+-- the value that a successful test returns
 pub some_from : (b : Bool) (x y : ℕ) → Some y ≡ (if b then Some x else None) → (b ≡ true) × (y ≡ x)
 some_from true x y e = (refl, cc)
 some_from false x y e = cc
@@ -82,7 +82,7 @@ push_played net s history e arc amount flow played is_push fits ahead back =
     ∙ sym (ap (λ b. if b then record { flow = pushed net s arc; label = s.label } else s) fits.on)
     ∙ sym (ap (λ x. after net s x) is_push))
 
--- after a relabel that applies likewise
+-- after a relabel that applies the flows and labels are those of the longer history
 pub relabel_played : (net : FlowNetwork) (s : State) (history : List Event) (e : Event) (v label : ℕ) → IsTrace net s.flow s.label history → e.step ≡ Relabel v → relabel_target net s v ≡ Some label → IsTrace net s.flow (slice_set s.label v label) (history ++ e ∷ [])
 relabel_played net s history e v label played is_relabel on =
     played-push net s (record { flow = s.flow; label = slice_set s.label v label }) history e played

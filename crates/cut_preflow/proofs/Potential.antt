@@ -5,7 +5,7 @@ use Rattle.cut_preflow.specs.Total.{total}
 use Rattle.cut_preflow.proofs.Choices.{choice_same, choice_other}
 use Rattle.cut_preflow.proofs.Totals.{total-change}
 
--- two sums that differ at two places alone
+-- two sums that differ at two indices alone
 pub total-change_two : (n : ℕ) (g h : ℕ → ℕ) (u w : ℕ) → u < n → w < n → u ≢ w → ((j : ℕ) → j < n → j ≢ u → j ≢ w → g j ≡ h j) → total n g + (h u + h w) ≡ total n h + (g u + g w)
 total-change_two n g h u w lu lw ne same =
     let first = total-change n g mid u lu (λ j lj nj. sym (choice_other j u (h j) (g j) nj)) in

@@ -18,7 +18,7 @@ total_some (suc n) g h = elim (cases_eq (g n) 0) [
     later : (i : ℕ) × (i < n) × (0 < g i) → (i : ℕ) × (i < suc n) × (0 < g i)
     later w = (w.0, (omega (arith, w.1)), w.2)
 
--- over an arc with residual above 0 the label falls by one at most
+-- over an arc with residual capacity the label falls by one at most
 pub near_over : (net : FlowNetwork) (s : State) (arc : ℕ) → IsValidPreflow net s → arc < 2 * count net → 0 < residual net s arc → label_at s (tail net arc) ≤ label_at s (head net arc) + 1
 near_over net s arc kept l r = elim (true_or_false (is_forward arc)) [
   | inl e ↦
@@ -35,7 +35,7 @@ near_over net s arc kept l r = elim (true_or_false (is_forward arc)) [
       omega (arith, near, t, h))
 ]
 
--- an active node has an arc with residual above 0
+-- an active node has an arc with residual capacity
 pub active_arc : (net : FlowNetwork) (s : State) (v : ℕ) → Active net s v → (arc : ℕ) × (arc < 2 * count net) × (tail net arc ≡ v) × (0 < residual net s arc)
 active_arc net s v a =
     let more : outflow net s v < inflow net s v = a.more in

@@ -1,4 +1,4 @@
--- What holds once no node but the ends has excess.
+-- Properties of a state in which no node but source and sink has excess.
 use Rattle.std.proofs.Common.{◌≡◌, ◌≢◌, ℕ, ◌+◌, ◌<◌, ◌≤◌, inl, inr, Bool, true, false, nat_lt, arith}
 use Rattle.std.proofs.lemmas.Bool.{cases_lt}
 use Rattle.std.proofs.lemmas.Bool.Decides.{nat_tests}
@@ -8,7 +8,7 @@ use Rattle.cut_preflow.proofs.Totals.{total-gap}
 use Rattle.cut_preflow.proofs.Cuts.{Closed, gap_closed, value_of_closed}
 use Rattle.cut_preflow.proofs.Arcs.{active_true, lt_true}
 
--- no arc with residual above 0 leaves the set
+-- no arc with residual capacity leaves the set
 abbrev pub IsShut : FlowNetwork → State → (ℕ → Bool) → Type 0
 IsShut net s side = Closed (count net) (λ i. (import_at net i).from) (λ i. (import_at net i).to) (λ i. (import_at net i).amount) (flow_at s) side
 

@@ -1,4 +1,4 @@
--- What the code needs to know of a state that a run can reach.
+-- Properties of reachable states that the code needs.
 use Rattle.std.proofs.Common.{ℕ, ◌/◌, ◌^◌, ◌<◌, inl, inr, length, slice_index, sym, ap, subst, arith}
 use Rattle.cut_preflow.specs.Total.{total}
 use Rattle.cut_preflow.specs.Preflow.{FlowNetwork, State, count, import_at, flow_at, head, is_forward}

@@ -45,7 +45,7 @@ total-at_most (suc n) g c e =
     let here : g n ≤ c = e n (omega arith) in
     omega arith
 
--- two sums that differ at one place alone
+-- two sums that differ at one index alone
 pub total-change : (n : ℕ) (g h : ℕ → ℕ) (i : ℕ) → i < n → ((j : ℕ) → j < n → j ≢ i → g j ≡ h j) → total n g + h i ≡ total n h + g i
 total-change zero g h i l e = omega arith
 total-change (suc n) g h i l e =

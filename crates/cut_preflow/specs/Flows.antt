@@ -2,7 +2,7 @@
 use Rattle.std.specs.Prelude.{◌≡◌, ◌≢◌, ℕ, ◌-◌, ◌<◌, Bool, List, length}
 use Rattle.cut_net.specs.declared.priced.Priced.{Priced}
 use Rattle.cut_net.specs.Network.{Network}
-use Rattle.cut_net.specs.Cuts.{AreThose, IsFlow, InSourceSide, Reached}
+use Rattle.cut_net.specs.Cuts.{IsSetOf, IsFlow, InSourceSide, Reached}
 use Rattle.cut_net.specs.Lines.{flow_by}
 use Rattle.cut_net.specs.Pins.{ArePins, InSourceSideWithPins, PinChain}
 use Rattle.cut_part.specs.Apart.{flow_lines}
@@ -41,18 +41,18 @@ abbrev pub HasFlow : FlowNetwork → State → Type 0
 HasFlow flow_net s = (net : Network) → IsOf net flow_net → IsFlow net flow_net.source flow_net.sink (flow_on flow_net s) (value_of flow_net s)
 
 -- the sink isn't reachable from the source in the residual graph of the state's flow
-abbrev pub IsShutOff : FlowNetwork → State → Type 0
-IsShutOff flow_net s = (net : Network) → IsOf net flow_net → IsBarred net (flow_on flow_net s) flow_net.source flow_net.sink
+abbrev pub IsSinkUnreachable : FlowNetwork → State → Type 0
+IsSinkUnreachable flow_net s = (net : Network) → IsOf net flow_net → IsBarred net (flow_on flow_net s) flow_net.source flow_net.sink
 
 -- the flagged modules are those that the source reaches in the residual graph of the state's flow
 abbrev pub AreReached : FlowNetwork → State → List Bool → Type 0
-AreReached flow_net s bits = (net : Network) → IsOf net flow_net → AreThose (has bits) (Reached net (flow_on flow_net s) flow_net.source)
+AreReached flow_net s bits = (net : Network) → IsOf net flow_net → IsSetOf (has bits) (Reached net (flow_on flow_net s) flow_net.source)
 
 -- the flagged modules are the minimal source side
 abbrev pub AreSourceSide : FlowNetwork → List Bool → Type 0
-AreSourceSide flow_net bits = (net : Network) → IsOf net flow_net → AreThose (has bits) (InSourceSide net flow_net.source flow_net.sink)
+AreSourceSide flow_net bits = (net : Network) → IsOf net flow_net → IsSetOf (has bits) (InSourceSide net flow_net.source flow_net.sink)
 
 -- if no path of pinned imports leads from the source to the sink, the flagged modules are the minimal source side with pins
 abbrev pub AreSourceSideWithPins : FlowNetwork → List Bool → Type 0
 AreSourceSideWithPins flow_net bits =
-    (net : Network) → IsOf net flow_net → ArePins net → (PinChain net flow_net.source flow_net.sink → ⊥) → AreThose (has bits) (InSourceSideWithPins net flow_net.source flow_net.sink)
+    (net : Network) → IsOf net flow_net → ArePins net → (PinChain net flow_net.source flow_net.sink → ⊥) → IsSetOf (has bits) (InSourceSideWithPins net flow_net.source flow_net.sink)

@@ -22,9 +22,9 @@ pub record AreActive (ends : FlowEnds) (excesses : List ℕ) (active : List Bool
   pub active_are : (v : ℕ) → slice_index_or active v false ≡ is_active_by ends excesses v
 
 -- the excesses after an amount is added to a node; the source's isn't recorded
-abbrev pub brought : ℕ → List ℕ → ℕ → ℕ → List ℕ
-brought source excesses node amount = if node == source then excesses else slice_set excesses node (slice_index excesses node + amount)
+abbrev pub with_added_excess : ℕ → List ℕ → ℕ → ℕ → List ℕ
+with_added_excess source excesses node amount = if node == source then excesses else slice_set excesses node (slice_index excesses node + amount)
 
 -- the excesses after an amount moves from one node to another
 abbrev pub carried : ℕ → List ℕ → ℕ → ℕ → ℕ → List ℕ
-carried source excesses from to amount = brought source (slice_set excesses from (slice_index excesses from - amount)) to amount
+carried source excesses from to amount = with_added_excess source (slice_set excesses from (slice_index excesses from - amount)) to amount

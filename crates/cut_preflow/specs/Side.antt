@@ -17,7 +17,7 @@ abbrev pub IsWithin : List Bool → (ℕ → Bool) → Type 0
 IsWithin bits side = (v : ℕ) → has bits v ≡ true → side v ≡ true
 
 -- the smallest set with the source that no arc with residual capacity leaves
-pub record IsReach (imports : List Priced) (flow : List ℕ) (source : ℕ) (bits : List Bool) : Type 0 where
+pub record IsReachableSet (imports : List Priced) (flow : List ℕ) (source : ℕ) (bits : List Bool) : Type 0 where
   pub starts : has bits source ≡ true
   pub closed : IsClosedBelow imports flow (has bits) (2 * length imports)
   pub least : (side : ℕ → Bool) → side source ≡ true → IsClosedBelow imports flow side (2 * length imports) → IsWithin bits side

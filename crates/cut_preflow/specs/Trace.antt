@@ -7,7 +7,7 @@ use Rattle.cut_preflow.specs.declared.event.Step.TheVariants.{Push, Relabel}
 use Rattle.cut_preflow.specs.declared.event.Event.{Event}
 use Rattle.cut_preflow.specs.declared.event.Outcome.{Outcome}
 use Rattle.cut_preflow.specs.declared.event.Outcome.TheVariants.{Moved, Raised, Stale, Refused}
-use Rattle.cut_preflow.specs.FlowGraphs.{Carried}
+use Rattle.cut_preflow.specs.FlowGraphs.{FlowGraphModel}
 use Rattle.cut_preflow.specs.Total.{total}
 use Rattle.cut_preflow.specs.Preflow.{FlowNetwork, State, count, import_at, can_push, push_amount, relabel_target, run, opening, is_legal}
 use Rattle.cut_preflow.specs.Kept.{IsFlowNetwork, IsValidPreflow}
@@ -21,8 +21,8 @@ abbrev pub state_with : List ℕ → List ℕ → State
 state_with flows labels = record { flow = flows; label = labels }
 
 -- the network's nodes and imports, with the flow of a state
-abbrev pub carried_in : FlowNetwork → State → Carried
-carried_in net s = record { nodes = net.nodes; imports = net.imports; flow = s.flow }
+abbrev pub flow_graph_model_of : FlowNetwork → State → FlowGraphModel
+flow_graph_model_of net s = record { nodes = net.nodes; imports = net.imports; flow = s.flow }
 
 -- the specification of a preflow: the network that it was started on, and the applied events
 pub record Trace : Type 0 where

@@ -4,7 +4,7 @@ ghost use Rattle.cut_preflow.specs.FlowGraphs.{IsArcFrom, out_arc_number};
 ghost use Rattle.cut_preflow.specs.Preflow.{applies, can_push, count, is_active, push_amount, relabel_target, smaller, tail};
 ghost use Rattle.cut_preflow.specs.Kept.{IsQuiet};
 ghost use Rattle.cut_preflow.specs.Bound.{max_steps};
-ghost use Rattle.cut_preflow.specs.Trace.{carried_in, state_of};
+ghost use Rattle.cut_preflow.specs.Trace.{flow_graph_model_of, state_of};
 ghost use Rattle.cut_preflow.specs.Relabels.{LeadsTo};
 
 use crate::Step;
@@ -48,7 +48,7 @@ impl PreflowCore {
         ensures none { IsNone result → (label : ℕ) → LeadsTo self.now.net (state_of self.now) node label → ⊥ }
     {
         let mut least = None;
-        for out in self.outs_from(node) {
+        for out in self.out_arcs(node) {
             if out.residual > 0 {
                 let label = self.label(out.head);
                 least = Some(smaller(least, label));
@@ -75,7 +75,7 @@ impl PreflowCore {
 
     /// Whether a push over an arc of a node applies, provided that the node is active.
     fn can_push(&self, out: OutArc, node: u32) -> bool
-        requires out { IsArcFrom (carried_in self.now.net (state_of self.now)) node out }
+        requires out { IsArcFrom (flow_graph_model_of self.now.net (state_of self.now)) node out }
         requires node { node < self.now.net.nodes }
         ensures { is_active self.now.net (state_of self.now) node ≡ true → result ≡ can_push self.now.net (state_of self.now) (out_arc_number out) }
     {
@@ -84,10 +84,10 @@ impl PreflowCore {
 
     /// The new current arc of a node after a push over this arc: the index of the first arc from the current one on over which a push
     /// applies, at most the index after this arc.
-    pub(crate) fn arcs_passed(&self, node: u32, arc: u32) -> usize
+    pub(crate) fn next_current_arc(&self, node: u32, arc: u32) -> usize
         requires { node < self.now.net.nodes }
     {
-        let outs = self.outs_from(node);
+        let outs = self.out_arcs(node);
         for position in self.passed(node)..outs.len() {
             let out = outs[position];
             if self.can_push(out, node) {
@@ -101,8 +101,8 @@ impl PreflowCore {
     }
 
     /// The first of these arcs of an active node over which a push applies.
-    fn first_push(&self, node: u32, outs: &[OutArc]) -> Option<u32>
-        requires each { All (IsArcFrom (carried_in self.now.net (state_of self.now)) node) outs.now }
+    fn first_pushable_arc(&self, node: u32, outs: &[OutArc]) -> Option<u32>
+        requires each { All (IsArcFrom (flow_graph_model_of self.now.net (state_of self.now)) node) outs.now }
         requires active { is_active self.now.net (state_of self.now) node ≡ true }
         requires node { node < self.now.net.nodes }
         requires few { count self.now.net ≤ 65536 }
@@ -119,7 +119,7 @@ impl PreflowCore {
 
     /// The first arc of an active node over which a push applies, from its current arc on and then from its first arc. A node with label
     /// 0 has none, which saves a scan of all arcs before its first relabel.
-    fn push_from(&self, node: u32) -> Option<u32>
+    fn find_pushable_arc(&self, node: u32) -> Option<u32>
         requires active { is_active self.now.net (state_of self.now) node ≡ true }
         requires node { node < self.now.net.nodes }
         ensures some { IfSome result (λ arc. can_push self.now.net (state_of self.now) arc ≡ true) }
@@ -128,11 +128,11 @@ impl PreflowCore {
         if self.label(node) == 0 {
             return None;
         }
-        let outs = self.outs_from(node);
+        let outs = self.out_arcs(node);
         let (passed, ahead) = outs.split_at(self.passed(node).min(outs.len()));
-        match self.first_push(node, ahead) {
+        match self.first_pushable_arc(node, ahead) {
             Some(arc) => Some(arc),
-            None => self.first_push(node, passed),
+            None => self.first_pushable_arc(node, passed),
         }
     }
 
@@ -145,7 +145,7 @@ impl PreflowCore {
         let node = self.choose_node()?;
         self.invariants();
         let _ = self.history();
-        match self.push_from(node) {
+        match self.find_pushable_arc(node) {
             Some(arc) => Some(Step::Push { arc }),
             None => Some(Step::Relabel { node }),
         }

@@ -11,7 +11,7 @@ pub(crate) struct BitSet {
 }
 
 /// The bit of an index in its word.
-fn mark_of(position: usize) -> u64 {
+fn bit_of(position: usize) -> u64 {
     1u64 << (position % 64)
 }
 
@@ -43,34 +43,34 @@ impl BitSet {
             return;
         };
         let first = *bits == 0;
-        *bits |= mark_of(position);
+        *bits |= bit_of(position);
         if !first {
             return;
         }
         if let Some(bits) = self.above.get_mut(word / 64) {
-            *bits |= mark_of(word);
+            *bits |= bit_of(word);
         }
     }
 
     /// Removes an index.
-    pub(crate) fn take(&mut self, position: usize) {
+    pub(crate) fn remove_bit(&mut self, position: usize) {
         let word = position / 64;
         let Some(bits) = self.words.get_mut(word) else {
             return;
         };
-        *bits &= !mark_of(position);
+        *bits &= !bit_of(position);
         if *bits > 0 {
             return;
         }
         if let Some(bits) = self.above.get_mut(word / 64) {
-            *bits &= !mark_of(word);
+            *bits &= !bit_of(word);
         }
     }
 
     /// Whether the set has the index.
     pub(crate) fn has(&self, position: usize) -> bool {
         match self.words.get(position / 64) {
-            Some(word) => *word & mark_of(position) > 0,
+            Some(word) => *word & bit_of(position) > 0,
             None => false,
         }
     }

@@ -17,7 +17,7 @@ pub(crate) struct DischargeOrder {
 impl DischargeOrder {
     /// The discharge order of these nodes, none of which is scheduled. In topological order a node has received all its inflow before it
     /// is discharged, unless flow must return. Fails if an allocation fails.
-    pub(crate) fn through(
+    pub(crate) fn of_nodes(
         alloc: Global,
         order: Vec<u32>,
         nodes: u32,
@@ -39,7 +39,7 @@ impl DischargeOrder {
         self.nodes.get(self.at).copied()
     }
 
-    /// The index of a node; none for a node on a cycle.
+    /// The index of a node in the discharge order; none for a node that isn't in it.
     fn position(&self, node: u32) -> Option<usize> {
         let position = self.positions.get(node as usize).copied()? as usize;
         let stands = self.nodes.get(position).copied()?;
@@ -48,7 +48,7 @@ impl DischargeOrder {
 
     /// Schedules a node. Not inlined, since callers rarely reach it.
     #[inline(never)]
-    pub(crate) fn enter(&mut self, node: u32) {
+    pub(crate) fn schedule_node(&mut self, node: u32) {
         if let Some(position) = self.position(node) {
             self.bits.insert_bit(position);
         }
@@ -56,9 +56,9 @@ impl DischargeOrder {
 
     /// Unschedules a node.
     #[inline(never)]
-    pub(crate) fn leave(&mut self, node: u32) {
+    pub(crate) fn unschedule_node(&mut self, node: u32) {
         if let Some(position) = self.position(node) {
-            self.bits.take(position);
+            self.bits.remove_bit(position);
         }
     }
 

@@ -27,7 +27,7 @@ const _: () = prove!(size_of::<Event>() <= 12);
 /// The outcome of an event.
 #[derive(Clone, Copy, Debug, PartialEq, Eq)]
 pub enum Outcome {
-    /// The push moved this amount, in qualified references.
+    /// The push moved this amount, in units of weight.
     Moved { amount: u64 },
     /// The new label of the node.
     Raised { label: u32 },

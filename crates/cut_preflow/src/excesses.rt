@@ -2,7 +2,7 @@
 ghost use Rattle.std.specs.Prelude.{◌≡◌, ◌≢◌, ◌+◌, ◌^◌, ◌<◌, ◌≤◌, ℕ, IfOk, length, slice_index, slice_set};
 ghost use Rattle.cut_preflow.specs.Total.{total};
 ghost use Rattle.cut_preflow.specs.Preflow.{import_in, into, opening_flows};
-ghost use Rattle.cut_preflow.specs.Indexed.{AreActive, brought, carried};
+ghost use Rattle.cut_preflow.specs.Indexed.{AreActive, with_added_excess, carried};
 
 use crate::discharge_order::DischargeOrder;
 use crate::ends::FlowEnds;
@@ -19,7 +19,7 @@ pub(crate) struct Excesses {
 
 /// Sets the excess of a node, and updates whether it is active. The source and the sink never are.
 #[inline(always)]
-fn write(ends: FlowEnds, excesses: &mut Vec<u64>, active: &mut NodeSet, node: u32, excess: u64)
+fn set_excess(ends: FlowEnds, excesses: &mut Vec<u64>, active: &mut NodeSet, node: u32, excess: u64)
     requires node { node < ends.nodes }
     requires active { AreActive ends excesses.old.items active.old }
     ensures excesses { excesses.new.items ≡ slice_set excesses.old.items node excess }
@@ -46,12 +46,12 @@ pub(crate) fn add_excess(
     requires node { node < ends.nodes }
     requires active { AreActive ends excesses.old.items active.old }
     requires fits { node ≢ ends.source → slice_index excesses.old.items node + amount < 2 ^ 64 }
-    ensures excesses { excesses.new.items ≡ brought ends.source excesses.old.items node amount }
+    ensures excesses { excesses.new.items ≡ with_added_excess ends.source excesses.old.items node amount }
     ensures active { AreActive ends excesses.new.items active.new }
 {
     if node != ends.source {
         let excess = excesses[node as usize] + amount;
-        write(ends, excesses, active, node, excess);
+        set_excess(ends, excesses, active, node, excess);
     }
 }
 
@@ -73,12 +73,17 @@ pub(crate) fn move_excess(
     ensures active { AreActive ends excesses.new.items active.new }
 {
     let left = excesses[from as usize] - amount;
-    write(ends, excesses, active, from, left);
+    set_excess(ends, excesses, active, from, left);
     add_excess(ends, excesses, active, to, amount);
 }
 
 /// Adds to each node the flow of the saturated imports by the source.
-fn saturate(ends: FlowEnds, imports: &[Priced], excesses: &mut Vec<u64>, active: &mut NodeSet)
+fn add_opening_excess(
+    ends: FlowEnds,
+    imports: &[Priced],
+    excesses: &mut Vec<u64>,
+    active: &mut NodeSet,
+)
     requires nodes { (i : ℕ) → i < length imports.now → (import_in imports.now i).to < ends.nodes }
     requires weights { total (length imports.now) (λ i. (import_in imports.now i).amount) < 2 ^ 64 }
     requires none { (v : ℕ) → slice_index excesses.old.items v ≡ 0 }
@@ -94,7 +99,7 @@ fn saturate(ends: FlowEnds, imports: &[Priced], excesses: &mut Vec<u64>, active:
 }
 
 /// The excess of each node in the initial preflow, and the set of active nodes, with their discharge order. Fails if an allocation fails.
-pub(crate) fn excesses_opened(
+pub(crate) fn opening_excesses(
     alloc: Global,
     ends: FlowEnds,
     imports: &[Priced],
@@ -107,6 +112,6 @@ pub(crate) fn excesses_opened(
 {
     let mut each = vec![in alloc; 0u64; ends.nodes as usize]?;
     let mut active = NodeSet::new(alloc, ends.nodes, discharge_order)?;
-    saturate(ends, imports, &mut each, &mut active);
+    add_opening_excess(ends, imports, &mut each, &mut active);
     Ok(Excesses { each, active })
 }

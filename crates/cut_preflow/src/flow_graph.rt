@@ -2,8 +2,8 @@
 ghost use Rattle.std.specs.Prelude.{◌≡◌, ◌+◌, ◌-◌, ◌*◌, ◌/◌, ◌^◌, ◌<◌, ◌≤◌, ℕ, All, Contains, IfOk, if◌then◌else◌, length, map, slice_index, slice_set};
 ghost use Rattle.residual_graph.specs.declared.arc.ResidualArc.{ResidualArc};
 ghost use Rattle.cut_preflow.specs.Total.{total};
-ghost use Rattle.cut_preflow.specs.FlowGraphs.{IsArcFrom, arcs_opened, arc_number, out_arc_number};
-ghost use Rattle.cut_preflow.specs.Side.{IsReach};
+ghost use Rattle.cut_preflow.specs.FlowGraphs.{IsArcFrom, opening_arcs, arc_number, out_arc_number};
+ghost use Rattle.cut_preflow.specs.Side.{IsReachableSet};
 ghost use Rattle.cut_preflow.specs.Preflow.{import_in, into, is_forward, opening_flows, out_of, tail_in, head_in, residual_in};
 
 use crate::ends::FlowEnds;
@@ -21,9 +21,9 @@ pub(crate) struct FlowGraph {
 
 impl Model for FlowGraph {
     ghost use Rattle.std.specs.Prelude.{◌≤◌, length};
-    ghost use Rattle.cut_preflow.specs.FlowGraphs.{Carried, flows_of, imports_of};
+    ghost use Rattle.cut_preflow.specs.FlowGraphs.{FlowGraphModel, flows_of, imports_of};
 
-    ghost Value = { Carried };
+    ghost Value = { FlowGraphModel };
 
     ghost view = { λ f. record { nodes = f.graph.nodes; imports = imports_of f.graph.arcs; flow = flows_of f.graph.arcs } };
 
@@ -31,8 +31,8 @@ impl Model for FlowGraph {
 }
 
 /// The arcs of the initial preflow: those of the imports by the source are saturated.
-fn arcs_opened(alloc: Global, source: u32, imports: &[Priced]) -> Result<Vec<Arc>, AllocError>
-    ensures { IfOk result (λ arcs. arcs.items ≡ arcs_opened source imports.now) }
+fn opening_arcs(alloc: Global, source: u32, imports: &[Priced]) -> Result<Vec<Arc>, AllocError>
+    ensures { IfOk result (λ arcs. arcs.items ≡ opening_arcs source imports.now) }
 {
     imports
         .iter()
@@ -66,7 +66,7 @@ pub(crate) fn arc_number(step: ResidualArc) -> u32
 
 impl FlowGraph {
     /// The initial preflow: imports by the source are saturated, and the others have flow 0. Fails if an allocation fails.
-    pub(crate) fn opened(
+    pub(crate) fn initial_preflow(
         alloc: Global,
         ends: FlowEnds,
         imports: &[Priced],
@@ -75,7 +75,7 @@ impl FlowGraph {
         requires few { length imports.now ≤ 65536 }
         ensures { IfOk result (λ f. f ≡ record { nodes = ends.nodes; imports = imports.now; flow = opening_flows ends.source imports.now }) }
     {
-        let arcs = arcs_opened(alloc, ends.source, imports)?;
+        let arcs = opening_arcs(alloc, ends.source, imports)?;
         let graph = ResidualGraph::new(alloc, arcs, ends.nodes)?;
         Ok(FlowGraph { graph })
     }
@@ -128,7 +128,7 @@ impl FlowGraph {
     }
 
     /// The arcs of a node, each with its head and residual capacity, as one slice.
-    pub(crate) fn outs_from(&self, node: u32) -> &[OutArc]
+    pub(crate) fn out_arcs(&self, node: u32) -> &[OutArc]
         requires { node < self.now.nodes }
         ensures each { All (IsArcFrom self.now node) result.now }
         ensures all { (a : ℕ) → a < 2 * length self.now.imports → tail_in self.now.imports a ≡ node → Contains (map out_arc_number result.now) a }
@@ -149,7 +149,7 @@ impl FlowGraph {
     pub(crate) fn reach(&self, alloc: Global, source: u32) -> Result<Vec<bool>, AllocError>
         requires { source < self.now.nodes }
         ensures size { IfOk result (λ bits. length bits.items ≡ self.now.nodes) }
-        ensures reach { IfOk result (λ bits. IsReach self.now.imports self.now.flow source bits.items) }
+        ensures reach { IfOk result (λ bits. IsReachableSet self.now.imports self.now.flow source bits.items) }
     {
         let found = search(alloc, &self.graph, source)?;
         Ok(found.reached_flags)

@@ -4,7 +4,7 @@ ghost use Rattle.std.specs.Prelude.{◌≡◌, ◌≢◌, ◌↔◌, ◌≤◌, 
 ghost use Rattle.cut_net.specs.Network.{Network};
 ghost use Rattle.cut_net.specs.Pins.{ArePins, IsFlowWithPins, InSourceSideWithPins, PinChain};
 ghost use Rattle.cut_net.specs.WellFormed.{IsNetwork};
-ghost use Rattle.cut_net.specs.Cuts.{AreThose, IsFlow, InSourceSide, Reached};
+ghost use Rattle.cut_net.specs.Cuts.{IsSetOf, IsFlow, InSourceSide, Reached};
 ghost use Rattle.cut_preflow.specs.declared.event.Event.{Event};
 ghost use Rattle.cut_preflow.specs.Preflow.{FlowNetwork, State, run, opening, is_legal, relabel_target};
 ghost use Rattle.cut_preflow.specs.Kept.{IsValidPreflow, IsQuiet};
@@ -31,18 +31,18 @@ pub fn quiet_run_is_flow()
         IsQuiet flow_net s → IsFlow net a b (flow_on flow_net s) (value_of flow_net s) }
 {}
 
-/// Then the modules that the source reaches in the residual graph are the minimal source side. So that side, and the reported imports,
-/// don't depend on the events.
+/// If no node but source and sink has excess after a list of events, the modules that the source reaches in the residual graph are the
+/// minimal source side. So neither this side nor the reported imports depend on the events.
 pub fn quiet_run_reaches_source_side()
     // The reachable modules are the minimal source side.
     ensures { (net : Network) (a b : ℕ) (events : List Event) (modules : ℕ → Bool) → IsNetwork net → AreEnds net a b →
         let flow_net = network_between net a b in
         let s = run flow_net (opening flow_net) events in
-        IsQuiet flow_net s → AreThose modules (Reached net (flow_on flow_net s) a) → AreThose modules (InSourceSide net a b) }
+        IsQuiet flow_net s → IsSetOf modules (Reached net (flow_on flow_net s) a) → IsSetOf modules (InSourceSide net a b) }
 {}
 
-/// With pins the flow is a flow too, and if no path of pinned imports leads from the source to the sink, the modules that the source
-/// reaches are the minimal source side.
+/// If no node but source and sink has excess after a list of events, the flow is a flow with pins; and if no path of pinned imports leads
+/// from the source to the sink, the modules that the source reaches are the minimal source side with pins.
 pub fn quiet_run_with_pins()
     // The flow is a flow with pins.
     ensures flow { (net : Network) (a b : ℕ) (events : List Event) → IsNetwork net → AreEnds net a b →
@@ -54,7 +54,7 @@ pub fn quiet_run_with_pins()
         ArePins net → (PinChain net a b → ⊥) →
         let flow_net = network_between net a b in
         let s = run flow_net (opening flow_net) events in
-        IsQuiet flow_net s → AreThose modules (Reached net (flow_on flow_net s) a) → AreThose modules (InSourceSideWithPins net a b) }
+        IsQuiet flow_net s → IsSetOf modules (Reached net (flow_on flow_net s) a) → IsSetOf modules (InSourceSideWithPins net a b) }
 {
     source_side_with_pins();
 }

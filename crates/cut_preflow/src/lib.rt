@@ -21,4 +21,4 @@ mod sums;
 
 pub use event::{Event, Outcome, Step};
 pub use preflow::Preflow;
-pub use share::{NetworkLedger, PARTS, Share};
+pub use share::{LEDGER_PARTS, NetworkLedger, Share};

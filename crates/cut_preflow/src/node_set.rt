@@ -29,14 +29,14 @@ impl Model for NodeSet {
 }
 
 /// The nodes in ascending order.
-fn numbers(alloc: Global, nodes: u32) -> Result<Vec<u32>, AllocError>
+fn ascending_nodes(alloc: Global, nodes: u32) -> Result<Vec<u32>, AllocError>
     ensures { IfOk result (λ v. v.items ≡ range_with_len 0 nodes) }
 {
     (0..nodes).collect(alloc)
 }
 
 /// Swaps two nodes of the permutation, and updates its inverse.
-fn exchange(order: &mut [u32], position: &mut [u32], first: u32, second: u32)
+fn swap_nodes(order: &mut [u32], position: &mut [u32], first: u32, second: u32)
     requires inverse { AreInverse order.old position.old }
     requires first { first < length order.old }
     requires second { second < length order.old }
@@ -61,8 +61,8 @@ impl NodeSet {
         ensures { IfOk result (λ s. s ≡ replicate nodes false) }
     {
         Ok(NodeSet {
-            order: numbers(alloc, nodes)?,
-            position: numbers(alloc, nodes)?,
+            order: ascending_nodes(alloc, nodes)?,
+            position: ascending_nodes(alloc, nodes)?,
             size: 0,
             discharge_order,
         })
@@ -75,14 +75,14 @@ impl NodeSet {
     {
         let at = self.position[node as usize];
         if at >= self.size {
-            exchange(
+            swap_nodes(
                 self.order.as_mut_slice(),
                 self.position.as_mut_slice(),
                 at,
                 self.size,
             );
             self.size += 1;
-            self.discharge_order.enter(node);
+            self.discharge_order.schedule_node(node);
         }
     }
 
@@ -94,14 +94,14 @@ impl NodeSet {
         let at = self.position[node as usize];
         if at < self.size {
             let last = self.size - 1;
-            exchange(
+            swap_nodes(
                 self.order.as_mut_slice(),
                 self.position.as_mut_slice(),
                 at,
                 last,
             );
             self.size = last;
-            self.discharge_order.leave(node);
+            self.discharge_order.unschedule_node(node);
         }
     }
 

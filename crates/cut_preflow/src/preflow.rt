@@ -4,7 +4,7 @@ ghost use Rattle.cut_net.specs.Pins.{PinChain};
 ghost use Rattle.cut_preflow.specs.Preflow.{count, import_at, flow_at, label_at, excess, inflow, outflow, is_active, applies, after, opening, is_legal};
 ghost use Rattle.cut_preflow.specs.Kept.{IsFlowNetwork, IsQuiet};
 ghost use Rattle.cut_preflow.specs.Bound.{max_steps};
-ghost use Rattle.cut_preflow.specs.Flows.{AreEnds, AreSourceSide, AreSourceSideWithPins, AreReached, HasFlow, IsShutOff, network_between, network_on};
+ghost use Rattle.cut_preflow.specs.Flows.{AreEnds, AreSourceSide, AreSourceSideWithPins, AreReached, HasFlow, IsSinkUnreachable, network_between, network_on};
 ghost use Rattle.cut_preflow.specs.Trace.{state_of, step_outcome, history_after, IsSound, IsWithinLimits};
 ghost use Rattle.cut_preflow.specs.Settled.{Appends, AppendsUpTo};
 ghost use Rattle.cut_preflow.specs.Shares.{count_after, mark_after};
@@ -89,7 +89,7 @@ impl<L: NetworkLedger> Preflow<L> {
     ) -> Result<Preflow<L>, AllocError>
         // Imports lead between nodes, without repeats, and `from` and `to` are two nodes.
         requires network { IsFlowNetwork (network_on nodes imports.items from to) }
-        // The network is within the limits.
+        // There are at most 8,192 nodes and 65,536 imports, and the total weight is below 2^64.
         requires limits { IsWithinLimits (network_on nodes imports.items from to) }
         // The type names this network.
         requires net { network_on nodes imports.items from to ≡ L.net }
@@ -248,7 +248,7 @@ impl<L: NetworkLedger> Preflow<L> {
         // If no node is active, the flow is a flow of the network.
         ensures flow { IsQuiet self.now.trace.net (state_of self.now.trace) → HasFlow self.now.trace.net (state_of self.now.trace) }
         // If no node is active, the sink isn't reachable in the residual graph.
-        ensures shut { IsQuiet self.now.trace.net (state_of self.now.trace) → IsShutOff self.now.trace.net (state_of self.now.trace) }
+        ensures shut { IsQuiet self.now.trace.net (state_of self.now.trace) → IsSinkUnreachable self.now.trace.net (state_of self.now.trace) }
     {
         // Its clause `legal` states that the history is legal.
         let _ = self.core_state.history();
@@ -280,7 +280,7 @@ impl<L: NetworkLedger> Preflow<L> {
         self.core_state.label(node)
     }
 
-    /// The flow on the import of this number, in qualified references.
+    /// The flow on the import of this number, in units of weight.
     pub fn flow(&self, import: u32) -> u64
         // There is an import of this number.
         requires { import < count self.now.trace.net }
@@ -292,8 +292,8 @@ impl<L: NetworkLedger> Preflow<L> {
         self.core_state.flow(import)
     }
 
-    /// The excess of a node, given by its module number: its inflow less its outflow, in qualified references. For the source it is 0 if
-    /// that is negative.
+    /// The excess of a node, given by its module number: its inflow less its outflow, in units of weight. For the source it is 0 if that is
+    /// negative.
     pub fn excess(&self, node: u32) -> u64
         // `node` is a node.
         requires { node < self.now.trace.net.nodes }

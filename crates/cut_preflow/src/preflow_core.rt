@@ -4,13 +4,13 @@ ghost use Rattle.cut_preflow.specs.Preflow.{count, head, import_at, residual, ta
 ghost use Rattle.cut_preflow.specs.FlowGraphs.{IsArcFrom, out_arc_number};
 ghost use Rattle.cut_preflow.specs.Kept.{IsFlowNetwork, IsQuiet};
 ghost use Rattle.cut_preflow.specs.Bound.{max_steps};
-ghost use Rattle.cut_preflow.specs.Flows.{AreEnds, AreSourceSide, AreReached, HasFlow, IsShutOff, network_between};
+ghost use Rattle.cut_preflow.specs.Flows.{AreEnds, AreSourceSide, AreReached, HasFlow, IsSinkUnreachable, network_between};
 ghost use Rattle.cut_preflow.specs.Side.{has};
-ghost use Rattle.cut_preflow.specs.Trace.{carried_in, state_of, step_outcome, history_after, IsSound, IsWithinLimits, flow_network};
+ghost use Rattle.cut_preflow.specs.Trace.{flow_graph_model_of, state_of, step_outcome, history_after, IsSound, IsWithinLimits, flow_network};
 
 use crate::discharge_order::DischargeOrder;
 use crate::ends::FlowEnds;
-use crate::excesses::{excesses_opened, move_excess};
+use crate::excesses::{move_excess, opening_excesses};
 use crate::flow_graph::FlowGraph;
 use crate::node_set::NodeSet;
 use crate::{Event, Outcome, Step};
@@ -61,11 +61,11 @@ fn new_core(alloc: Global, ends: FlowEnds, imports: Vec<Priced>) -> Result<Prefl
     requires limits { IsWithinLimits (flow_network ends imports.items) }
     ensures { IfOk result (λ p. p ≡ record { net = flow_network ends imports.items; history = [] }) }
 {
-    let graph = FlowGraph::opened(alloc, ends, imports.as_slice())?;
+    let graph = FlowGraph::initial_preflow(alloc, ends, imports.as_slice())?;
     let labels = opening_labels(alloc, ends)?;
     let order = graph.order(alloc)?;
-    let discharge_order = DischargeOrder::through(alloc, order, ends.nodes)?;
-    let excesses = excesses_opened(alloc, ends, imports.as_slice(), discharge_order)?;
+    let discharge_order = DischargeOrder::of_nodes(alloc, order, ends.nodes)?;
+    let excesses = opening_excesses(alloc, ends, imports.as_slice(), discharge_order)?;
     let current = CurrentArcs::new(alloc, ends.nodes)?;
     Ok(PreflowCore {
         ends,
@@ -123,13 +123,13 @@ impl PreflowCore {
         ensures history { self.new ≡ record self.old { history = history_after self.old.history event result } }
         ensures state { result ≢ Outcome.Refused → state_of self.new ≡ after self.old.net (state_of self.old) event.step }
     {
-        let outcome = self.take(event);
+        let outcome = self.apply_step(event);
         self.advance();
         outcome
     }
 
     /// As `apply`, without advancing the discharge order.
-    fn take(&mut self, event: Event) -> Outcome
+    fn apply_step(&mut self, event: Event) -> Outcome
         ensures stale { (result ≡ Outcome.Stale) ↔ (applies self.old.net (state_of self.old) event.step ≡ false) }
         ensures outcome { result ≢ Outcome.Refused → result ≡ step_outcome self.old.net (state_of self.old) event.step }
         ensures history { self.new ≡ record self.old { history = history_after self.old.history event result } }
@@ -149,12 +149,12 @@ impl PreflowCore {
     }
 
     /// Advances the current arc of a node after a push over one of its arcs.
-    fn pass_arcs(&mut self, node: u32, arc: u32)
+    fn advance_current_arc(&mut self, node: u32, arc: u32)
         requires { node < self.old.net.nodes }
         ensures { self.new ≡ self.old }
     {
-        let passed = self.arcs_passed(node, arc);
-        self.current.pass(node, passed);
+        let passed = self.next_current_arc(node, arc);
+        self.current.set_current(node, passed);
     }
 
     /// The index of the node's current arc.
@@ -193,7 +193,7 @@ impl PreflowCore {
     pub(crate) fn invariants(&self)
         ensures sound { IsSound self.now.net (state_of self.now) }
         ensures flow { IsQuiet self.now.net (state_of self.now) → HasFlow self.now.net (state_of self.now) }
-        ensures shut { IsQuiet self.now.net (state_of self.now) → IsShutOff self.now.net (state_of self.now) }
+        ensures shut { IsQuiet self.now.net (state_of self.now) → IsSinkUnreachable self.now.net (state_of self.now) }
     {
         // Using a field makes the facts of the type known here.
         let _ = &self.labels;
@@ -257,13 +257,13 @@ impl PreflowCore {
     }
 
     /// The arcs of a node, each with its head and residual capacity.
-    pub(crate) fn outs_from(&self, node: u32) -> &[OutArc]
+    pub(crate) fn out_arcs(&self, node: u32) -> &[OutArc]
         requires { node < self.now.net.nodes }
-        ensures each { All (IsArcFrom (carried_in self.now.net (state_of self.now)) node) result.now }
+        ensures each { All (IsArcFrom (flow_graph_model_of self.now.net (state_of self.now)) node) result.now }
         ensures arcs { (a : ℕ) → Contains (map out_arc_number result.now) a ↔ ((a < 2 * count self.now.net) × (tail self.now.net a ≡ node)) }
         ensures few { count self.now.net ≤ 65536 }
     {
-        self.graph.outs_from(node)
+        self.graph.out_arcs(node)
     }
 
     /// The tail of an arc.
@@ -356,7 +356,7 @@ impl PreflowCore {
             to,
             amount,
         );
-        self.pass_arcs(from, arc);
+        self.advance_current_arc(from, arc);
         Outcome::Moved { amount }
     }
 
@@ -375,7 +375,7 @@ impl PreflowCore {
         };
         let at = node as usize;
         self.labels[at] = label;
-        self.current.pass(node, 0);
+        self.current.set_current(node, 0);
         Outcome::Raised { label }
     }
 }

@@ -7,7 +7,7 @@ use std::sync::ledger;
 use std::sync::ledger::Ledger;
 
 /// The number of parts of a preflow's ledger: one for each share that may be out, and one for the preflow's own share.
-pub const PARTS: u64 = 65;
+pub const LEDGER_PARTS: u64 = 65;
 
 /// The largest number of shares that may be out at a time.
 pub(crate) const MOST_SHARES: u32 = 64;

@@ -1,4 +1,4 @@
--- The imports between the neighbours of a chain, and the least chain of imports.
+-- The imports between consecutive modules of a path, and the shortest path of imports.
 use Rattle.std.proofs.Common.{◌≡◌, ℕ, true, List, [], ◌∷◌, Option, Some, None, refl, sym, subst, inl, inr}
 use Rattle.std.specs.Prelude.{Contains, find, is_some, unwrap_or}
 use Rattle.std.specs.List.{zip}
@@ -37,7 +37,7 @@ along_in net (m ∷ more) i (a, b, (begins, chain)) present =
     let (ends, listed, same) = from_map (λ (p : ℕ × ℕ). import_between net p.0 p.1) (zip (m ∷ more) more) i present in
     subst (λ (j : Priced). Contains net.imports j) same (found_in net ends.0 ends.1 (neighbours net m more b chain ends listed))
 
--- ---- the least chain, in two graphs in which the same nodes lead to each other
+-- ---- the least path, in two graphs in which the same nodes lead to each other
 
 module _ (G H : ℕ → ℕ → Type 0) (same : AreSame G H) (a b : ℕ) where
   back : AreSame H G
@@ -58,6 +58,6 @@ module _ (G H : ℕ → ℕ → Type 0) (same : AreSame G H) (a b : ℕ) where
     least = λ other other_is long. is.least other (from_other other other_is) long;
   }
 
--- the least chain of imports is a chain of them
+-- the least path of imports is a path of them
 pub least_is_chain : (net : Network) (a b : ℕ) (modules : List ℕ) → IsLeastChain (Imports net.imports Any) a b modules → AreImportChain net modules
 least_is_chain net a b modules is = (a, b, is.is_chain)

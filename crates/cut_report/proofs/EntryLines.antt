@@ -10,7 +10,7 @@ use Rattle.cut_net.specs.Network.{Network, name_of, index_of}
 use Rattle.cut_net.specs.WellFormed.{IsNetwork}
 use Rattle.cut_net.specs.AnswerClaim.{AnswerClaim, CutOf, BlockedBy}
 use Rattle.cut_report.specs.ReportClaim.{ReportClaim}
-use Rattle.cut_report.specs.ReportText.{IsReport, IsSayable, MaySay}
+use Rattle.cut_report.specs.ReportText.{IsReport, IsWellFormedCut, IsWellFormedAnswer}
 use Rattle.cut_report.specs.ReportLine.{ReportLine, Ends, Weighs, Removes, Flows, Blocks, Last}
 use Rattle.texts.specs.Fields.{is_name}
 use Rattle.cut_report.specs.ReportLines.{IsModuleName, may_follow, is_above, IsGoodAfter, AreGoodAfter, last_of}
@@ -19,7 +19,7 @@ use Rattle.cut_report.specs.ReportLine.{removes, flows, answer_lines, leading_li
 use Rattle.cut_report.proofs.NameOrder.{AreIn, apart, name_known}
 use Rattle.cut_report.proofs.ImportLines.{FitsWord, FitsFlow, IsRun, IsFirst, flow_lines, remove_lines, run_good, good_run, good_after, run_from, run_fits, run_between, run_ascends, named_in, name_is}
 
--- ---- good lines
+-- ---- valid lines
 
 pub last_of-append : (last : Option ReportLine) (xs ys : List ReportLine) → last_of last (xs ++ ys) ≡ last_of (last_of last xs) ys
 last_of-append last [] ys = refl
@@ -61,7 +61,7 @@ last_follows net total printed flow =
     rw (last_of-append (Some (Weighs total)) (map (removes net) printed) (map (flows net) flow))
     (last_flows net (last_of (Some (Weighs total)) (map (removes net) printed)) flow (last_removes net (Weighs total) printed refl))
 
-both_fit : (total : ℕ) (net : Network) (printed flow : List Priced) → IsSayable net total printed flow → (IsRun net FitsWord printed) × (IsRun net FitsFlow flow)
+both_fit : (total : ℕ) (net : Network) (printed flow : List Priced) → IsWellFormedCut net total printed flow → (IsRun net FitsWord printed) × (IsRun net FitsFlow flow)
 both_fit total net printed flow s = (
   run_from net FitsWord printed s.printed_between s.printed_in_order s.printed_fit,
   run_from net FitsFlow flow s.flow_between s.flow_in_order (λ k d lt. record { fits = s.flow_fits k d lt; positive = s.flow_above_zero k d lt }),
@@ -83,7 +83,7 @@ named_chain : (net : Network) (chain : List ℕ) → list_all is_name (map (name
 named_chain net [] e = All-nil (λ m. m < length net.names)
 named_chain net (m ∷ chain) e = let p = and_parts _ _ e in All-cons (λ m. m < length net.names) m chain (named_in net m p.0) (named_chain net chain p.1)
 
-said_good : (net : Network) (s : AnswerClaim) (ends : ReportLine) → IsNetwork net → may_follow (Some ends) (Weighs 0) ≡ true → MaySay net s → AreGoodAfter net (Some ends) (answer_lines net s ++ Last ∷ [])
+said_good : (net : Network) (s : AnswerClaim) (ends : ReportLine) → IsNetwork net → may_follow (Some ends) (Weighs 0) ≡ true → IsWellFormedAnswer net s → AreGoodAfter net (Some ends) (answer_lines net s ++ Last ∷ [])
 said_good net (CutOf total printed flow) (Ends m n) w f s =
     let runs = both_fit total net printed flow s in
     let lines : List ReportLine = map (removes net) printed ++ map (flows net) flow in
@@ -111,7 +111,7 @@ report_good net e w r = (
   said_good net e.claim (Ends (name_of net e.from) (name_of net e.to)) w refl r.says,
 )
 
-good_said : (net : Network) (s : AnswerClaim) (last : Option ReportLine) → IsNetwork net → AreGoodAfter net last (answer_lines net s) → MaySay net s
+good_said : (net : Network) (s : AnswerClaim) (last : Option ReportLine) → IsNetwork net → AreGoodAfter net last (answer_lines net s) → IsWellFormedAnswer net s
 good_said net (CutOf total printed flow) last w g =
     let removed = good_run net FitsWord (removes net) (Some (Weighs total)) printed (map (flows net) flow) (remove_lines net w) g.1 in
     let more = good_after net (removes net) (Some (Weighs total)) printed (map (flows net) flow) g.1 in
@@ -218,7 +218,7 @@ chain_again net [] w h = refl
 chain_again net (m ∷ chain) w h =
     rw (place_again net m w (All-head (λ m. m < length net.names) m chain h), chain_again net chain w (All-tail (λ m. m < length net.names) m chain h)) refl
 
-said_again : (net : Network) (s : AnswerClaim) → IsNetwork net → MaySay net s → said_in net (answer_lines net s ++ Last ∷ []) ≡ s
+said_again : (net : Network) (s : AnswerClaim) → IsNetwork net → IsWellFormedAnswer net s → said_in net (answer_lines net s ++ Last ∷ []) ≡ s
 said_again net (CutOf total printed flow) w s =
     let runs = both_fit total net printed flow s in
     rw (

@@ -1,4 +1,4 @@
--- What is said unless memory ran out.
+-- Properties that hold unless an allocation failed.
 use Rattle.cut_report.specs.declared.fault.ReportFault.{ReportFault}
 use Rattle.cut_report.specs.declared.fault.ReportFault.TheVariants.{BadLine, UnknownName, Order, NoEnd, Device, Memory}
 use Rattle.cut_report.specs.Faults.{UnlessMemory}

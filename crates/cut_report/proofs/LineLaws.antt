@@ -1,4 +1,4 @@
--- A line that is read is the one that was written.
+-- Parsing a line of a report inverts writing it.
 use Rattle.std.proofs.Common.{◌≡◌, ℕ, ◌<◌, ◌^◌, ◌&&◌, Bool, true, false, cond, List, ◌∷◌, ◌++◌, Option, Some, None, refl, sym, ap, subst, ◌∙◌, codes, ltb}
 use Rattle.std.specs.Fmt.{decimal}
 use Rattle.std.specs.List.{list_all}
@@ -170,6 +170,6 @@ line_once line other h k e =
     let second : line_of_text (report_line line) ≡ Some other = rw e (line_again other k) in
     some_is line other (sym first ∙ second)
 
--- a text that begins with a line is cut behind it, and it is read
+-- a text that begins with a line is cut after it, and it is read
 pub line_there : (text rest : List ℕ) (line : ReportLine) → IsWellFormed line → text ≡ report_line line ++ 10 ∷ rest → IsFirstLine text (Some line) rest
 line_there text rest line form e = (report_line line, rw e (cut_again 10 (report_line line) rest (line_without line form)), line_again line form)

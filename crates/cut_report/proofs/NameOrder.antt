@@ -37,7 +37,7 @@ less_is net i j h lt1 lt2 =
       | inr (inr over) ↦ rw (le-ltb i j (omega arith)) (above (name_of net i) (name_of net j) (Less-from_sorted (slice_cmp nat_cmp) net.names j i [] h over lt1))
     ]
 
--- no two names are one
+-- no name occurs twice
 pub apart : (names : List (List ℕ)) → AreNamesInOrder names → AreApart names
 apart names h i j below lt e =
     let less = Less-from_sorted (slice_cmp nat_cmp) names i j [] h below lt in

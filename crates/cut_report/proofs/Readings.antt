@@ -1,4 +1,4 @@
--- A text has one reading.
+-- The outcome of a report's text is unique.
 use Rattle.std.proofs.Common.{◌≡◌, ◌≢◌, ℕ, ◌+◌, List, [], ◌∷◌, ◌++◌, length, Some, None, Result, Ok, Err, refl, sym, ap, ◌∙◌}
 use Rattle.std.proofs.lemmas.List.{append-nil}
 use Rattle.cut_net.specs.Network.{Network}
@@ -15,7 +15,7 @@ use Rattle.cut_report.specs.ReportLine.{leading_lines, entry_lines}
 use Rattle.cut_report.proofs.RestKinds.{Kind, Good, Bad, Unknown, Below, Unended, Over, rest_kind, kind_bad, kind_unknown, kind_below, kind_unended, kind_over, fronts_once}
 use Rattle.cut_report.proofs.EntryLines.{report_good, entry_in, entry_again, last_of-append}
 
--- what follows from good lines and from what stands after them
+-- what follows from valid lines and from what stands after them
 abbrev outcome_at : Network → List ReportLine → Kind → Result ReportClaim ReportFault
 outcome_at net lines Good = Err faults.NoEnd
 outcome_at net lines Bad = Err (faults.BadLine (length lines + 1))

@@ -1,4 +1,4 @@
--- The lines of a report, which are gathered one after the other.
+-- The lines of a report, buffered one after another.
 use Rattle.std.proofs.Common.{◌≡◌, ◌++◌, ℕ, List, [], ◌∷◌, append_assoc, append-nil, ap, sym, ◌∙◌, map}
 use Rattle.std.proofs.lemmas.Grind.{flat_map-append}
 use Rattle.texts.specs.Fields.{ended}

@@ -1,4 +1,4 @@
--- What a text goes on with after good lines: a good line, a fault, or nothing.
+-- The rest of a text after valid lines: a valid line, an error, or nothing.
 use Rattle.std.proofs.Common.{◌≡◌, ◌≢◌, ℕ, ◌&&◌, Bool, true, false, cond, List, [], ◌∷◌, ◌++◌, Option, Some, None, refl, sym, subst, ◌∙◌, append_assoc, inl, inr}
 use Rattle.std.specs.Prelude.{All, is_some}
 use Rattle.std.specs.List.{list_all}
@@ -173,7 +173,7 @@ kind_bad net last rest (inr p) =
     let b : BeginsWith rest text = p.1.1 in
     rest_at net last rest text b.more (not_last last p.0) b.one_line b.whole ∙ text_bad net last text p.1.2
 
--- ---- where good lines stop
+-- ---- where valid lines stop
 
 stops_at : (net : Network) (last : Option ReportLine) (line : ReportLine) (lines : List ReportLine) (rest more : List ℕ) → AreNamesInOrder net.names → IsGoodAfter net last line
     → rest ≡ written (line ∷ lines) ++ more → rest_kind net last rest ≢ Good → ⊥

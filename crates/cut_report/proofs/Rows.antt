@@ -34,7 +34,7 @@ row : report_text row_net row_entry ≡
 unfolding row_net row_entry a_to_m m_to_b
 row = simp two
 
--- a chain of pins, and one of a single module
+-- a path of pinned imports, and one of a single module
 blocked_entry : ReportClaim
 blocked_entry = record { from = 0; to = 1; claim = BlockedBy (0 ∷ 2 ∷ 1 ∷ []) }
 

@@ -1,4 +1,4 @@
--- What is read so far, and the lines that it stands for.
+-- The state of the builder, and the lines that it denotes.
 use Rattle.std.proofs.Common.{◌≡◌, ◌≢◌, ℕ, ◌<◌, true, false, List, [], ◌∷◌, ◌++◌, length, map, Option, Some, None, Result, Ok, Err, refl, sym, subst, ◌∙◌, append_assoc, inl, inr}
 use Rattle.std.specs.Option.{ok_or}
 use Rattle.std.proofs.lemmas.Bool.{cases_Bool}
@@ -15,7 +15,7 @@ use Rattle.cut_net.proofs.Places.{index_takes}
 use Rattle.cut_report.specs.declared.fault.ReportLineFault.{ReportLineFault}
 use Rattle.cut_report.specs.declared.fault.ReportLineFault.TheVariants as faults
 use Rattle.cut_report.specs.ReportLine.{removes, flows, leading_lines, entry_lines}
-use Rattle.cut_report.specs.Builders.{◌>>=◌, BuilderState, Start, Named, Open, Shut, Ended, ClaimedPart, blocked_entry, chain_of, entry_of_part, going_on, import_of, is_after, last_import, numbered_by, opened_by, shut_by, step, with_removed}
+use Rattle.cut_report.specs.Builders.{◌>>=◌, BuilderState, Start, Named, Open, Shut, Ended, ClaimedPart, blocked_entry, chain_of, entry_of_part, step_in_cut, import_of, is_after, last_import, numbered_by, second_step, step_in_path, step, with_removed}
 use Rattle.cut_report.proofs.NameOrder.{AreIn, index_from_known, known_from_index}
 use Rattle.cut_report.proofs.ImportLines.{AreLines, FitsWord, FitsFlow, IsRun, flow_lines, remove_lines, good_run, good_after}
 use Rattle.cut_report.proofs.EntryLines.{last_of-append, last_follows}
@@ -124,8 +124,8 @@ name_is_step net (Flows m n k) w h = refl
 name_is_step net (Blocks names) w h = refl
 name_is_step net Last w h = refl
 
-open_is_step : (net : Network) (a b : ℕ) (line : ReportLine) → IsNetwork net → IsWellFormed line → StepIs net (Named a b) line (opened_by net a b line)
-unfolding opened_by
+open_is_step : (net : Network) (a b : ℕ) (line : ReportLine) → IsNetwork net → IsWellFormed line → StepIs net (Named a b) line (second_step net a b line)
+unfolding second_step
 open_is_step net a b (Ends m n) w h = refl
 open_is_step net a b (Weighs k) w h = (record { form = h; follows = refl; known = tt; above = refl }, refl)
 open_is_step net a b (Removes m n k) w h = refl
@@ -136,8 +136,8 @@ open_is_step net a b (Blocks names) w h =
     (λ chain known names_are. (record { form = h; follows = refl; known = known; above = refl }, rw names_are refl))
 open_is_step net a b Last w h = refl
 
-shut_is_step : (net : Network) (a b : ℕ) (chain : List ℕ) (line : ReportLine) → StepIs net (Shut a b chain) line (shut_by a b chain line)
-unfolding shut_by
+shut_is_step : (net : Network) (a b : ℕ) (chain : List ℕ) (line : ReportLine) → StepIs net (Shut a b chain) line (step_in_path a b chain line)
+unfolding step_in_path
 shut_is_step net a b chain (Ends m n) = refl
 shut_is_step net a b chain (Weighs k) = refl
 shut_is_step net a b chain (Removes m n k) = refl
@@ -194,8 +194,8 @@ flow_is_step net p m n k w g h =
       rw (map_push (flows net) p.flow q, found_flows net m n k q f, append_assoc (map (removes net) p.printed) (map (flows net) p.flow) (Flows m n k ∷ [])) refl,
     ))
 
-go_on_is_step : (net : Network) (p : ClaimedPart) (line : ReportLine) → IsNetwork net → AreGoodAfter net None (standing_lines net (Open p)) → IsWellFormed line → StepIs net (Open p) line (going_on net p line)
-unfolding going_on
+go_on_is_step : (net : Network) (p : ClaimedPart) (line : ReportLine) → IsNetwork net → AreGoodAfter net None (standing_lines net (Open p)) → IsWellFormed line → StepIs net (Open p) line (step_in_cut net p line)
+unfolding step_in_cut
 go_on_is_step net p (Ends m n) w g h = inner net (λ x. may_follow x (Ends m n) ≡ false) (Some (Weighs p.weight)) p.printed p.flow refl (λ q. refl) (λ q. refl)
 go_on_is_step net p (Weighs k) w g h = inner net (λ x. may_follow x (Weighs k) ≡ false) (Some (Weighs p.weight)) p.printed p.flow refl (λ q. refl) (λ q. refl)
 go_on_is_step net p (Removes m n k) w g h = remove_is_step net p m n k p.flow refl w g h

@@ -175,7 +175,7 @@ pub told_at_end : (net : Network) (bytes : List ℕ) (s : BuilderState) (before 
 told_at_end net bytes s before rest (Ok report) w f e n ok err = subst (IsReportOutcome net bytes) ok (rw n (rest_is net bytes s rest w f e))
 told_at_end net bytes s before rest (Err fault) w f e n ok err = UnlessMemory-from fault (subst (IsReportOutcome net bytes) err (rw n (rest_is net bytes s rest w f e)))
 
--- a good line, and the lines go on after it
+-- a valid line, and the lines go on after it
 pub goes_on : (net : Network) (bytes : List ℕ) (s t : BuilderState) (rest text after : List ℕ) → IsNetwork net → IsPrefix net bytes (standing_lines net s) rest → cut_at 10 rest ≡ Some (text, after) → text_step net s text ≡ Ok t
     → IsPrefix net bytes (standing_lines net t) after × (length (standing_lines net t) ≡ length (standing_lines net s) + 1)
 goes_on net bytes s t rest text after w f e is = rw is at (text_is net bytes s rest text after w f e)

@@ -27,7 +27,7 @@ pub with_word : (word : List ℕ) (words : List (List ℕ)) → 0 < length words
 with_word word [] lt = absurd (omega arith)
 with_word word (w ∷ words) lt = refl
 
--- a word behind others
+-- a word after others
 pub word_more : (words : List (List ℕ)) (word : List ℕ) → 0 < length words → line_of (words ++ word ∷ []) ≡ line_of words ++ 32 ∷ word
 word_more [] word lt = absurd (omega arith)
 word_more (w ∷ []) word lt = refl
@@ -84,7 +84,7 @@ words_next name modules k d lt =
           rw (more, word_more (map name (take k modules)) (name (get_or modules k d)) (omega arith), ne_eqb k 0 ne) refl
     ]
 
--- the line of a chain, by the text of its names
+-- the line of a path, by the text of its names
 pub chain_line : (names : List (List ℕ)) (text : List ℕ) → 0 < length names → text ≡ line_of names → line_of (codes "blocked" ∷ words_of text) ≡ line_of (codes "blocked" ∷ names)
 chain_line names text lt e = with_word (codes "blocked") (words_of text) (some_word text) ∙ rw (joined text, e) (sym (with_word (codes "blocked") names lt))
 

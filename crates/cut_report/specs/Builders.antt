@@ -97,40 +97,40 @@ chain_of net (name ∷ names) = do
   more ← chain_of net names
   Ok (m ∷ more)
 
-unfoldable pub opened_by : Network → ℕ → ℕ → ReportLine → Result BuilderState ReportLineFault
-opened_by net a b (Ends m n) = Err faults.BadLine
-opened_by net a b (Weighs w) = Ok (Open (record { from = a; to = b; weight = w; printed = []; flow = [] }))
-opened_by net a b (Removes m n w) = Err faults.BadLine
-opened_by net a b (Flows m n f) = Err faults.BadLine
-opened_by net a b (Blocks names) = chain_of net names >>= λ chain. Ok (Shut a b chain)
-opened_by net a b Last = Err faults.BadLine
+unfoldable pub second_step : Network → ℕ → ℕ → ReportLine → Result BuilderState ReportLineFault
+second_step net a b (Ends m n) = Err faults.BadLine
+second_step net a b (Weighs w) = Ok (Open (record { from = a; to = b; weight = w; printed = []; flow = [] }))
+second_step net a b (Removes m n w) = Err faults.BadLine
+second_step net a b (Flows m n f) = Err faults.BadLine
+second_step net a b (Blocks names) = chain_of net names >>= λ chain. Ok (Shut a b chain)
+second_step net a b Last = Err faults.BadLine
 
 -- the cut with one more import to remove, if it has no flow yet
 abbrev pub with_removed : Network → ClaimedPart → List Priced → List ℕ → List ℕ → ℕ → Result BuilderState ReportLineFault
 with_removed net p [] m n w = import_of net (last_import None p.printed) m n w >>= λ next. Ok (Open (record p { printed = p.printed ++ next ∷ [] }))
 with_removed net p (_ ∷ _) m n w = Err faults.BadLine
 
-unfoldable pub going_on : Network → ClaimedPart → ReportLine → Result BuilderState ReportLineFault
-going_on net p (Ends m n) = Err faults.BadLine
-going_on net p (Weighs w) = Err faults.BadLine
-going_on net p (Removes m n w) = with_removed net p p.flow m n w
-going_on net p (Flows m n f) = import_of net (last_import None p.flow) m n f >>= λ next. Ok (Open (record p { flow = p.flow ++ next ∷ [] }))
-going_on net p (Blocks names) = Err faults.BadLine
-going_on net p Last = Ok (Ended (entry_of_part p))
+unfoldable pub step_in_cut : Network → ClaimedPart → ReportLine → Result BuilderState ReportLineFault
+step_in_cut net p (Ends m n) = Err faults.BadLine
+step_in_cut net p (Weighs w) = Err faults.BadLine
+step_in_cut net p (Removes m n w) = with_removed net p p.flow m n w
+step_in_cut net p (Flows m n f) = import_of net (last_import None p.flow) m n f >>= λ next. Ok (Open (record p { flow = p.flow ++ next ∷ [] }))
+step_in_cut net p (Blocks names) = Err faults.BadLine
+step_in_cut net p Last = Ok (Ended (entry_of_part p))
 
-unfoldable pub shut_by : ℕ → ℕ → List ℕ → ReportLine → Result BuilderState ReportLineFault
-shut_by a b chain (Ends m n) = Err faults.BadLine
-shut_by a b chain (Weighs w) = Err faults.BadLine
-shut_by a b chain (Removes m n w) = Err faults.BadLine
-shut_by a b chain (Flows m n f) = Err faults.BadLine
-shut_by a b chain (Blocks names) = Err faults.BadLine
-shut_by a b chain Last = Ok (Ended (blocked_entry a b chain))
+unfoldable pub step_in_path : ℕ → ℕ → List ℕ → ReportLine → Result BuilderState ReportLineFault
+step_in_path a b chain (Ends m n) = Err faults.BadLine
+step_in_path a b chain (Weighs w) = Err faults.BadLine
+step_in_path a b chain (Removes m n w) = Err faults.BadLine
+step_in_path a b chain (Flows m n f) = Err faults.BadLine
+step_in_path a b chain (Blocks names) = Err faults.BadLine
+step_in_path a b chain Last = Ok (Ended (blocked_entry a b chain))
 
 unfoldable pub step : Network → BuilderState → ReportLine → Result BuilderState ReportLineFault
 step net Start line = numbered_by net line
-step net (Named a b) line = opened_by net a b line
-step net (Open p) line = going_on net p line
-step net (Shut a b chain) line = shut_by a b chain line
+step net (Named a b) line = second_step net a b line
+step net (Open p) line = step_in_cut net p line
+step net (Shut a b chain) line = step_in_path a b chain line
 step net (Ended e) line = Err faults.BadLine
 
 -- the lines with the line of these bytes added

@@ -13,7 +13,7 @@ abbrev pub report_text : Network → ReportClaim → List ℕ
 report_text net entry = written (entry_lines net entry)
 
 -- a well-formed cut: imports between modules of the network, strictly sorted, and no flow of 0
-pub record IsSayable (net : Network) (total : ℕ) (printed flow : List Priced) : Type 0 where
+pub record IsWellFormedCut (net : Network) (total : ℕ) (printed flow : List Priced) : Type 0 where
   pub fits : total < 2 ^ 64
   pub printed_between : AreBetween printed (length net.names)
   pub printed_in_order : IsAscending printed
@@ -23,16 +23,16 @@ pub record IsSayable (net : Network) (total : ℕ) (printed flow : List Priced) 
   pub flow_fits : All (λ line. line.amount < 2 ^ 64) flow
   pub flow_above_zero : All (λ line. 0 < line.amount) flow
 
--- a well-formed answer: such a cut, or one or more modules of the network
-abbrev pub MaySay : Network → AnswerClaim → Type 0
-MaySay net (CutOf total printed flow) = IsSayable net total printed flow
-MaySay net (BlockedBy chain) = (0 < length chain) × All (λ m. m < length net.names) chain
+-- a well-formed answer: a well-formed cut, or a path of one or more modules of the network
+abbrev pub IsWellFormedAnswer : Network → AnswerClaim → Type 0
+IsWellFormedAnswer net (CutOf total printed flow) = IsWellFormedCut net total printed flow
+IsWellFormedAnswer net (BlockedBy chain) = (0 < length chain) × All (λ m. m < length net.names) chain
 
 -- the report has two modules of the network and a well-formed answer
 pub record IsReport (net : Network) (entry : ReportClaim) : Type 0 where
   pub from : entry.from < length net.names
   pub to : entry.to < length net.names
-  pub says : MaySay net entry.claim
+  pub says : IsWellFormedAnswer net entry.claim
 
 -- the bytes are the text of this report
 pub record ReportText (net : Network) (bytes : List ℕ) (entry : ReportClaim) : Type 0 where

@@ -2,7 +2,7 @@
 ghost use Rattle.std.specs.Prelude.{◌≡◌, ◌+◌, ◌<◌, ◌^◌, ℕ, List, None, length, option_map, Err, IfErr, IfOk, Ok};
 ghost use Rattle.cut_report.specs.Lines.{line_of_text, line_content, words_of};
 ghost use Rattle.cut_report.specs.Reading.{entry_of};
-ghost use Rattle.cut_report.specs.Builders.{chain_of, ends_named, finish_of, going_on, import_of, is_after, last_import, numbered_by, opened_by, claimed_part, shut_by, builder_state_of, step, text_step, IsReadAs, IsReadAtLine};
+ghost use Rattle.cut_report.specs.Builders.{chain_of, ends_named, finish_of, step_in_cut, import_of, is_after, last_import, numbered_by, second_step, claimed_part, step_in_path, builder_state_of, step, text_step, IsReadAs, IsReadAtLine};
 
 use crate::fault::ReportLineFault;
 use crate::import_guess::ImportCursor;
@@ -27,7 +27,7 @@ pub(crate) enum ReportBuilder {
 }
 
 /// The last import of the list.
-fn last_in(imports: &[Priced]) -> Option<Priced>
+fn last_listed(imports: &[Priced]) -> Option<Priced>
     ensures { result ≡ last_import None imports.now }
 {
     imports.last().copied()
@@ -44,7 +44,7 @@ fn comes_after(last: Option<Priced>, next: Priced) -> bool
 
 /// The modules of two names. They are looked up first among the imports that follow that of the previous line, then among all modules.
 #[tactic(auto, unfolding(crate::specs::Builders::ends_named))]
-fn ends_in(
+fn find_ends(
     net: &Net,
     cursor: &mut ImportCursor,
     from: &str,
@@ -52,18 +52,18 @@ fn ends_in(
 ) -> Result<(u32, u32), ReportLineFault>
     ensures { result ≡ ends_named net.now from.now to.now }
 {
-    if let Some(ends) = cursor.ends_at_cursor(net, from, to) {
+    if let Some(ends) = cursor.find_ends_at_cursor(net, from, to) {
         return Ok(ends);
     }
     let from = net.index_of(from).ok_or(ReportLineFault::UnknownName)?;
     let to = net.index_of(to).ok_or(ReportLineFault::UnknownName)?;
-    cursor.at_import(net, (from, to));
+    cursor.move_past(net, (from, to));
     Ok((from, to))
 }
 
 /// The import between two names, which must come after the last import of its list.
 #[tactic(auto, unfolding(crate::specs::Builders::import_of, crate::specs::Builders::ends_named))]
-fn checked_import(
+fn import_in_order(
     net: &Net,
     read: &[Priced],
     cursor: &mut ImportCursor,
@@ -73,9 +73,9 @@ fn checked_import(
 ) -> Result<Priced, ReportLineFault>
     ensures { result ≡ import_of net.now (last_import None read.now) from.now to.now amount }
 {
-    let (from, to) = ends_in(net, cursor, from, to)?;
+    let (from, to) = find_ends(net, cursor, from, to)?;
     let next = Priced { from, to, amount };
-    if comes_after(last_in(read), next) {
+    if comes_after(last_listed(read), next) {
         Ok(next)
     } else {
         Err(ReportLineFault::Order)
@@ -84,7 +84,7 @@ fn checked_import(
 
 /// Adds the first line.
 #[tactic(auto, unfolding(crate::specs::Builders::numbered_by))]
-fn with_ends(net: &Net, line: Line) -> Result<ReportBuilder, ReportLineFault>
+fn with_first_line(net: &Net, line: Line) -> Result<ReportBuilder, ReportLineFault>
     ensures { IsReadAs builder_state_of result (numbered_by net.now (line_content line.entry)) }
 {
     let Line::Ends(from, to) = line else {
@@ -96,7 +96,7 @@ fn with_ends(net: &Net, line: Line) -> Result<ReportBuilder, ReportLineFault>
 }
 
 /// The modules of these names, which are separated by spaces.
-fn chain_in(alloc: Global, net: &Net, names: &str) -> Result<Vec<u32>, ReportLineFault>
+fn modules_of_names(alloc: Global, net: &Net, names: &str) -> Result<Vec<u32>, ReportLineFault>
     ensures { IsReadAs (λ chain. chain.items) result (chain_of net.now (words_of names.now)) }
 {
     let mut chain = Vec::new(alloc);
@@ -110,15 +110,15 @@ fn chain_in(alloc: Global, net: &Net, names: &str) -> Result<Vec<u32>, ReportLin
 }
 
 /// Adds the second line: a weight, or a path of pinned imports.
-#[tactic(auto, unfolding(crate::specs::Builders::opened_by))]
-fn with_second(
+#[tactic(auto, unfolding(crate::specs::Builders::second_step))]
+fn with_second_line(
     alloc: Global,
     net: &Net,
     from: u32,
     to: u32,
     line: Line,
 ) -> Result<ReportBuilder, ReportLineFault>
-    ensures { IsReadAs builder_state_of result (opened_by net.now from to (line_content line.entry)) }
+    ensures { IsReadAs builder_state_of result (second_step net.now from to (line_content line.entry)) }
 {
     match line {
         Line::Weighs(weight) => {
@@ -130,7 +130,7 @@ fn with_second(
             Ok(ReportBuilder::Open(from, to, cut))
         }
         Line::Blocks(names) => {
-            let chain = chain_in(alloc, net, names)?;
+            let chain = modules_of_names(alloc, net, names)?;
             Ok(ReportBuilder::Shut(from, to, chain))
         }
         _ => Err(ReportLineFault::BadLine),
@@ -138,8 +138,8 @@ fn with_second(
 }
 
 /// Adds a later line of a cut. No `remove` line follows a `flow` line.
-#[tactic(auto, unfolding(crate::specs::Builders::going_on))]
-fn with_more(
+#[tactic(auto, unfolding(crate::specs::Builders::step_in_cut))]
+fn with_cut_line(
     from: u32,
     to: u32,
     mut cut: Cut,
@@ -147,16 +147,16 @@ fn with_more(
     cursor: &mut ImportCursor,
     line: Line,
 ) -> Result<ReportBuilder, ReportLineFault>
-    ensures { IsReadAs builder_state_of result (going_on net.now (claimed_part from to cut) (line_content line.entry)) }
+    ensures { IsReadAs builder_state_of result (step_in_cut net.now (claimed_part from to cut) (line_content line.entry)) }
 {
     match line {
         Line::Removes(importer, imported, weight) if cut.flow.is_empty() => {
-            let next = checked_import(net, &cut.imports, cursor, importer, imported, weight)?;
+            let next = import_in_order(net, &cut.imports, cursor, importer, imported, weight)?;
             cut.imports.push(next)?;
             Ok(ReportBuilder::Open(from, to, cut))
         }
         Line::Flows(importer, imported, flow) => {
-            let next = checked_import(net, &cut.flow, cursor, importer, imported, flow)?;
+            let next = import_in_order(net, &cut.flow, cursor, importer, imported, flow)?;
             cut.flow.push(next)?;
             Ok(ReportBuilder::Open(from, to, cut))
         }
@@ -169,14 +169,14 @@ fn with_more(
 }
 
 /// Adds the line after a path of pinned imports, which is the last.
-#[tactic(auto, unfolding(crate::specs::Builders::shut_by))]
-fn with_end(
+#[tactic(auto, unfolding(crate::specs::Builders::step_in_path))]
+fn with_last_line(
     from: u32,
     to: u32,
     chain: Vec<u32>,
     line: Line,
 ) -> Result<ReportBuilder, ReportLineFault>
-    ensures { IsReadAs builder_state_of result (shut_by from to chain.items (line_content line.entry)) }
+    ensures { IsReadAs builder_state_of result (step_in_path from to chain.items (line_content line.entry)) }
 {
     let Line::Last = line else {
         return Err(ReportLineFault::BadLine);
@@ -197,17 +197,17 @@ impl ReportBuilder {
         ensures { IsReadAs builder_state_of result (step net.now (builder_state_of self) (line_content line.entry)) }
     {
         match self {
-            ReportBuilder::Start => with_ends(net, line),
-            ReportBuilder::Named(from, to) => with_second(alloc, net, from, to, line),
-            ReportBuilder::Open(from, to, cut) => with_more(from, to, cut, net, cursor, line),
-            ReportBuilder::Shut(from, to, chain) => with_end(from, to, chain, line),
+            ReportBuilder::Start => with_first_line(net, line),
+            ReportBuilder::Named(from, to) => with_second_line(alloc, net, from, to, line),
+            ReportBuilder::Open(from, to, cut) => with_cut_line(from, to, cut, net, cursor, line),
+            ReportBuilder::Shut(from, to, chain) => with_last_line(from, to, chain, line),
             ReportBuilder::Ended(_) => Err(ReportLineFault::BadLine),
         }
     }
 
-    /// Adds the line of these bytes, if they are one.
+    /// Adds a parsed line. Fails with `BadLine` if the bytes of the line couldn't be parsed.
     #[tactic(auto, unfolding(crate::specs::Builders::text_step))]
-    fn with_read(
+    fn with_parsed_line(
         self,
         alloc: Global,
         net: &Net,
@@ -220,8 +220,8 @@ impl ReportBuilder {
         self.with_line(alloc, net, cursor, line)
     }
 
-    /// Adds the line of these bytes, which has this number, and reports the number with an error.
-    pub(crate) fn with_numbered(
+    /// Adds a parsed line, as `with_parsed_line`, and puts the number of the line into an error.
+    pub(crate) fn with_numbered_line(
         self,
         alloc: Global,
         net: &Net,
@@ -231,7 +231,7 @@ impl ReportBuilder {
     ) -> Result<ReportBuilder, ReportFault>
         ensures { (text : List ℕ) → line_of_text text ≡ option_map line_content line.entry → IsReadAtLine number builder_state_of result (text_step net.now (builder_state_of self) text) }
     {
-        match self.with_read(alloc, net, cursor, line) {
+        match self.with_parsed_line(alloc, net, cursor, line) {
             Ok(builder) => Ok(builder),
             Err(fault) => Err(fault.at(number)),
         }

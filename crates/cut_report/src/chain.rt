@@ -6,7 +6,7 @@ ghost use Rattle.cut_net.specs.Cuts.{Any, Imports};
 ghost use Rattle.cut_net.specs.Lines.{edge_of};
 
 use cut_net::{Net, Priced};
-use digraph::{Edge, least_chain};
+use digraph::{Edge, shortest_path};
 use std::alloc::{AllocError, Global};
 
 /// The imports as edges, without their weights.
@@ -24,7 +24,7 @@ pub(crate) fn edges_of(alloc: Global, imports: &[Priced]) -> Result<Vec<Edge>, A
 
 /// The shortest path of imports from one module to another, of several the lexicographically smallest, as a list of module numbers.
 /// None if there is no path. The path from a module to itself has that module alone. Fails if an allocation fails.
-pub fn least_chain_of(
+pub fn shortest_import_path(
     alloc: Global,
     net: &Net,
     from: u32,
@@ -41,5 +41,5 @@ pub fn least_chain_of(
 {
     net.invariants();
     let edges = edges_of(alloc, net.imports())?;
-    least_chain(alloc, edges.as_slice(), net.nodes() as usize, from, to)
+    shortest_path(alloc, edges.as_slice(), net.nodes() as usize, from, to)
 }

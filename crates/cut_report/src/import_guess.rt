@@ -21,14 +21,19 @@ impl ImportCursor {
     }
 
     /// Sets the index after the import between two modules.
-    pub(crate) fn at_import(&mut self, net: &Net, ends: (u32, u32)) {
+    pub(crate) fn move_past(&mut self, net: &Net, ends: (u32, u32)) {
         self.next_import = net.imports().partition_point(|import| {
             import.from < ends.0 || (import.from == ends.0 && import.to <= ends.1)
         });
     }
 
     /// The numbers of the modules of two names, if one of the next imports is between them. Then sets the index after that import.
-    pub(crate) fn ends_at_cursor(&mut self, net: &Net, from: &str, to: &str) -> Option<(u32, u32)>
+    pub(crate) fn find_ends_at_cursor(
+        &mut self,
+        net: &Net,
+        from: &str,
+        to: &str,
+    ) -> Option<(u32, u32)>
         ensures from { IfSome result (λ ends. index_of net.now from.now ≡ Some ends.0) }
         ensures to { IfSome result (λ ends. index_of net.now to.now ≡ Some ends.1) }
     {

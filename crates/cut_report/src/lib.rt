@@ -17,7 +17,7 @@ mod report;
 mod writer;
 
 pub use byte_sink::{Sink, SinkFault, ToWrite, write_fully};
-pub use chain::least_chain_of;
+pub use chain::shortest_import_path;
 pub use fault::ReportFault;
 pub use net_writer::{write_chain, write_net};
 pub use reach::{reached_modules, reaching_modules};

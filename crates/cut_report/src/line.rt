@@ -7,8 +7,8 @@ ghost use Rattle.cut_report.specs.ReportLines.{IsWellFormed};
 ghost use Rattle.cut_report.specs.Lines.{amount_of, blocks_of, ends_of, line_of_text, line_content, line_under, words_of, IsFirstLine};
 
 use std::fmt;
-use texts::fields::{cut_at_byte, field_name, field_number, is_identifier};
-use texts::prefixes::parse_amount;
+use texts::fields::{cut_at_byte, is_identifier, parse_field_name, parse_field_number};
+use texts::prefixes::parse_names_and_number;
 
 /// The content of a line.
 #[derive(Clone, Copy, Drop)]
@@ -49,25 +49,25 @@ impl fmt::Display for Line<'_> {
 
 /// Two names, separated by a space.
 #[tactic(auto, unfolding(crate::specs::Lines::ends_of))]
-fn ends_in(fields: &[u8]) -> Option<(&str, &str)>
+fn parse_ends(fields: &[u8]) -> Option<(&str, &str)>
     ensures { option_map (λ x. (x.0.now, x.1.now)) result ≡ ends_of fields.now }
 {
     let (from, to) = cut_at_byte(fields, b' ')?;
-    let from = field_name(from)?;
-    let to = field_name(to)?;
+    let from = parse_field_name(from)?;
+    let to = parse_field_name(to)?;
     Some((from, to))
 }
 
 /// Two names and a number, separated by spaces.
 #[tactic(auto, unfolding(crate::specs::Lines::amount_of))]
-fn amount_in(fields: &[u8]) -> Option<(&str, &str, u64)>
+fn parse_amount_fields(fields: &[u8]) -> Option<(&str, &str, u64)>
     ensures { option_map (λ x. (x.0.now, x.1.now, x.2)) result ≡ amount_of fields.now }
 {
     let (from, rest) = cut_at_byte(fields, b' ')?;
     let (to, amount) = cut_at_byte(rest, b' ')?;
-    let from = field_name(from)?;
-    let to = field_name(to)?;
-    let amount = field_number(amount)?;
+    let from = parse_field_name(from)?;
+    let to = parse_field_name(to)?;
+    let amount = parse_field_number(amount)?;
     Some((from, to, amount))
 }
 
@@ -80,7 +80,7 @@ fn are_names(text: &str) -> bool
 
 /// One or more names, separated by spaces.
 #[tactic(auto, unfolding(crate::specs::Lines::blocks_of))]
-fn chain_in(fields: &[u8]) -> Option<Line<'_>>
+fn parse_chain(fields: &[u8]) -> Option<Line<'_>>
     ensures { option_map line_content result ≡ blocks_of fields.now }
 {
     match std::str::from_utf8(fields) {
@@ -91,21 +91,21 @@ fn chain_in(fields: &[u8]) -> Option<Line<'_>>
 
 /// The line of a keyword and the fields after it.
 #[tactic(auto, unfolding(crate::specs::Lines::line_under))]
-fn fields_in<'a>(word: &[u8], fields: &'a [u8]) -> Option<Line<'a>>
+fn line_of_keyword<'a>(word: &[u8], fields: &'a [u8]) -> Option<Line<'a>>
     ensures { option_map line_content result ≡ line_under word.now fields.now }
 {
     if word == b"cut".as_slice() {
-        let (from, to) = ends_in(fields)?;
+        let (from, to) = parse_ends(fields)?;
         return Some(Line::Ends(from, to));
     }
     if word == b"weight".as_slice() {
-        let weight = field_number(fields)?;
+        let weight = parse_field_number(fields)?;
         return Some(Line::Weighs(weight));
     }
     if word == b"blocked".as_slice() {
-        return chain_in(fields);
+        return parse_chain(fields);
     }
-    let (from, to, amount) = amount_in(fields)?;
+    let (from, to, amount) = parse_amount_fields(fields)?;
     if word == b"remove".as_slice() {
         return Some(Line::Removes(from, to, amount));
     }
@@ -124,7 +124,7 @@ pub(crate) fn parse_line(text: &[u8]) -> Option<Line<'_>>
         return Some(Line::Last);
     }
     let (word, fields) = cut_at_byte(text, b' ')?;
-    fields_in(word, fields)
+    line_of_keyword(word, fields)
 }
 
 /// The `flow` line with which the bytes begin, and the bytes after its LF. It is parsed without searching for the LF first, since most
@@ -134,7 +134,7 @@ fn parse_flow_line(text: &[u8]) -> Option<(Line<'_>, &[u8])>
     ensures text { IfSome result (λ x. text.now ≡ report_line (line_content x.0) ++ 10 ∷ x.1.now) }
 {
     let fields = text.strip_prefix(b"flow ")?;
-    let ((from, to, flow), rest) = parse_amount(fields)?;
+    let ((from, to, flow), rest) = parse_names_and_number(fields)?;
     if flow == 0 {
         return None;
     }
@@ -142,7 +142,7 @@ fn parse_flow_line(text: &[u8]) -> Option<(Line<'_>, &[u8])>
 }
 
 /// The first line of the bytes, if it is one of a report, and the bytes after its LF. None if there is no LF.
-pub(crate) fn first_line(text: &[u8]) -> Option<(Option<Line<'_>>, &[u8])>
+pub(crate) fn cut_first_line(text: &[u8]) -> Option<(Option<Line<'_>>, &[u8])>
     ensures line { IfSome result (λ x. IsFirstLine text.now (option_map line_content x.0) x.1.now) }
     ensures none { IfNone result (cut_at 10 text.now ≡ None) }
 {

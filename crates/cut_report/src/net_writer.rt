@@ -10,7 +10,7 @@ ghost use Rattle.cut_report.specs.NetLines.{chain_text, import_between, imports_
 
 use crate::{Sink, SinkFault, write_fully};
 use byte_sink::flush_if_full;
-use cut_net::{Net, Priced, line_of};
+use cut_net::{Net, Priced, find_import};
 use std::alloc::{AllocError, Global};
 use std::fmt;
 
@@ -40,7 +40,7 @@ impl fmt::Display for NetLine<'_> {
 }
 
 /// Appends a line with its LF to the text, and writes the text if it is long.
-fn push_line<S: Sink>(text: &mut String, line: NetLine, sink: &mut S) -> Result<(), SinkFault>
+fn write_line<S: Sink>(text: &mut String, line: NetLine, sink: &mut S) -> Result<(), SinkFault>
     ensures gathered { OnOk result (WritesAllBut (S.taken sink.old) (S.taken sink.new)
         (string_bytes text.old ++ ended_line (net_line_content line.entry)) (string_bytes text.new)) }
     ensures error_prefix { IfErr result (λ _. AppendsPrefix (S.taken sink.old) (S.taken sink.new)
@@ -52,7 +52,7 @@ fn push_line<S: Sink>(text: &mut String, line: NetLine, sink: &mut S) -> Result<
 }
 
 /// Appends a line for each module.
-fn push_modules<S: Sink>(text: &mut String, net: &Net, sink: &mut S) -> Result<(), SinkFault>
+fn write_modules<S: Sink>(text: &mut String, net: &Net, sink: &mut S) -> Result<(), SinkFault>
     ensures gathered { OnOk result (WritesAllBut (S.taken sink.old) (S.taken sink.new)
         (string_bytes text.old ++ ended_lines (map Module net.now.names)) (string_bytes text.new)) }
     ensures error_prefix { IfErr result (λ _. AppendsPrefix (S.taken sink.old) (S.taken sink.new)
@@ -60,13 +60,13 @@ fn push_modules<S: Sink>(text: &mut String, net: &Net, sink: &mut S) -> Result<(
     ensures failures { S.failures sink.new ≡ failures_after result (S.failures sink.old) }
 {
     for node in 0..net.nodes() {
-        push_line(text, NetLine::Module(net.name(node)), sink)?;
+        write_line(text, NetLine::Module(net.name(node)), sink)?;
     }
     Ok(())
 }
 
 /// Appends a line for each import.
-fn push_imports<S: Sink>(
+fn write_imports<S: Sink>(
     text: &mut String,
     net: &Net,
     imports: &[Priced],
@@ -82,7 +82,7 @@ fn push_imports<S: Sink>(
     for import in imports {
         let from = net.name(import.from);
         let to = net.name(import.to);
-        push_line(text, NetLine::Import(from, to, import.amount), sink)?;
+        write_line(text, NetLine::Import(from, to, import.amount), sink)?;
     }
     Ok(())
 }
@@ -99,8 +99,8 @@ pub fn write_net<S: Sink>(alloc: Global, net: &Net, sink: &mut S) -> Result<(), 
 {
     net.invariants();
     let mut text = String::new(alloc);
-    push_modules(&mut text, net, sink)?;
-    push_imports(&mut text, net, net.imports(), sink)?;
+    write_modules(&mut text, net, sink)?;
+    write_imports(&mut text, net, net.imports(), sink)?;
     write_fully(sink, text.as_bytes())
 }
 
@@ -114,7 +114,7 @@ fn import_between(net: &Net, from: u32, to: u32) -> Priced
         to,
         amount: 0,
     };
-    line_of(net.imports(), none).unwrap_or(none)
+    find_import(net.imports(), none).unwrap_or(none)
 }
 
 /// The imports between each two consecutive modules.
@@ -150,6 +150,6 @@ pub fn write_chain<S: Sink>(
         return Err(SinkFault::Memory);
     };
     let mut text = String::new(alloc);
-    push_imports(&mut text, net, imports.as_slice(), sink)?;
+    write_imports(&mut text, net, imports.as_slice(), sink)?;
     write_fully(sink, text.as_bytes())
 }

@@ -7,11 +7,11 @@ ghost use Rattle.cut_report.specs.Reach.{Reaches};
 
 use crate::chain::edges_of;
 use cut_net::Net;
-use digraph::{Edge, graph_of, sort_all, transposed};
+use digraph::{Edge, graph_of, sort_and_dedup, transposed};
 use std::alloc::{AllocError, Global};
 
 /// The nodes to which a path of one or more edges leads from the start, in ascending order.
-fn nodes_after(
+fn reachable_nodes(
     alloc: Global,
     edges: &[Edge],
     nodes: usize,
@@ -52,7 +52,7 @@ pub fn reached_modules(alloc: Global, net: &Net, from: u32) -> Result<Vec<u32>, 
 {
     net.invariants();
     let edges = edges_of(alloc, net.imports())?;
-    nodes_after(alloc, edges.as_slice(), net.nodes() as usize, from)
+    reachable_nodes(alloc, edges.as_slice(), net.nodes() as usize, from)
 }
 
 /// The modules that reach a module by one or more imports, in ascending order. Imports of weight 0 count. Fails if an allocation fails.
@@ -69,6 +69,6 @@ pub fn reaching_modules(alloc: Global, net: &Net, to: u32) -> Result<Vec<u32>, A
     net.invariants();
     let edges = edges_of(alloc, net.imports())?;
     let mut reversed = transposed(alloc, edges.as_slice())?;
-    sort_all(&mut reversed);
-    nodes_after(alloc, reversed.as_slice(), net.nodes() as usize, to)
+    sort_and_dedup(&mut reversed);
+    reachable_nodes(alloc, reversed.as_slice(), net.nodes() as usize, to)
 }

@@ -9,12 +9,12 @@ ghost use Rattle.cut_report.specs.declared.fault.ReportFault.{ReportFault};
 
 use crate::builder::ReportBuilder;
 use crate::import_guess::ImportCursor;
-use crate::line::first_line;
+use crate::line::cut_first_line;
 use crate::{Report, ReportFault};
 use cut_net::Net;
 use std::alloc::Global;
 
-/// Adds the lines of the bytes to the builder, one by one.
+/// The report of the bytes, whose lines are added to a builder one by one; or their first error.
 fn read_lines(alloc: Global, bytes: &[u8], net: &Net) -> Result<Report, ReportFault>
     requires { IsNetwork net.now }
     ensures { HasOutcome entry_of result (IsReportOutcome net.now bytes.now) }
@@ -23,8 +23,8 @@ fn read_lines(alloc: Global, bytes: &[u8], net: &Net) -> Result<Report, ReportFa
     let mut cursor = ImportCursor::first();
     let mut before = 0;
     let mut rest = bytes;
-    while let Some((line, after)) = first_line(rest) {
-        builder = builder.with_numbered(alloc, net, &mut cursor, before + 1, line)?;
+    while let Some((line, after)) = cut_first_line(rest) {
+        builder = builder.with_numbered_line(alloc, net, &mut cursor, before + 1, line)?;
         before += 1;
         rest = after;
     }

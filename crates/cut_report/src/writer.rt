@@ -6,7 +6,7 @@ ghost use Rattle.cut_net.specs.Answers.{answer_claim, cut_claim};
 ghost use Rattle.cut_net.specs.Network.{name_of};
 ghost use Rattle.cut_net.specs.AnswerClaim.{BlockedBy};
 ghost use Rattle.cut_report.specs.ReportLine.{flows, removes, report_line, answer_lines, written};
-ghost use Rattle.cut_report.specs.ReportText.{report_text, IsReport, MaySay};
+ghost use Rattle.cut_report.specs.ReportText.{report_text, IsReport, IsWellFormedAnswer};
 ghost use Rattle.cut_net.specs.WellFormed.{AreBetween};
 ghost use Rattle.cut_report.specs.Faults.{is_failure, is_of_sink};
 ghost use Rattle.cut_report.specs.Lines.{line_content, joined_with};
@@ -21,7 +21,7 @@ use cut_net::{Answer, Cut, Net, Priced};
 use std::alloc::{AllocError, Global};
 
 /// Appends a line with its LF to the text, and writes the text if it is long.
-fn push_line<S: Sink>(text: &mut String, line: Line, sink: &mut S) -> Result<(), SinkFault>
+fn write_line<S: Sink>(text: &mut String, line: Line, sink: &mut S) -> Result<(), SinkFault>
     ensures gathered { OnOk result (WritesAllBut (S.taken sink.old) (S.taken sink.new)
         (string_bytes text.old ++ ended (report_line (line_content line.entry))) (string_bytes text.new)) }
     ensures error_prefix { IfErr result (λ _. AppendsPrefix (S.taken sink.old) (S.taken sink.new)
@@ -33,7 +33,7 @@ fn push_line<S: Sink>(text: &mut String, line: Line, sink: &mut S) -> Result<(),
 }
 
 /// Appends a line for each import to remove.
-fn push_removes<S: Sink>(
+fn write_removes<S: Sink>(
     text: &mut String,
     net: &Net,
     imports: &[Priced],
@@ -49,13 +49,13 @@ fn push_removes<S: Sink>(
     for import in imports {
         let from = net.name(import.from);
         let to = net.name(import.to);
-        push_line(text, Line::Removes(from, to, import.amount), sink)?;
+        write_line(text, Line::Removes(from, to, import.amount), sink)?;
     }
     Ok(())
 }
 
 /// Appends a line for each import with flow.
-fn push_flows<S: Sink>(
+fn write_flows<S: Sink>(
     text: &mut String,
     net: &Net,
     imports: &[Priced],
@@ -71,27 +71,32 @@ fn push_flows<S: Sink>(
     for import in imports {
         let from = net.name(import.from);
         let to = net.name(import.to);
-        push_line(text, Line::Flows(from, to, import.amount), sink)?;
+        write_line(text, Line::Flows(from, to, import.amount), sink)?;
     }
     Ok(())
 }
 
 /// Appends the lines of a cut.
-fn push_cut<S: Sink>(text: &mut String, net: &Net, cut: &Cut, sink: &mut S) -> Result<(), SinkFault>
-    requires { MaySay net.now (cut_claim cut.now) }
+fn write_cut<S: Sink>(
+    text: &mut String,
+    net: &Net,
+    cut: &Cut,
+    sink: &mut S,
+) -> Result<(), SinkFault>
+    requires { IsWellFormedAnswer net.now (cut_claim cut.now) }
     ensures gathered { OnOk result (WritesAllBut (S.taken sink.old) (S.taken sink.new)
         (string_bytes text.old ++ written (answer_lines net.now (cut_claim cut.now))) (string_bytes text.new)) }
     ensures error_prefix { IfErr result (λ _. AppendsPrefix (S.taken sink.old) (S.taken sink.new)
         (string_bytes text.old ++ written (answer_lines net.now (cut_claim cut.now)))) }
     ensures failures { S.failures sink.new ≡ failures_after result (S.failures sink.old) }
 {
-    push_line(text, Line::Weighs(cut.weight), sink)?;
-    push_removes(text, net, cut.imports.as_slice(), sink)?;
-    push_flows(text, net, cut.flow.as_slice(), sink)
+    write_line(text, Line::Weighs(cut.weight), sink)?;
+    write_removes(text, net, cut.imports.as_slice(), sink)?;
+    write_flows(text, net, cut.flow.as_slice(), sink)
 }
 
-/// Appends a word to the text, after a space if the text isn't empty.
-fn push_word(text: &mut String, count: usize, word: &str) -> Result<(), AllocError>
+/// Appends a word to the text, after a space unless it is the first word; `count` is the number of words before it.
+fn append_word(text: &mut String, count: usize, word: &str) -> Result<(), AllocError>
     ensures { OnOk result (string_bytes text.new ≡ joined_with (string_bytes text.old) count word.now) }
 {
     if count > 0 {
@@ -107,20 +112,20 @@ fn joined_names(alloc: Global, net: &Net, modules: &[u32]) -> Result<String, All
 {
     let mut text = String::new(alloc);
     for (k, module) in modules.iter().enumerate() {
-        push_word(&mut text, k, net.name(*module))?;
+        append_word(&mut text, k, net.name(*module))?;
     }
     Ok(text)
 }
 
 /// Appends the line of a path of pinned imports.
-fn push_chain<S: Sink>(
+fn write_pin_chain<S: Sink>(
     alloc: Global,
     text: &mut String,
     net: &Net,
     chain: &[u32],
     sink: &mut S,
 ) -> Result<(), SinkFault>
-    requires { MaySay net.now (BlockedBy chain.now) }
+    requires { IsWellFormedAnswer net.now (BlockedBy chain.now) }
     ensures gathered { OnOk result (WritesAllBut (S.taken sink.old) (S.taken sink.new)
         (string_bytes text.old ++ written (answer_lines net.now (BlockedBy chain.now))) (string_bytes text.new)) }
     ensures error_prefix { IfErr result (λ _. AppendsPrefix (S.taken sink.old) (S.taken sink.new)
@@ -130,18 +135,18 @@ fn push_chain<S: Sink>(
     let Ok(names) = joined_names(alloc, net, chain) else {
         return Err(SinkFault::Memory);
     };
-    push_line(text, Line::Blocks(names.as_str()), sink)
+    write_line(text, Line::Blocks(names.as_str()), sink)
 }
 
 /// Appends the lines between the first and the last.
-fn push_answer<S: Sink>(
+fn write_answer<S: Sink>(
     alloc: Global,
     text: &mut String,
     net: &Net,
     answer: &Answer,
     sink: &mut S,
 ) -> Result<(), SinkFault>
-    requires { MaySay net.now (answer_claim answer.now) }
+    requires { IsWellFormedAnswer net.now (answer_claim answer.now) }
     ensures gathered { OnOk result (WritesAllBut (S.taken sink.old) (S.taken sink.new)
         (string_bytes text.old ++ written (answer_lines net.now (answer_claim answer.now))) (string_bytes text.new)) }
     ensures error_prefix { IfErr result (λ _. AppendsPrefix (S.taken sink.old) (S.taken sink.new)
@@ -149,8 +154,8 @@ fn push_answer<S: Sink>(
     ensures failures { S.failures sink.new ≡ failures_after result (S.failures sink.old) }
 {
     match answer {
-        Answer::Cut(cut) => push_cut(text, net, cut, sink),
-        Answer::Blocked { chain } => push_chain(alloc, text, net, chain, sink),
+        Answer::Cut(cut) => write_cut(text, net, cut, sink),
+        Answer::Blocked { chain } => write_pin_chain(alloc, text, net, chain, sink),
     }
 }
 
@@ -168,9 +173,9 @@ fn write_text<S: Sink>(
     ensures failures { S.failures sink.new ≡ failures_after result (S.failures sink.old) }
 {
     let mut text = String::new(alloc);
-    push_line(&mut text, Line::Ends(net.name(from), net.name(to)), sink)?;
-    push_answer(alloc, &mut text, net, answer, sink)?;
-    push_line(&mut text, Line::Last, sink)?;
+    write_line(&mut text, Line::Ends(net.name(from), net.name(to)), sink)?;
+    write_answer(alloc, &mut text, net, answer, sink)?;
+    write_line(&mut text, Line::Last, sink)?;
     write_fully(sink, text.as_bytes())
 }
 

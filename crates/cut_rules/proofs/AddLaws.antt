@@ -4,7 +4,7 @@ use Rattle.cut_net.specs.Network.{Network}
 use Rattle.cut_rules.specs.declared.file.File.{File}
 use Rattle.cut_rules.specs.declared.table.SetTable.{SetTable}
 use Rattle.cut_rules.specs.RuleLines.{Selector, Module, Folder, Named, Tree, Adds}
-use Rattle.cut_rules.specs.Rules.{LineFault, TooMany, empty_fault, rank, IsOverLimit, HasPattern, IsModule, IsWrong}
+use Rattle.cut_rules.specs.Rules.{LineFault, TooMany, empty_selection_fault, rank, IsOverLimit, HasPattern, IsModule, IsWrong}
 use Rattle.cut_rules.specs.Builders.{pattern_count, IsAddition, IsTable, SelectsAny}
 use Rattle.cut_rules.proofs.FaultLaws.{adds_right, empty_wrong, many_first}
 use Rattle.cut_rules.proofs.LineLists.{few_before, many_before}
@@ -20,7 +20,7 @@ module _ (net : Network) (files : List File) (sets pieces : List (List ℕ)) (co
       not_many pattern sum = let (lines, of, long) = table.patterns in few_before (HasPattern pieces) count lines of line number (omega arith)
 
   -- one that adds none
-  pub empty : (selector : Selector) → (SelectsAny net files selector → ⊥) → IsWrong net files pieces line (empty_fault s selector) (Adds s selector)
+  pub empty : (selector : Selector) → (SelectsAny net files selector → ⊥) → IsWrong net files pieces line (empty_selection_fault s selector) (Adds s selector)
   empty selector none = empty_wrong net files pieces line s selector (λ x is. let (m, low, e) = has_number net x is in (m, (low, e))) none
 
   -- a pattern too many

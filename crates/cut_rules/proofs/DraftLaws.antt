@@ -1,4 +1,4 @@
--- One line more.
+-- The builder after one more line.
 use Rattle.std.proofs.Common.{◌≡◌, ℕ, ◌+◌, ◌<◌, ◌≤◌, ◌⊎◌, inl, inr, true, false, Bool, List, [], ◌∷◌, ◌++◌, length, get_or, set, Option, Some, None, Result, Err, refl, sym, ap, ◌∙◌, subst, arith}
 use Rattle.std.specs.Prelude.{◌↔◌, option_map}
 use Rattle.std.specs.BTreeSet.{BTreeSet}
@@ -210,7 +210,7 @@ module _ (net : Network) (files : List File) (sets pieces : List (List ℕ)) (co
         lacks (get_or net.imports number missing_item) (Contains-get_or net.imports number missing_item low)
         (subst (λ (x : List ℕ). is_named net x l (get_or net.imports number missing_item) ≡ true) (sym first) (subst (λ (y : List ℕ). is_named net m y (get_or net.imports number missing_item) ≡ true) (sym second) named))
 
-    -- an import that the network lacks has no mark
+    -- an import that the network lacks has no flag
     pub allowed_other : (allowed : List Bool) → LacksImport net m n → AreAllowed net pieces count allowed → AreAllowed net pieces next allowed
     allowed_other allowed lacks elements = record {
       size = elements.size;

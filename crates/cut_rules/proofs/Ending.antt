@@ -1,4 +1,4 @@
--- The end of a verdict.
+-- The final bytes of a verdict.
 use Rattle.std.proofs.Common.{◌≡◌, ◌∙◌, ◌<◌, ℕ, Bool, true, false, List, [], ◌∷◌, ◌++◌, Option, Result, Ok, Err, Vec, vec_len, length, map, refl, sym, ap, subst, codes, append-nil, arith}
 use Rattle.std.specs.Prelude.{◌==◌, AllPairs, Contains, if◌then◌else◌, not}
 use Rattle.std.specs.declared.alloc.Global.{Global}
@@ -10,7 +10,7 @@ use Rattle.std.proofs.lemmas.List.{get_or-map, length-map}
 use Rattle.byte_sink.specs.declared.sink.SinkFault.{SinkFault}
 use Rattle.byte_sink.specs.declared.sink.SinkFault.TheVariants as sink_faults
 use Rattle.byte_sink.specs.Sinks.{AppendsPrefix, Writes}
-use Rattle.text_escape.specs.Places.{Style}
+use Rattle.texts.specs.Places.{Style}
 use Rattle.byte_sink.specs.Pieces.{WritesAllBut}
 use Rattle.byte_sink.proofs.Joining.{front_joined, front_more, joined, puts_then}
 use Rattle.digraph.proofs.Members.{from_map, in_map}

@@ -1,4 +1,4 @@
--- What is wrong with a line, and what is looked for first.
+-- The errors of a line, in the order of testing.
 use Rattle.std.proofs.Common.{◌≡◌, ℕ, ◌+◌, ◌<◌, ◌≤◌, inl, inr, true, false, List, Some, None, refl, sym, ap, ap₂, ◌∙◌, subst, arith}
 use Rattle.std.proofs.lemmas.Bool.{cases_eq, cases_order, false≢true}
 use Rattle.cut_net.specs.Network.{Network}
@@ -6,9 +6,9 @@ use Rattle.cut_rules.specs.declared.fault.RulesFault.{RulesFault}
 use Rattle.cut_rules.specs.declared.fault.RulesFault.TheVariants as faults
 use Rattle.cut_rules.specs.declared.file.File.{File}
 use Rattle.cut_rules.specs.declared.rule.RuleKind.{RuleKind}
-use Rattle.cut_rules.specs.RuleLines.{RuleLine, Selector, Module, Folder, Named, Tree, Adds, Restricts, Allow, IsIdle, IsPieceAt, States, Spells}
-use Rattle.cut_rules.specs.LineReading.{is_idle, rule_line_of}
-use Rattle.cut_rules.specs.Rules.{LineFault, BadLine, SetIsModule, NoSuchModule, TwiceAllowed, EmptySet, TooMany, empty_fault, rank, IsOverLimit, HasFault, HasPattern, IsFirstUnknown, IsModule, IsNoLine, IsRule, IsUnknown, IsWrong, Selects}
+use Rattle.cut_rules.specs.RuleLines.{RuleLine, Selector, Module, Folder, Named, Tree, Adds, Restricts, Allow, IsEmptyOrComment, IsPieceAt, States, Spells}
+use Rattle.cut_rules.specs.LineReading.{is_empty_or_comment, rule_line_of}
+use Rattle.cut_rules.specs.Rules.{LineFault, BadLine, SetIsModule, NoSuchModule, TwiceAllowed, EmptySet, TooMany, empty_selection_fault, rank, IsOverLimit, HasFault, HasPattern, IsFirstUnknown, IsModule, IsInvalidLine, IsRule, IsUnknown, IsWrong, Selects}
 use Rattle.cut_rules.specs.Names.{IsDeclaredName}
 use Rattle.cut_rules.specs.Builders.{SelectsAny}
 use Rattle.cut_rules.specs.Faults.{cause_of, IsFirstFault, IsRefusal, UnlessMemory}
@@ -32,7 +32,7 @@ module _ (net : Network) (files : List File) (pieces : List (List ℕ)) where
   wrong_once line content TooMany TooMany a b e = refl
   wrong_once line content f g a b e = absurd (first_of (assumption, omega arith))
 
-  no_bad : (line : ℕ) → IsNoLine net files pieces line → (content : RuleLine) → States pieces line content → ⊥
+  no_bad : (line : ℕ) → IsInvalidLine net files pieces line → (content : RuleLine) → States pieces line content → ⊥
   no_bad line (piece, at, written, none) content s = none content (subst (λ (p : List ℕ). Spells p content) (one_piece pieces line s.piece piece s.at at) s.spelled)
 
   fault_once : (line : ℕ) (f g : LineFault) → HasFault net files pieces line f → HasFault net files pieces line g → rank f ≡ rank g → f ≡ g
@@ -63,7 +63,7 @@ module _ (net : Network) (files : List File) (pieces : List (List ℕ)) where
     first_fault : (fault : LineFault) → HasFault net files pieces line fault → ((other : LineFault) → HasFault net files pieces line other → rank fault ≤ rank other) → IsFirstFault net files pieces line fault
     first_fault fault has low = record { has = has; first_line = λ before other less also. sound before other (omega arith) also; first = low }
 
-    pub bad_line : (piece : List ℕ) → IsPieceAt pieces line piece → is_idle piece ≡ false → rule_line_of piece ≡ None → IsFirstFault net files pieces line BadLine
+    pub bad_line : (piece : List ℕ) → IsPieceAt pieces line piece → is_empty_or_comment piece ≡ false → rule_line_of piece ≡ None → IsFirstFault net files pieces line BadLine
     bad_line piece at written none = first_fault BadLine (inl ((piece, at, (λ idle. false≢true (sym written ∙ idle_is piece idle)), no_line piece none), refl)) (λ other has. omega arith)
 
     -- a line with this content has no other faults than those that are wrong with it
@@ -88,11 +88,11 @@ module _ (net : Network) (files : List File) (pieces : List (List ℕ)) where
         here fault (inl (bad, is)) = no_bad line bad content says
         here fault (inr (also, same, wrong)) = right fault (subst (IsWrong net files pieces line fault) (says_one pieces line also content same says) wrong)
 
-    pub idle_line : (piece : List ℕ) → IsPieceAt pieces line piece → is_idle piece ≡ true → (l : ℕ) (fault : LineFault) → l ≤ line → HasFault net files pieces l fault → ⊥
+    pub idle_line : (piece : List ℕ) → IsPieceAt pieces line piece → is_empty_or_comment piece ≡ true → (l : ℕ) (fault : LineFault) → l ≤ line → HasFault net files pieces l fault → ⊥
     idle_line piece at idle = sound_with here
       where
         here : (fault : LineFault) → HasFault net files pieces line fault → ⊥
-        here fault (inl ((other, present, written, none), is)) = written (subst (λ (p : List ℕ). IsIdle p) (one_piece pieces line piece other at present) (idle_takes piece idle))
+        here fault (inl ((other, present, written, none), is)) = written (subst (λ (p : List ℕ). IsEmptyOrComment p) (one_piece pieces line piece other at present) (idle_takes piece idle))
         here fault (inr (content, says, wrong)) = idle_says pieces line piece content at idle says
 
   -- ---- a line that adds modules to a set
@@ -110,13 +110,13 @@ module _ (net : Network) (files : List File) (pieces : List (List ℕ)) where
   set_is_module line s selector other wrong = omega arith
 
   -- none of its modules is there
-  pub empty_wrong : (line : ℕ) (s : List ℕ) (selector : Selector) → ((name : List ℕ) → IsModule net files pieces name → SelectsAny net files (Module name)) → (SelectsAny net files selector → ⊥) → IsWrong net files pieces line (empty_fault s selector) (Adds s selector)
+  pub empty_wrong : (line : ℕ) (s : List ℕ) (selector : Selector) → ((name : List ℕ) → IsModule net files pieces name → SelectsAny net files (Module name)) → (SelectsAny net files selector → ⊥) → IsWrong net files pieces line (empty_selection_fault s selector) (Adds s selector)
   empty_wrong line s (Module m) found none = (refl, λ is. none (found m is))
   empty_wrong line s (Folder path) found none = (refl, λ m is. none (m, is))
   empty_wrong line s (Named pattern) found none = (refl, λ m is. none (m, is))
   empty_wrong line s Tree found none = (refl, λ m is. none (m, is))
 
-  pub empty_first : (line : ℕ) (s : List ℕ) (selector : Selector) → (IsModule net files pieces s → ⊥) → (other : LineFault) → IsWrong net files pieces line other (Adds s selector) → rank (empty_fault s selector) ≤ rank other
+  pub empty_first : (line : ℕ) (s : List ℕ) (selector : Selector) → (IsModule net files pieces s → ⊥) → (other : LineFault) → IsWrong net files pieces line other (Adds s selector) → rank (empty_selection_fault s selector) ≤ rank other
   empty_first line s selector apart BadLine wrong = absurd wrong
   empty_first line s selector apart (SetIsModule x) wrong = absurd (apart wrong.1)
   empty_first line s (Module m) apart other wrong = omega arith

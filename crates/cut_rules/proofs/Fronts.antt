@@ -1,4 +1,4 @@
--- Lists in an order in which no two come before each other.
+-- Sorted lists in a strict order, and their prefixes.
 use Rattle.std.proofs.Common.{◌≡◌, suc, inl, inr, List, [], ◌∷◌, ◌++◌, length, refl, sym, ap, ap₂, ◌∙◌, subst, arith, length-append, append-nil}
 use Rattle.std.specs.Prelude.{AllPairs, Contains}
 use Rattle.digraph.proofs.Members.{first_member, first_or_later, later_member, no_member}
@@ -21,7 +21,7 @@ module _ {X : Type 0} (R : X → X → Type 0) (apart : (x y : X) → R x y → 
         ]
   ]
 
-  -- what is in a list and no head of it is behind the head
+  -- what is in a list and no head of it is after the head
   behind_head : (x : X) (xs : List X) (z : X) → Contains (x ∷ xs) z → R x z → Contains xs z
   behind_head x xs z has before = elim (first_or_later x xs z has) [
     | inl same ↦ absurd (let own : R z z = subst (λ (w : X). R w z) same before in apart z z own own)

@@ -25,7 +25,7 @@ use Rattle.cut_rules.specs.declared.rule_search.RuleSearch.{RuleSearch}
 use Rattle.cut_rules.specs.RuleLines.{Allow, May, Restricts, States}
 use Rattle.cut_rules.specs.Rules.{Counts, IsIn}
 use Rattle.cut_rules.specs.Builders.{number_by, number_of}
-use Rattle.cut_rules.specs.Judged.{IsBarredBy, IsCountedGraph, IsFirstRule, IsNamed, IsOutsider, IsRepeated, IsRuleSearch, IsSearchFor, IsTargetBy}
+use Rattle.cut_rules.specs.Judged.{IsBarredBy, IsCountedGraph, IsFirstRule, IsDenoted, IsOutsider, IsRepeated, IsRuleSearch, IsSearchFor, IsTargetBy}
 use Rattle.cut_rules.specs.Names.{names_in}
 use Rattle.cut_rules.specs.Outcomes.{AreRulesOf}
 use Rattle.digraph.specs.ShortestPaths.{IsPathAround}
@@ -38,7 +38,7 @@ pub chain_to : (G H : ℕ → ℕ → Type 0) → ((a b : ℕ) → G a b → H a
 chain_to G H over m [] b e = e
 chain_to G H over m (n ∷ more) b (step, rest) = (over m n step, chain_to G H over n more b rest)
 
--- where each node that is led to is low, so is each of a chain after its first
+-- where each node that is led to is low, so is each of a path after its first
 pub low_chain : (G : ℕ → ℕ → Type 0) (count : ℕ) → ((a b : ℕ) → G a b → b < count) → (m : ℕ) (more : List ℕ) (b : ℕ) → IsChain G m more b → (v : ℕ) → Contains more v → v < count
 low_chain G count low m [] b e v has = no_member v has
 low_chain G count low m (n ∷ more) b (step, rest) v has = elim (first_or_later n more v has) [
@@ -118,7 +118,7 @@ module _ (net : Network) (network : IsNetwork net) (files : List File) (pieces :
     ]
   ]
 
-  pub is_in : (x : List ℕ) (number m : ℕ) → m < nodes → number_of net sets x ≡ Some number → IsNamed rules number m ↔ IsIn net files pieces x m
+  pub is_in : (x : List ℕ) (number m : ℕ) → m < nodes → number_of net sets x ≡ Some number → IsDenoted rules number m ↔ IsIn net files pieces x m
   is_in x number m low is = members_are net network files pieces rules elements x number m is low
 
   -- ---- rules

@@ -1,4 +1,4 @@
--- A line that is read is the one that is spelled.
+-- Parsing a line of a rules text inverts writing it.
 use Rattle.std.proofs.Common.{◌≡◌, ℕ, suc, ◌+◌, ◌<◌, ◌≤◌, inl, inr, true, false, Bool, not, eqb, List, [], ◌∷◌, ◌++◌, length, take, drop, get_or, Option, Some, None, refl, sym, ap, ◌∙◌, subst, arith, codes, append_assoc, append-nil, add-one, drop-cons}
 use Rattle.std.specs.Prelude.{slice_get, unwrap_or, option_and_then, option_map}
 use Rattle.std.specs.Char.{is_ascii_alphanumeric}
@@ -18,8 +18,8 @@ use Rattle.texts.proofs.FieldNames.{named_takes, named_again, name_without}
 use Rattle.cut_net.proofs.NetLines.{map_some}
 use Rattle.cut_rules.specs.declared.rule.RuleKind.{RuleKind}
 use Rattle.cut_rules.specs.declared.rule.RuleKind.TheVariants as kinds
-use Rattle.cut_rules.specs.RuleLines.{RuleLine, Selector, Module, Folder, Named, Tree, Adds, Restricts, Allow, rule_line, is_blank, keyword, EndsRule, IsComment, IsIdle, IsPieceAt, IsRuleLine, MayFollow, States, Spells}
-use Rattle.cut_rules.specs.LineReading.{is_comment, is_idle, kind_of, last_name_of, line_after, line_of_fields, line_of_names, names_of_rule, rule_line_of, rule_of, set_in, set_of, text_of}
+use Rattle.cut_rules.specs.RuleLines.{RuleLine, Selector, Module, Folder, Named, Tree, Adds, Restricts, Allow, rule_line, is_blank, keyword, EndsRule, IsComment, IsEmptyOrComment, IsPieceAt, IsRuleLine, MayFollow, States, Spells}
+use Rattle.cut_rules.specs.LineReading.{is_comment, is_empty_or_comment, kind_of, last_name_of, line_after, line_of_fields, line_of_names, names_of_rule, rule_line_of, rule_of, parse_set_name, set_of, text_of}
 
 -- ---- comments
 
@@ -43,18 +43,18 @@ comment_again (b ∷ blanks) rest e = let p = and_parts (is_blank b) (list_all i
 comment_is : (text : List ℕ) → IsComment text → is_comment text ≡ true
 comment_is text c = ap is_comment c.whole ∙ comment_again c.blanks c.rest c.are_blank
 
-pub idle_takes : (piece : List ℕ) → is_idle piece ≡ true → IsIdle piece
+pub idle_takes : (piece : List ℕ) → is_empty_or_comment piece ≡ true → IsEmptyOrComment piece
 idle_takes [] e = inl refl
 idle_takes (b ∷ text) e = inr (comment_takes (b ∷ text) e)
 
-pub idle_is : (piece : List ℕ) → IsIdle piece → is_idle piece ≡ true
+pub idle_is : (piece : List ℕ) → IsEmptyOrComment piece → is_empty_or_comment piece ≡ true
 idle_is [] either = refl
 idle_is (b ∷ text) (inl e) = absurd cc
 idle_is (b ∷ text) (inr c) = comment_is (b ∷ text) c
 
 -- ---- the last name
 
-blank_at : (fields : List ℕ) → is_idle (drop (position_or_len is_blank fields) fields) ≡ true → EndsRule (drop (position_or_len is_blank fields) fields)
+blank_at : (fields : List ℕ) → is_empty_or_comment (drop (position_or_len is_blank fields) fields) ≡ true → EndsRule (drop (position_or_len is_blank fields) fields)
 blank_at [] e = tt
 blank_at (b ∷ fields) e = elim (cases_Bool (is_blank b)) [
   | inl blank ↦ rw blank ((blank, comment_takes (b ∷ fields) (rw blank at e)))
@@ -65,7 +65,7 @@ blank_at (b ∷ fields) e = elim (cases_Bool (is_blank b)) [
 
 last_takes : (fields name : List ℕ) → last_name_of fields ≡ Some name → (comment : List ℕ) × (fields ≡ name ++ comment) × (is_name name ≡ true) × EndsRule comment
 unfolding last_name_of
-last_takes fields name e = elim (cases_Bool (is_idle (drop (position_or_len is_blank fields) fields))) [
+last_takes fields name e = elim (cases_Bool (is_empty_or_comment (drop (position_or_len is_blank fields) fields))) [
   | inl idle ↦
       let end = position_or_len is_blank fields in
       let p = named_takes (take end fields) name (rw idle at e) in (
@@ -94,7 +94,7 @@ name_ends (b ∷ name) comment e ends =
     let rest = name_ends name comment p.1 ends in
     rw p.0 (omega arith)
 
-idle_end : (comment : List ℕ) → EndsRule comment → is_idle comment ≡ true
+idle_end : (comment : List ℕ) → EndsRule comment → is_empty_or_comment comment ≡ true
 idle_end [] ends = refl
 idle_end (b ∷ text) ends = comment_is (b ∷ text) ends.1
 
@@ -103,11 +103,11 @@ unfolding last_name_of
 last_again name comment p ends = rw (name_ends name comment (name_sharp name p) ends, drop-append_seam name comment, idle_end comment ends, take-append_seam name comment, named_again name p) refl
 
 -- how the last name is read
-pub last_by : (fields : List ℕ) (end : ℕ) → end ≡ position_or_len is_blank fields → is_idle (drop end fields) ≡ true → last_name_of fields ≡ named (take end fields)
+pub last_by : (fields : List ℕ) (end : ℕ) → end ≡ position_or_len is_blank fields → is_empty_or_comment (drop end fields) ≡ true → last_name_of fields ≡ named (take end fields)
 unfolding last_name_of
 last_by fields end at idle = rw (← at, idle) refl
 
-pub last_none : (fields : List ℕ) (end : ℕ) → end ≡ position_or_len is_blank fields → is_idle (drop end fields) ≡ false → last_name_of fields ≡ None
+pub last_none : (fields : List ℕ) (end : ℕ) → end ≡ position_or_len is_blank fields → is_empty_or_comment (drop end fields) ≡ false → last_name_of fields ≡ None
 unfolding last_name_of
 last_none fields end at other = rw (← at, other) refl
 
@@ -234,14 +234,14 @@ fields_takes word fields l e = elim (cases_Bool (bytes_eq word (codes "tree"))) 
       rw whole (after_takes word first parts.1 l p.1 e)))
 ]
 
--- what is read is spelled so
+-- the bytes of a parsed line are those of its content
 pub line_takes : (piece : List ℕ) (l : RuleLine) → rule_line_of piece ≡ Some l → Spells piece l
 unfolding rule_line_of
 line_takes piece l e = option_and_then_some _ (cut_at 32 piece) l e (λ parts h e.
     let (comment, whole, form, follows) = fields_takes parts.0 parts.1 l e in
     record { form = form; comment = comment; follows = follows; whole = cut_takes 32 piece parts h ∙ whole })
 
--- ---- what is spelled so is read
+-- ---- the bytes of a valid line are parsed as its content
 
 kind_again : (kind : RuleKind) → kind_of (keyword kind) ≡ Some kind
 kind_again kinds.Forbid = refl
@@ -298,9 +298,9 @@ field_of s Tree comment h ends = ((codes "tree", s ++ comment), cut_again 32 (co
 
 pub set_field_is : (piece s : List ℕ) → set_of piece ≡ Some s → HasField piece s
 unfolding set_of
-set_field_is piece s e = option_and_then_some set_in (rule_line_of piece) s e (λ l h e. by l (line_takes piece l h) e)
+set_field_is piece s e = option_and_then_some parse_set_name (rule_line_of piece) s e (λ l h e. by l (line_takes piece l h) e)
   where
-    by : (l : RuleLine) → Spells piece l → set_in l ≡ Some s → HasField piece s
+    by : (l : RuleLine) → Spells piece l → parse_set_name l ≡ Some s → HasField piece s
     by (Adds t selector) spelled e = subst (HasField piece) (some_is t s e) (subst (λ (p : List ℕ). HasField p t) (sym spelled.whole) (field_of t selector spelled.comment spelled.form spelled.follows))
     by (Restricts kind x y) spelled e = absurd cc
     by (Allow m n) spelled e = absurd cc
@@ -356,12 +356,12 @@ no_kind word fields none = elim (cases_Bool (bytes_eq word (codes "tree"))) [
     parts_none (Some parts) = first_none parts.1 (named parts.0)
     parts_none None = refl
 
--- what isn't read is no line
+-- bytes that aren't parsed are the bytes of no valid line
 pub no_line : (piece : List ℕ) → rule_line_of piece ≡ None → (l : RuleLine) → Spells piece l → ⊥
 no_line piece none l s = let e : Some l ≡ None = sym (line_again piece l s) ∙ none in cc
 
 -- a line isn't idle
-pub line_written : (l : RuleLine) (comment : List ℕ) → is_idle (rule_line l ++ comment) ≡ false
+pub line_written : (l : RuleLine) (comment : List ℕ) → is_empty_or_comment (rule_line l ++ comment) ≡ false
 unfolding is_comment
 line_written (Adds s (Module m)) comment = refl
 line_written (Adds s (Folder path)) comment = refl
@@ -384,7 +384,7 @@ pub says_one : (pieces : List (List ℕ)) (line : ℕ) (l k : RuleLine) → Stat
 says_one pieces line l k a b = line_once a.piece l k a.spelled (subst (λ (p : List ℕ). Spells p k) (one_piece pieces line b.piece a.piece b.at a.at) b.spelled)
 
 -- an idle line states nothing
-pub idle_says : (pieces : List (List ℕ)) (line : ℕ) (piece : List ℕ) (l : RuleLine) → IsPieceAt pieces line piece → is_idle piece ≡ true → States pieces line l → ⊥
+pub idle_says : (pieces : List (List ℕ)) (line : ℕ) (piece : List ℕ) (l : RuleLine) → IsPieceAt pieces line piece → is_empty_or_comment piece ≡ true → States pieces line l → ⊥
 idle_says pieces line piece l at idle s =
-    let e : true ≡ false = sym idle ∙ ap is_idle (one_piece pieces line piece s.piece at s.at ∙ s.spelled.whole) ∙ line_written l s.spelled.comment in
+    let e : true ≡ false = sym idle ∙ ap is_empty_or_comment (one_piece pieces line piece s.piece at s.at ∙ s.spelled.whole) ∙ line_written l s.spelled.comment in
     absurd (false≢true (sym e))

@@ -1,4 +1,4 @@
--- Marks of the modules of a name.
+-- Flags of the modules of a name.
 use Rattle.std.proofs.Common.{◌≡◌, ℕ, zero, suc, replicate, ◌+◌, ◌<◌, ◌⊎◌, inl, inr, true, false, Bool, List, [], ◌∷◌, ◌++◌, length, get_or, Some, refl, sym, ap, ◌∙◌, subst, arith}
 use Rattle.std.specs.Prelude.{◌↔◌, AllPairs, Contains, slice_get}
 use Rattle.std.proofs.lemmas.Bool.{cases_eq, cases_lt}
@@ -7,10 +7,10 @@ use Rattle.std.proofs.lemmas.List.Elements.{Contains-append_left, Contains-get_o
 use Rattle.std.proofs.lemmas.List.Quantifiers.{all_pairs_push}
 use Rattle.digraph.specs.Marks.{marked}
 use Rattle.texts.proofs.FieldCuts.{some_is}
-use Rattle.cut_rules.specs.declared.table.MarkedSet.{MarkedSet}
+use Rattle.cut_rules.specs.declared.table.ModuleSet.{ModuleSet}
 use Rattle.cut_rules.specs.declared.table.SetTable.{SetTable}
 use Rattle.cut_rules.specs.declared.file.File.{File}
-use Rattle.cut_rules.specs.Builders.{HasMark, IsAtIndex, IsMember}
+use Rattle.cut_rules.specs.Builders.{HasFlaggedIndex, IsAtIndex, IsMember}
 
 pub marked_low : (flags : List Bool) (v : ℕ) → marked flags v ≡ true → v < length flags
 marked_low flags v e = elim (cases_lt v (length flags)) [
@@ -18,7 +18,7 @@ marked_low flags v e = elim (cases_lt v (length flags)) [
   | inr ge ↦ absurd (let f : true ≡ false = sym e ∙ get_or_past flags v false ge in cc)
 ]
 
--- the marks are the old ones and those of which this holds
+-- the flags are the old ones and those of which this holds
 abbrev pub AreMarks : List Bool → List Bool → (ℕ → Type 0) → Type 0
 AreMarks old now P = (length now ≡ length old) × ((m : ℕ) → m < length old → (marked now m ≡ true) ↔ ((marked old m ≡ true) ⊎ P m))
 
@@ -31,20 +31,20 @@ marks_as a b P Q same (long, elements) = (
   ),
 )
 
--- ---- the modules of marked indices
+-- ---- the modules of flagged indices
 
--- the module has one of the first indices, and that one is marked
+-- the module has one of the first indices, and that one is flagged
 abbrev pub HasMarkBefore : List File → List Bool → ℕ → ℕ → Type 0
 HasMarkBefore files places count m = (k : ℕ) × (k < count) × IsAtIndex files k m × (marked places k ≡ true)
 
 -- the set of a number
-pub set_member : (files : List File) (table : SetTable) (number s : ℕ) (set : MarkedSet) → number ≡ table.modules + s → slice_get table.sets.items s ≡ Some set → (m : ℕ) → HasMark files set.flags.items m ↔ IsMember files table number m
+pub set_member : (files : List File) (table : SetTable) (number s : ℕ) (set : ModuleSet) → number ≡ table.modules + s → slice_get table.sets.items s ≡ Some set → (m : ℕ) → HasFlaggedIndex files set.flags.items m ↔ IsMember files table number m
 set_member files table number s set e present m = (
   λ has. (s, e, (set, present, has)),
   λ (t, f, (other, at, has)).
       let same : t ≡ s = omega arith in
       let set_is : other ≡ set = some_is other set (sym at ∙ ap (slice_get table.sets.items) same ∙ present) in
-      subst (λ (x : MarkedSet). HasMark files x.flags.items m) set_is has,
+      subst (λ (x : ModuleSet). HasFlaggedIndex files x.flags.items m) set_is has,
 )
 
 -- ---- the nodes with a mark

@@ -1,4 +1,4 @@
--- Names in tables, and what lines say of them.
+-- Names in tables, and the lines that declare them.
 use Rattle.std.proofs.Common.{◌≡◌, ℕ, ◌+◌, ◌<◌, ◌≤◌, ◌⊎◌, inl, inr, Bool, true, false, cond, not, List, [], ◌∷◌, ◌++◌, length, get_or, set, take, get_or-take, length-take, Some, None, refl, sym, ap, ◌∙◌, subst, arith}
 use Rattle.std.specs.Prelude.{◌↔◌, Contains}
 use Rattle.std.specs.List.{list_any, position, prefix_len}
@@ -22,7 +22,7 @@ use Rattle.cut_rules.specs.declared.rule.RuleKind.{RuleKind}
 use Rattle.cut_rules.specs.RuleLines.{RuleLine, Adds, Allow, Restricts, IsPieceAt, States}
 use Rattle.cut_rules.specs.LineReading.{names_of_rule, rule_line_of, rule_of, set_of}
 use Rattle.cut_rules.specs.Rules.{IsRule}
-use Rattle.cut_rules.specs.Names.{index_among, names_in, AreDeclared, IsWithinRuleLimit, AreLinesOf, AreRuleNames, IsNoted}
+use Rattle.cut_rules.specs.Names.{index_among, names_in, AreDeclared, IsWithinRuleLimit, AreLinesOf, AreRuleNames, IsKnownName}
 use Rattle.cut_rules.specs.Builders.{IsSetWithin}
 use Rattle.cut_rules.proofs.LineLaws.{line_again, line_takes}
 use Rattle.cut_rules.proofs.LineLists.{lines_push, lines_same, not_few}
@@ -106,7 +106,7 @@ module_added net network node low old new key named is before = elim (inserted o
 
 -- the first lines name these in rules
 pub record AreNotedWithin (net : Network) (pieces : List (List ℕ)) (count : ℕ) (names : List Name) : Type 0 where
-  pub noted : (line : ℕ) (kind : RuleKind) (x y : List ℕ) → line ≤ count → IsWithinRuleLimit pieces line → States pieces line (Restricts kind x y) → IsNoted net names x × IsNoted net names y
+  pub noted : (line : ℕ) (kind : RuleKind) (x y : List ℕ) → line ≤ count → IsWithinRuleLimit pieces line → States pieces line (Restricts kind x y) → IsKnownName net names x × IsKnownName net names y
   pub apart : (x : List ℕ) → Contains (names_in names) x → Contains net.names x → ⊥
 
 pub none_noted : (net : Network) (pieces : List (List ℕ)) → AreNotedWithin net pieces 0 []
@@ -140,7 +140,7 @@ module _ (pieces : List (List ℕ)) (count : ℕ) (piece : List ℕ) (at : IsPie
   rule_counted x y lines e elements = lines_push (IsRule pieces) count lines elements (rule_here x y e)
 
   pub rule_noted : (net : Network) (x y : List ℕ) (lines : List ℕ) (old new : List Name) → rule_of piece ≡ Some (x, y) → AreLinesOf (IsRule pieces) count lines → ((z : List ℕ) → Contains (names_in old) z → Contains (names_in new) z)
-      → (length lines ≤ 4096 → IsNoted net new x × IsNoted net new y) → ((z : List ℕ) → Contains (names_in new) z → Contains (names_in old) z ⊎ (Contains net.names z → ⊥)) → AreNotedWithin net pieces count old → AreNotedWithin net pieces (count + 1) new
+      → (length lines ≤ 4096 → IsKnownName net new x × IsKnownName net new y) → ((z : List ℕ) → Contains (names_in new) z → Contains (names_in old) z ⊎ (Contains net.names z → ⊥)) → AreNotedWithin net pieces count old → AreNotedWithin net pieces (count + 1) new
   rule_noted net x y lines old new e elements retained noted apart was = record {
     noted = λ line kind u v le few says. elim (cases_eq line (count + 1)) [
       | inl here ↦
@@ -148,7 +148,7 @@ module _ (pieces : List (List ℕ)) (count : ℕ) (piece : List ℕ) (at : IsPie
           let first : x ≡ u = ap (λ (p : List ℕ × List ℕ). p.0) same in
           let second : y ≡ v = ap (λ (p : List ℕ × List ℕ). p.1) same in
           let both = noted (low line here few) in
-          (subst (IsNoted net new) first both.0, subst (IsNoted net new) second both.1)
+          (subst (IsKnownName net new) first both.0, subst (IsKnownName net new) second both.1)
       | inr ne ↦ let both = was.noted line kind u v (omega (arith, ne)) few says in (on u both.0, on v both.1)
     ];
     apart = λ z has own. elim (apart z has) [ inl before ↦ was.apart z before own | inr none ↦ none own ];
@@ -157,7 +157,7 @@ module _ (pieces : List (List ℕ)) (count : ℕ) (piece : List ℕ) (at : IsPie
       low : (line : ℕ) → line ≡ count + 1 → IsWithinRuleLimit pieces line → length lines ≤ 4096
       low line here few = elim (cases_lt 4096 (length lines)) [ inl many ↦ absurd (not_few pieces count lines elements many line here few) | inr le ↦ le ]
 
-      on : (z : List ℕ) → IsNoted net old z → IsNoted net new z
+      on : (z : List ℕ) → IsKnownName net old z → IsKnownName net new z
       on z (inl own) = inl own
       on z (inr has) = inr (retained z has)
 
@@ -179,7 +179,7 @@ module _ (pieces : List (List ℕ)) (count : ℕ) (piece : List ℕ) (at : IsPie
 
 -- ---- names of sets
 
--- a name is marked exactly if one of the first lines adds modules to the set of this name
+-- a name is flagged exactly if one of the first lines adds modules to the set of this name
 pub record AreDeclaredWithin (pieces : List (List ℕ)) (count : ℕ) (names : List Name) (declared : List Bool) : Type 0 where
   pub size : length declared ≡ length names
   pub elements : (x : List ℕ) (k : ℕ) → index_among names x ≡ Some k → (marked declared k ≡ true) ↔ IsSetWithin pieces count x

@@ -1,4 +1,4 @@
--- Marks of nodes.
+-- Flags of nodes.
 use Rattle.std.proofs.Common.{◌≡◌, ◌∙◌, ◌+◌, ◌<◌, ◌⊎◌, ℕ, Bool, true, false, inl, inr, List, [], ◌∷◌, ◌++◌, length, get_or, set, take, sym, ap, subst, arith, get_or-set_other, get_or-set_same}
 use Rattle.std.specs.Prelude.{◌↔◌, Contains}
 use Rattle.std.proofs.lemmas.Bool.{cases_eq}
@@ -11,7 +11,7 @@ use Rattle.cut_net.specs.Lines.{edge_of}
 use Rattle.cut_net.specs.Network.{Network, missing_item}
 use Rattle.cut_rules.specs.declared.reading.Rules.{Rules}
 use Rattle.cut_rules.specs.declared.rule.Rule.{Rule}
-use Rattle.cut_rules.specs.Judged.{IsCountedBefore, IsMarkSet, IsMayOf, IsNamed, IsOutsiderOf}
+use Rattle.cut_rules.specs.Judged.{IsCountedBefore, IsFlagSet, IsMayOf, IsDenoted, IsOutsiderOf}
 
 -- ---- imports that count
 
@@ -51,9 +51,9 @@ more_member {X} xs k d lt x has = subst (λ (l : List X). Contains l x) (sym (ta
 pub last_member : {X : Type 0} (xs : List X) (k : ℕ) (d : X) → k < length xs → Contains (take (k + 1) xs) (get_or xs k d)
 last_member {X} xs k d lt = subst (λ (l : List X). Contains l (get_or xs k d)) (sym (take_more xs k d lt)) (Contains-push (take k xs) (get_or xs k d))
 
--- ---- nodes that are marked
+-- ---- nodes that are flagged
 
-pub mark_next : (nodes : List ℕ) (k : ℕ) (d : ℕ) (value : Bool) (old cur : List Bool) → k < length nodes → get_or nodes k d < length cur → ((v : ℕ) → IsMarkSet (take k nodes) value old cur v) → (v : ℕ) → IsMarkSet (take (k + 1) nodes) value old (set cur (get_or nodes k d) value) v
+pub mark_next : (nodes : List ℕ) (k : ℕ) (d : ℕ) (value : Bool) (old cur : List Bool) → k < length nodes → get_or nodes k d < length cur → ((v : ℕ) → IsFlagSet (take k nodes) value old cur v) → (v : ℕ) → IsFlagSet (take (k + 1) nodes) value old (set cur (get_or nodes k d) value) v
 mark_next nodes k d value old cur lt inside so_far v =
     let node = get_or nodes k d in
     elim (cases_eq v node) [
@@ -66,15 +66,15 @@ mark_next nodes k d value old cur lt inside so_far v =
           ]
     ]
 
--- the marks of the nodes are taken away
-pub unmarked : (nodes : List ℕ) (old new : List Bool) (v : ℕ) → IsMarkSet nodes false old new v → (marked new v ≡ true) ↔ ((marked old v ≡ true) × (Contains nodes v → ⊥))
+-- the flags of the nodes are taken away
+pub unmarked : (nodes : List ℕ) (old new : List Bool) (v : ℕ) → IsFlagSet nodes false old new v → (marked new v ≡ true) ↔ ((marked old v ≡ true) × (Contains nodes v → ⊥))
 unmarked nodes old new v (inl h) = (λ e. absurd (let f : true ≡ false = sym e ∙ h.1 in cc), λ x. absurd (x.1 h.0))
 unmarked nodes old new v (inr h) = (λ e. (sym h.1 ∙ e, h.0), λ x. h.1 ∙ x.0)
 
 -- ---- outsiders
 
 module _ (rules : Rules) (first n : ℕ) where
-  pub outside_first : (own : List ℕ) (old new : List Bool) → marked old n ≡ true → IsMarkSet own false old new n → (Contains own n ↔ IsNamed rules first n) → (marked new n ≡ true) ↔ IsOutsiderOf rules [] first n
+  pub outside_first : (own : List ℕ) (old new : List Bool) → marked old n ≡ true → IsFlagSet own false old new n → (Contains own n ↔ IsDenoted rules first n) → (marked new n ≡ true) ↔ IsOutsiderOf rules [] first n
   outside_first own old new all is named =
       let un = unmarked own old new n is in (
         λ e. (λ of. (un.0 e).1 (named.1 of), λ r has may of. absurd (let (k, lt, at) = has in omega arith)),
@@ -82,7 +82,7 @@ module _ (rules : Rules) (first n : ℕ) where
       )
 
   module _ (some : List Rule) (k : ℕ) (d : Rule) (lt : k < length some) (old : List Bool) (so_far : (marked old n ≡ true) ↔ IsOutsiderOf rules (take k some) first n) where
-    pub outside_more : (members : List ℕ) (new : List Bool) → IsMayOf (get_or some k d) first → IsMarkSet members false old new n → (Contains members n ↔ IsNamed rules (get_or some k d).second n) → (marked new n ≡ true) ↔ IsOutsiderOf rules (take (k + 1) some) first n
+    pub outside_more : (members : List ℕ) (new : List Bool) → IsMayOf (get_or some k d) first → IsFlagSet members false old new n → (Contains members n ↔ IsDenoted rules (get_or some k d).second n) → (marked new n ≡ true) ↔ IsOutsiderOf rules (take (k + 1) some) first n
     outside_more members new may is named =
         let un = unmarked members old new n is in (
           λ e.
@@ -91,7 +91,7 @@ module _ (rules : Rules) (first n : ℕ) where
                 was.0,
                 λ r has r_may of. elim (member_more some k d lt r has) [
                   | inl old_one ↦ was.1 r old_one r_may of
-                  | inr same ↦ both.1 (named.1 (subst (λ (s : Rule). IsNamed rules s.second n) (sym same) of))
+                  | inr same ↦ both.1 (named.1 (subst (λ (s : Rule). IsDenoted rules s.second n) (sym same) of))
                 ],
               ),
           λ out. un.1 (so_far.1 (out.0, λ r has r_may of. out.1 r (more_member some k d lt r has) r_may of), λ has. out.1 (get_or some k d) (last_member some k d lt) may (named.0 has)),

@@ -14,7 +14,7 @@ use Rattle.cut_net.specs.WellFormed.{IsNetwork}
 use Rattle.cut_net.proofs.Noting.{names_apart}
 use Rattle.cut_net.proofs.Places.{index_again, index_takes}
 use Rattle.cut_rules.specs.declared.names.Names.{Names}
-use Rattle.cut_rules.specs.Names.{index_among, names_in, AreNames, IsDeclaredName, IsNoted}
+use Rattle.cut_rules.specs.Names.{index_among, names_in, AreNames, IsDeclaredName, IsKnownName}
 use Rattle.cut_rules.specs.Builders.{number_by, number_of}
 
 -- ---- names
@@ -65,7 +65,7 @@ module _ (net : Network) (sets : List (List ℕ)) (name : List ℕ) where
   pub set_numbered : (k : ℕ) → index_of net name ≡ None → place ≡ Some k → number_of net sets name ≡ Some (length net.names + k)
   set_numbered k none present = number_behind none ∙ ap (option_map (λ k. length net.names + k)) present
 
-  -- a set has a place
+  -- a set has an index
   pub set_placed : Contains sets name → place ≡ None → ⊥
   set_placed has missing = no_module (unpinned sets []) name missing has
 
@@ -97,7 +97,7 @@ module _ (net : Network) (pieces : List (List ℕ)) (names : Names) (elements : 
   set_known k e is = inr ((elements.declared.elements name k e).0 is)
 
   -- one without a mark isn't, if it was noted
-  pub unknown : index_of net name ≡ None → ((k : ℕ) → index_among names.sets.keys name ≡ Some k → marked names.declared.items k ≡ false) → IsNoted net names.sets.keys name → IsDeclaredName net pieces name → ⊥
+  pub unknown : index_of net name ≡ None → ((k : ℕ) → index_among names.sets.keys name ≡ Some k → marked names.declared.items k ≡ false) → IsKnownName net names.sets.keys name → IsDeclaredName net pieces name → ⊥
   unknown none missing (inl here) known = no_module net name none here
   unknown none missing (inr here) (inl own) = no_module net name none own
   unknown none missing (inr here) (inr set) = by (index_among names.sets.keys name) refl

@@ -1,11 +1,11 @@
--- One line more.
+-- The builder after one more line.
 use Rattle.std.proofs.Common.{◌≡◌, ℕ, zero, suc, ◌+◌, ◌<◌, ◌≤◌, ◌⊎◌, inl, inr, List, [], ◌∷◌, length, Some, refl, ap, subst, arith}
 use Rattle.std.specs.Prelude.{◌↔◌, slice_get, option_and_then}
 use Rattle.std.proofs.lemmas.Bool.{cases_eq}
 use Rattle.std.proofs.lemmas.Option.{option_and_then_some}
 use Rattle.texts.proofs.FieldCuts.{some_is}
 use Rattle.cut_rules.specs.RuleLines.{RuleLine, Selector, Adds, Restricts, Allow, IsPieceAt, States, Spells}
-use Rattle.cut_rules.specs.LineReading.{rule_line_of, set_in, set_of}
+use Rattle.cut_rules.specs.LineReading.{rule_line_of, parse_set_name, set_of}
 use Rattle.cut_rules.specs.Rules.{IsSet}
 use Rattle.cut_rules.specs.Builders.{IsSetWithin}
 use Rattle.cut_rules.proofs.LineLaws.{line_again, line_takes, one_piece}
@@ -42,16 +42,16 @@ module _ (pieces : List (List ℕ)) (count : ℕ) (piece : List ℕ) (at : IsPie
   -- the set to which the line adds modules
   set_here : (s : List ℕ) → ((selector : Selector) × States pieces (count + 1) (Adds s selector)) → set_of piece ≡ Some s
   unfolding set_of
-  set_here s (selector, says) = ap (option_and_then set_in) (line_again piece (Adds s selector) (spelled_here (Adds s selector) says))
+  set_here s (selector, says) = ap (option_and_then parse_set_name) (line_again piece (Adds s selector) (spelled_here (Adds s selector) says))
 
-  of_set : (s : List ℕ) (l : RuleLine) → States pieces (count + 1) l → set_in l ≡ Some s → (selector : Selector) × States pieces (count + 1) (Adds s selector)
+  of_set : (s : List ℕ) (l : RuleLine) → States pieces (count + 1) l → parse_set_name l ≡ Some s → (selector : Selector) × States pieces (count + 1) (Adds s selector)
   of_set s (Adds t selector) says e = (selector, subst (λ (x : List ℕ). States pieces (count + 1) (Adds x selector)) (some_is t s e) says)
   of_set s (Restricts kind x y) says e = absurd cc
   of_set s (Allow m n) says e = absurd cc
 
   set_there : (s : List ℕ) → set_of piece ≡ Some s → (selector : Selector) × States pieces (count + 1) (Adds s selector)
   unfolding set_of
-  set_there s e = option_and_then_some set_in (rule_line_of piece) s e (λ l h e. of_set s l (says_here l (line_takes piece l h)) e)
+  set_there s e = option_and_then_some parse_set_name (rule_line_of piece) s e (λ l h e. of_set s l (says_here l (line_takes piece l h)) e)
 
   -- the sets of the lines so far, with this one
   pub sets_next : (s : List ℕ) → IsSetWithin pieces (count + 1) s ↔ (IsSetWithin pieces count s ⊎ (set_of piece ≡ Some s))

@@ -1,4 +1,4 @@
--- Without the violations of a rule no forbidden path is left, and each of them leaves one.
+-- Each forbidden path has a violation, and each violation is on a forbidden path without other violations.
 use Rattle.std.proofs.Common.{◌≡◌, ◌∙◌, ℕ, ◌<◌, ◌⊎◌, inl, inr, List, [], ◌∷◌, ◌++◌, length, get_or, refl, sym, ap, ap₂, subst, arith, append_assoc, length-append}
 use Rattle.std.specs.Prelude.{Contains}
 use Rattle.std.proofs.lemmas.List.{get_or_default}
@@ -20,7 +20,7 @@ chain_push : (G : ℕ → ℕ → Type 0) (a : ℕ) (more : List ℕ) (m n : ℕ
 chain_push G a [] m n e step = (subst (λ (v : ℕ). G v n) (sym e) step, refl)
 chain_push G a (b ∷ more) m n (first, rest) step = (first, chain_push G b more m n rest step)
 
--- a list's last two members are those of the list before and the last one, or the second is behind the first of that list
+-- a list's last two members are those of the list before and the last one, or the second is after the first of that list
 last_two : (before after : List ℕ) (f t s : ℕ) (more : List ℕ) (n : ℕ) → before ++ f ∷ t ∷ after ≡ (s ∷ more) ++ n ∷ [] → ((t ≡ n) × (s ∷ more ≡ before ++ f ∷ [])) ⊎ Contains more t
 last_two [] after f t s [] n e = let first : f ≡ s = cc in inl (cc, ap (λ (v : ℕ). v ∷ []) (sym first))
 last_two [] after f t s (u ∷ more) n e = inr (first_member u more t (cc))
@@ -33,7 +33,7 @@ last_two (b ∷ before) after f t s (u ∷ more) n e =
       | inr later ↦ inr (later_member u more t later)
     ]
 
--- the last node of a chain is its end
+-- the last node of a path is its end
 chain_last : (G : ℕ → ℕ → Type 0) (before : List ℕ) (f s : ℕ) (more : List ℕ) (m : ℕ) → IsChain G s more m → s ∷ more ≡ before ++ f ∷ [] → f ≡ m
 chain_last G [] f s [] m e whole = let first : s ≡ f = cc in sym first ∙ e
 chain_last G [] f s (u ∷ more) m chain whole = absurd (let long = ap length whole in omega arith)
@@ -79,10 +79,10 @@ module _ (net : Network) (files : List File) (pieces : List (List ℕ)) (line : 
         (ap (λ (vs : List ℕ). vs ++ n ∷ []) front_is)
         o more end (split ∙ sym (append_assoc before (m ∷ []) (n ∷ o ∷ more))) rest target
 
-  pub none_left : (path : List ℕ) → IsForbiddenPath net files pieces line path → ((k : ℕ) → IsOnPath net path k → BreaksRule net files pieces line k → ⊥) → ⊥
-  none_left path (PathByForbid x y start next more end says source chain target) none = walk path none x y says start source [] [] start refl (λ v has named. no_member v has) refl next more end refl chain target
-  none_left path (PathByForbidImport x y m n says source counts target) none = stop path none [] [] (m ∷ []) m n counts refl (ByForbidImport x y says source target refl)
-  none_left path (PathByMay x m n may source counts outside others) none = stop path none [] [] (m ∷ []) m n counts refl (ByMay x may source outside others refl)
+  pub violations_cover_paths : (path : List ℕ) → IsForbiddenPath net files pieces line path → ((k : ℕ) → IsOnPath net path k → BreaksRule net files pieces line k → ⊥) → ⊥
+  violations_cover_paths path (PathByForbid x y start next more end says source chain target) none = walk path none x y says start source [] [] start refl (λ v has named. no_member v has) refl next more end refl chain target
+  violations_cover_paths path (PathByForbidImport x y m n says source counts target) none = stop path none [] [] (m ∷ []) m n counts refl (ByForbidImport x y says source target refl)
+  violations_cover_paths path (PathByMay x m n may source counts outside others) none = stop path none [] [] (m ∷ []) m n counts refl (ByMay x may source outside others refl)
 
   -- ---- each leaves one
 

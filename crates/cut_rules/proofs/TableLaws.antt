@@ -12,7 +12,7 @@ use Rattle.cut_net.specs.WellFormed.{IsNetwork}
 use Rattle.cut_net.proofs.Places.{index_takes}
 use Rattle.texts.proofs.FieldCuts.{some_is}
 use Rattle.cut_rules.specs.declared.file.File.{File}
-use Rattle.cut_rules.specs.declared.table.MarkedSet.{MarkedSet}
+use Rattle.cut_rules.specs.declared.table.ModuleSet.{ModuleSet}
 use Rattle.cut_rules.specs.declared.table.SetTable.{SetTable}
 use Rattle.cut_rules.specs.RuleLines.{Selector, Module, Named}
 use Rattle.cut_rules.specs.Rules.{HasFile, Selects}
@@ -22,50 +22,50 @@ use Rattle.cut_rules.proofs.Pieces.{get_low}
 
 -- ---- sets without modules
 
-pub empty_more : (count places : ℕ) (sets : List MarkedSet) (set : MarkedSet) → length set.flags.items ≡ places → ((k : ℕ) → marked set.flags.items k ≡ false) → AreEmptySets count places sets → AreEmptySets (count + 1) places (sets ++ set ∷ [])
+pub empty_more : (count places : ℕ) (sets : List ModuleSet) (set : ModuleSet) → length set.flags.items ≡ places → ((k : ℕ) → marked set.flags.items k ≡ false) → AreEmptySets count places sets → AreEmptySets (count + 1) places (sets ++ set ∷ [])
 empty_more count places sets set long clear elements = record {
   size = (let more = length_push sets set in let size = elements.size in omega arith);
-  sized = λ s x at. elim (pushed s x at) [ inl old ↦ elements.sized s x old | inr e ↦ subst (λ (y : MarkedSet). length y.flags.items ≡ places) e long ];
-  none = λ s k x at. elim (pushed s x at) [ inl old ↦ elements.none s k x old | inr e ↦ subst (λ (y : MarkedSet). marked y.flags.items k ≡ false) e (clear k) ];
+  sized = λ s x at. elim (pushed s x at) [ inl old ↦ elements.sized s x old | inr e ↦ subst (λ (y : ModuleSet). length y.flags.items ≡ places) e long ];
+  none = λ s k x at. elim (pushed s x at) [ inl old ↦ elements.none s k x old | inr e ↦ subst (λ (y : ModuleSet). marked y.flags.items k ≡ false) e (clear k) ];
 }
   where
-    pushed : (s : ℕ) (x : MarkedSet) → slice_get (sets ++ set ∷ []) s ≡ Some x → (slice_get sets s ≡ Some x) ⊎ (set ≡ x)
+    pushed : (s : ℕ) (x : ModuleSet) → slice_get (sets ++ set ∷ []) s ≡ Some x → (slice_get sets s ≡ Some x) ⊎ (set ≡ x)
     pushed s x at =
         let low = get_low (sets ++ set ∷ []) s x at in
         let more = length_push sets set in
         let here : get_or (sets ++ set ∷ []) s x ≡ x = get_or_from_slice_get (sets ++ set ∷ []) s x x at in
         elim (cases_eq s (length sets)) [
           | inl e ↦ inr (sym (get_or_push sets set x s (sym e)) ∙ here)
-          | inr ne ↦ inl (slice_get-get_or sets s x (omega (arith, ne)) ∙ ap (λ (y : MarkedSet). Some y) (sym (get_or-append sets (set ∷ []) x s (omega (arith, ne))) ∙ here))
+          | inr ne ↦ inl (slice_get-get_or sets s x (omega (arith, ne)) ∙ ap (λ (y : ModuleSet). Some y) (sym (get_or-append sets (set ∷ []) x s (omega (arith, ne))) ∙ here))
         ]
 
 -- ---- a set with more marks
 
-module _ (old : List MarkedSet) (s : ℕ) (set_was new : MarkedSet) (present : slice_get old s ≡ Some set_was) where
+module _ (old : List ModuleSet) (s : ℕ) (set_was new : ModuleSet) (present : slice_get old s ≡ Some set_was) where
   slice_get_same : slice_get (set old s new) s ≡ Some new
   slice_get_same =
       let low = get_low old s set_was present in
       let size = length-set old s new in
-      slice_get-get_or (set old s new) s new (omega arith) ∙ ap (λ (x : MarkedSet). Some x) (get_or-set_same old s new new low)
+      slice_get-get_or (set old s new) s new (omega arith) ∙ ap (λ (x : ModuleSet). Some x) (get_or-set_same old s new new low)
 
-  get_back : (t : ℕ) (x : MarkedSet) → t ≢ s → slice_get (set old s new) t ≡ Some x → slice_get old t ≡ Some x
+  get_back : (t : ℕ) (x : ModuleSet) → t ≢ s → slice_get (set old s new) t ≡ Some x → slice_get old t ≡ Some x
   get_back t x ne at =
       let low = get_low (set old s new) t x at in
       let size = length-set old s new in
-      slice_get-get_or old t x (omega arith) ∙ ap (λ (y : MarkedSet). Some y) (sym (get_or-set_other old s t new x ne) ∙ get_or_from_slice_get (set old s new) t x x at)
+      slice_get-get_or old t x (omega arith) ∙ ap (λ (y : ModuleSet). Some y) (sym (get_or-set_other old s t new x ne) ∙ get_or_from_slice_get (set old s new) t x x at)
 
-  get_on : (t : ℕ) (x : MarkedSet) → t ≢ s → slice_get old t ≡ Some x → slice_get (set old s new) t ≡ Some x
+  get_on : (t : ℕ) (x : ModuleSet) → t ≢ s → slice_get old t ≡ Some x → slice_get (set old s new) t ≡ Some x
   get_on t x ne at =
       let low = get_low old t x at in
       let size = length-set old s new in
-      slice_get-get_or (set old s new) t x (omega arith) ∙ ap (λ (y : MarkedSet). Some y) (get_or-set_other old s t new x ne ∙ get_or_from_slice_get old t x x at)
+      slice_get-get_or (set old s new) t x (omega arith) ∙ ap (λ (y : ModuleSet). Some y) (get_or-set_other old s t new x ne ∙ get_or_from_slice_get old t x x at)
 
   pub set_sized : (places : ℕ) → length new.flags.items ≡ length set_was.flags.items → AreSized places old → AreSized places (set old s new)
   set_sized places long sized t x at = elim (cases_eq t s) [
     | inl e ↦
         let same : new ≡ x = some_is new x (sym slice_get_same ∙ ap (slice_get (set old s new)) (sym e) ∙ at) in
         let was = sized s set_was present in
-        ap (λ (y : MarkedSet). length y.flags.items) (sym same) ∙ long ∙ was
+        ap (λ (y : ModuleSet). length y.flags.items) (sym same) ∙ long ∙ was
     | inr ne ↦ sized t x (get_back t x ne at)
   ]
 
@@ -75,7 +75,7 @@ module _ (old : List MarkedSet) (s : ℕ) (set_was new : MarkedSet) (present : s
     λ (x, at, (k, placed, is)). elim (cases_eq t s) [
       | inl e ↦
           let same : x ≡ new = some_is x new (sym at ∙ ap (slice_get (set old s new)) e ∙ slice_get_same) in
-          elim ((more k).0 (subst (λ (y : MarkedSet). marked y.flags.items k ≡ true) same is)) [
+          elim ((more k).0 (subst (λ (y : ModuleSet). marked y.flags.items k ≡ true) same is)) [
             | inl was ↦ inl (set_was, ap (slice_get old) e ∙ present, (k, placed, was))
             | inr (low, high) ↦ inr (ap (λ (n : ℕ). Some n) (sym e), (k, low, high, placed))
           ]
@@ -85,14 +85,14 @@ module _ (old : List MarkedSet) (s : ℕ) (set_was new : MarkedSet) (present : s
       | inl (x, at, (k, placed, is)) ↦ elim (cases_eq t s) [
         | inl e ↦
             let same : x ≡ set_was = some_is x set_was (sym at ∙ ap (slice_get old) e ∙ present) in
-            (new, ap (slice_get (set old s new)) e ∙ slice_get_same, (k, placed, (more k).1 (inl (subst (λ (y : MarkedSet). marked y.flags.items k ≡ true) same is))))
+            (new, ap (slice_get (set old s new)) e ∙ slice_get_same, (k, placed, (more k).1 (inl (subst (λ (y : ModuleSet). marked y.flags.items k ≡ true) same is))))
         | inr ne ↦ (x, get_on t x ne at, (k, placed, is))
       ]
       | inr (e, (k, low, high, placed)) ↦ (new, ap (slice_get (set old s new)) (sym (some_is s t e)) ∙ slice_get_same, (k, placed, (more k).1 (inr (low, high))))
     ],
   )
 
-pub none_marked : (sets : List MarkedSet) (place : Option ℕ) (P : ℕ → ℕ → Type 0) → ((s : ℕ) → place ≡ Some s → ⊥) → (files : List File) (t m : ℕ) → InSet files sets t m ↔ (InSet files sets t m ⊎ ((place ≡ Some t) × P t m))
+pub none_marked : (sets : List ModuleSet) (place : Option ℕ) (P : ℕ → ℕ → Type 0) → ((s : ℕ) → place ≡ Some s → ⊥) → (files : List File) (t m : ℕ) → InSet files sets t m ↔ (InSet files sets t m ⊎ ((place ≡ Some t) × P t m))
 none_marked sets place P none files t m = ((λ has. inl has), λ either. elim either [ inl has ↦ has | inr own ↦ absurd (none t own.0) ])
 
 -- ---- what a line selects

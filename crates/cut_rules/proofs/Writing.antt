@@ -1,4 +1,4 @@
--- What is written of an import, and of one rule after the other.
+-- The output for an import, and for the rules one after another.
 use Rattle.std.proofs.Common.{◌≡◌, ◌∙◌, ◌+◌, ◌<◌, ℕ, Bool, true, false, List, [], ◌∷◌, ◌++◌, Option, Some, Result, Ok, Err, length, get_or, map, take, drop, sym, ap, subst, codes, append_assoc, append-nil}
 use Rattle.std.specs.Prelude.{OnOk, if◌then◌else◌, slice_get}
 use Rattle.std.specs.Result.{is_err, is_ok}
@@ -9,7 +9,7 @@ use Rattle.std.proofs.lemmas.Grind.{flat_map-append}
 use Rattle.std.proofs.lemmas.List.{get_or_default, map-append}
 use Rattle.std.proofs.lemmas.List.Elements.{Contains-get_or}
 use Rattle.byte_sink.specs.Sinks.{AppendsPrefix}
-use Rattle.text_escape.specs.Places.{Style, location_text}
+use Rattle.texts.specs.Places.{Style, location_text}
 use Rattle.byte_sink.specs.Pieces.{WritesAllBut}
 use Rattle.byte_sink.proofs.Joining.{front_joined, front_more, joined, lines, lines_around, lines_more}
 use Rattle.digraph.specs.Edges.{Leads}

@@ -12,7 +12,7 @@ use Rattle.cut_rules.specs.declared.file.File.{File}
 use Rattle.cut_rules.specs.declared.rule.Rule.{Rule}
 use Rattle.cut_rules.specs.declared.rule.RuleKind.{RuleKind}
 use Rattle.cut_rules.specs.declared.rule.StaleAllow.{StaleAllow}
-use Rattle.cut_rules.specs.declared.table.MarkedSet.{MarkedSet}
+use Rattle.cut_rules.specs.declared.table.ModuleSet.{ModuleSet}
 use Rattle.cut_rules.specs.declared.table.SetTable.{SetTable}
 use Rattle.cut_rules.specs.RuleLines.{RuleLine, Selector, Module, Folder, Named, Tree, Adds, Restricts, Allow, States}
 use Rattle.cut_rules.specs.Faults.{IsRefusal, UnlessMemory}
@@ -47,12 +47,12 @@ abbrev pub HasIndex : List File → ℕ → ℕ → ℕ → Type 0
 HasIndex files from to m = (k : ℕ) × (from ≤ k) × (k < to) × IsAtIndex files k m
 
 -- the module has a flagged index
-abbrev pub HasMark : List File → List Bool → ℕ → Type 0
-HasMark files flags m = (k : ℕ) × IsAtIndex files k m × (marked flags k ≡ true)
+abbrev pub HasFlaggedIndex : List File → List Bool → ℕ → Type 0
+HasFlaggedIndex files flags m = (k : ℕ) × IsAtIndex files k m × (marked flags k ≡ true)
 
 -- the set at this index has the module
-abbrev pub InSet : List File → List MarkedSet → ℕ → ℕ → Type 0
-InSet files sets s m = (set : MarkedSet) × (slice_get sets s ≡ Some set) × HasMark files set.flags.items m
+abbrev pub InSet : List File → List ModuleSet → ℕ → ℕ → Type 0
+InSet files sets s m = (set : ModuleSet) × (slice_get sets s ≡ Some set) × HasFlaggedIndex files set.flags.items m
 
 -- the table has the module in the set of this number
 abbrev pub IsMember : List File → SetTable → ℕ → ℕ → Type 0
@@ -67,14 +67,14 @@ abbrev pub SelectsAny : Network → List File → Selector → Type 0
 SelectsAny net files selector = (m : ℕ) × Selects net files selector m
 
 -- each set has this number of flags
-abbrev pub AreSized : ℕ → List MarkedSet → Type 0
-AreSized places sets = (s : ℕ) (set : MarkedSet) → slice_get sets s ≡ Some set → length set.flags.items ≡ places
+abbrev pub AreSized : ℕ → List ModuleSet → Type 0
+AreSized places sets = (s : ℕ) (set : ModuleSet) → slice_get sets s ≡ Some set → length set.flags.items ≡ places
 
 -- there are `count` sets, each of `places` flags, none of which is set
-pub record AreEmptySets (count places : ℕ) (sets : List MarkedSet) : Type 0 where
+pub record AreEmptySets (count places : ℕ) (sets : List ModuleSet) : Type 0 where
   pub size : length sets ≡ count
   pub sized : AreSized places sets
-  pub none : (s k : ℕ) (set : MarkedSet) → slice_get sets s ≡ Some set → marked set.flags.items k ≡ false
+  pub none : (s k : ℕ) (set : ModuleSet) → slice_get sets s ≡ Some set → marked set.flags.items k ≡ false
 
 -- how many patterns the selector has
 abbrev pub pattern_count : Selector → ℕ
@@ -108,7 +108,7 @@ pub record IsTable (net : Network) (files : List File) (sets pieces : List (List
 
 -- ---- rules
 
--- the line of the rule states it of the names of these numbers
+-- the line of the rule states a rule of its kind, of two names that have the rule's two numbers
 abbrev pub IsRuleOf : Network → List (List ℕ) → List (List ℕ) → Rule → Type 0
 IsRuleOf net sets pieces r = (x y : List ℕ) × States pieces r.line (Restricts r.kind x y) × (number_of net sets x ≡ Some r.first) × (number_of net sets y ≡ Some r.second)
 

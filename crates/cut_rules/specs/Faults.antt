@@ -23,7 +23,7 @@ pub record IsFirstFault (net : Network) (files : List File) (pieces : List (List
   pub first_line : (before : ℕ) (other : LineFault) → before < line → HasFault net files pieces before other → ⊥
   pub first : (other : LineFault) → HasFault net files pieces line other → rank fault ≤ rank other
 
--- the text is rejected for this
+-- this is the error of the text: its first fault
 abbrev pub IsRefusal : Network → List File → List (List ℕ) → RulesFault → Type 0
 IsRefusal net files pieces refusal = (line : ℕ) × (fault : LineFault) × IsFirstFault net files pieces line fault × (cause_of refusal ≡ Some (line, fault))
 

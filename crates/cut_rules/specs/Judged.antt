@@ -25,18 +25,18 @@ abbrev pub IsCountedBefore : Network → List Bool → ℕ → Edge → Type 0
 IsCountedBefore net allowed count p = (k : ℕ) × (k < count) × (marked allowed k ≡ false) × (edge_of (slice_index_or net.imports k missing_item) ≡ p)
 
 -- the edge of an import that isn't flagged as allowed
-abbrev pub IsCounted : Network → List Bool → Edge → Type 0
-IsCounted net allowed p = IsCountedBefore net allowed (length net.imports) p
+abbrev pub IsUnallowed : Network → List Bool → Edge → Type 0
+IsUnallowed net allowed p = IsCountedBefore net allowed (length net.imports) p
 
 -- ---- modules of names
 
--- the module has the name of this number, or is in the set whose name has it
-abbrev pub IsNamed : Rules → ℕ → ℕ → Type 0
-IsNamed rules number m = (number ≡ m) ⊎ IsMember rules.files.now rules.table number m
+-- the name with this number denotes the module: it is the module's own number, or that of a set with the module
+abbrev pub IsDenoted : Rules → ℕ → ℕ → Type 0
+IsDenoted rules number m = (number ≡ m) ⊎ IsMember rules.files.now rules.table number m
 
 -- the flag of one of these nodes has the value, and any other is unchanged
-abbrev pub IsMarkSet : List ℕ → Bool → List Bool → List Bool → ℕ → Type 0
-IsMarkSet nodes value old new v = (Contains nodes v × (marked new v ≡ value)) ⊎ ((Contains nodes v → ⊥) × (marked new v ≡ marked old v))
+abbrev pub IsFlagSet : List ℕ → Bool → List Bool → List Bool → ℕ → Type 0
+IsFlagSet nodes value old new v = (Contains nodes v × (marked new v ≡ value)) ⊎ ((Contains nodes v → ⊥) × (marked new v ≡ marked old v))
 
 -- the rule is a `may` of this name
 abbrev pub IsMayOf : Rule → ℕ → Type 0
@@ -46,17 +46,17 @@ IsMayOf r first = (r.kind ≡ kinds.May) × (r.first ≡ first)
 abbrev pub IsRepeated : List Rule → Rule → Type 0
 IsRepeated rules r = (r.kind ≡ kinds.May) × (s : Rule) × Contains rules s × (s.line < r.line) × IsMayOf s r.first
 
--- the module isn't of the name, and of no other name that these `may` rules allow for it
+-- neither the name denotes the module, nor the second name of one of these `may` rules of the name
 abbrev pub IsOutsiderOf : Rules → List Rule → ℕ → ℕ → Type 0
-IsOutsiderOf rules some first n = (IsNamed rules first n → ⊥) × ((r : Rule) → Contains some r → IsMayOf r first → IsNamed rules r.second n → ⊥)
+IsOutsiderOf rules some first n = (IsDenoted rules first n → ⊥) × ((r : Rule) → Contains some r → IsMayOf r first → IsDenoted rules r.second n → ⊥)
 
 abbrev pub IsOutsider : Rules → ℕ → ℕ → Type 0
 IsOutsider rules first n = IsOutsiderOf rules rules.rules.items first n
 
 -- a rule of this kind forbids to import the module
 abbrev pub IsTargetBy : Rules → Rule → RuleKind → ℕ → Type 0
-IsTargetBy rules r kinds.Forbid n = IsNamed rules r.second n
-IsTargetBy rules r kinds.ForbidImport n = IsNamed rules r.second n
+IsTargetBy rules r kinds.Forbid n = IsDenoted rules r.second n
+IsTargetBy rules r kinds.ForbidImport n = IsDenoted rules r.second n
 IsTargetBy rules r kinds.May n = IsOutsider rules r.first n
 
 abbrev pub IsTarget : Rules → Rule → ℕ → Type 0
@@ -64,7 +64,7 @@ IsTarget rules r n = IsTargetBy rules r r.kind n
 
 -- no path of a rule of this kind enters the module after its start
 abbrev pub IsBarredBy : Rules → Rule → RuleKind → ℕ → Type 0
-IsBarredBy rules r kinds.Forbid n = IsNamed rules r.second n
+IsBarredBy rules r kinds.Forbid n = IsDenoted rules r.second n
 IsBarredBy rules r kinds.ForbidImport n = Unit {0}
 IsBarredBy rules r kinds.May n = Unit {0}
 
@@ -74,7 +74,7 @@ pub record IsRuleSearch (rules : Rules) (nodes : ℕ) (edges : List Edge) (r : R
   pub barrier : List Bool
   pub search : IsSearch edges starts barrier found.search
   pub starts_within : (m : ℕ) → Contains starts m → m < nodes
-  pub starts_are : (m : ℕ) → m < nodes → Contains starts m ↔ IsNamed rules r.first m
+  pub starts_are : (m : ℕ) → m < nodes → Contains starts m ↔ IsDenoted rules r.first m
   pub barrier_are : (m : ℕ) → m < nodes → (marked barrier m ≡ true) ↔ IsBarredBy rules r r.kind m
   pub size : length found.targets.items ≡ nodes
   pub targets_are : (n : ℕ) → n < nodes → (marked found.targets.items n ≡ true) ↔ IsTarget rules r n
@@ -83,7 +83,7 @@ pub record IsRuleSearch (rules : Rules) (nodes : ℕ) (edges : List Edge) (r : R
 pub record IsCountedGraph (net : Network) (rules : Rules) (graph : Graph) : Type 0 where
   pub is_graph : IsGraph graph
   pub nodes : length graph.after.items ≡ length net.names
-  pub counted : (p : Edge) → Contains graph.edges.now p ↔ IsCounted net rules.allowed.items p
+  pub counted : (p : Edge) → Contains graph.edges.now p ↔ IsUnallowed net rules.allowed.items p
 
 -- one of the rules, and the first `may` of its name if it is a `may`
 abbrev pub IsFirstRule : List Rule → Rule → Type 0

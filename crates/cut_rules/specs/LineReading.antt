@@ -30,9 +30,9 @@ is_comment [] = false
 is_comment (b ∷ bytes) = if is_blank b then is_comment bytes else b == 35
 
 -- whether the bytes state nothing
-abbrev pub is_idle : List ℕ → Bool
-is_idle [] = true
-is_idle (b ∷ bytes) = is_comment (b ∷ bytes)
+abbrev pub is_empty_or_comment : List ℕ → Bool
+is_empty_or_comment [] = true
+is_empty_or_comment (b ∷ bytes) = is_comment (b ∷ bytes)
 
 -- the bytes, if they are UTF-8
 unfoldable pub text_of : List ℕ → Option (List ℕ)
@@ -42,7 +42,7 @@ text_of bytes = if is_utf8 bytes then Some bytes else None
 unfoldable pub last_name_of : List ℕ → Option (List ℕ)
 last_name_of fields =
     let end = position_or_len is_blank fields in
-    if is_idle (drop end fields) then named (take end fields) else None
+    if is_empty_or_comment (drop end fields) then named (take end fields) else None
 
 -- the kind of rule that a keyword begins
 abbrev pub kind_of : List ℕ → Option RuleKind
@@ -74,14 +74,14 @@ unfoldable pub rule_line_of : List ℕ → Option RuleLine
 rule_line_of piece = option_and_then (λ parts. line_of_fields parts.0 parts.1) (cut_at 32 piece)
 
 -- the set to which a line adds modules
-abbrev pub set_in : RuleLine → Option (List ℕ)
-set_in (Adds s selector) = Some s
-set_in (Restricts kind x y) = None
-set_in (Allow m n) = None
+abbrev pub parse_set_name : RuleLine → Option (List ℕ)
+parse_set_name (Adds s selector) = Some s
+parse_set_name (Restricts kind x y) = None
+parse_set_name (Allow m n) = None
 
 -- the set to which the bytes of a line add modules
 unfoldable pub set_of : List ℕ → Option (List ℕ)
-set_of piece = option_and_then set_in (rule_line_of piece)
+set_of piece = option_and_then parse_set_name (rule_line_of piece)
 
 -- the names of a line that is a rule
 abbrev pub names_of_rule : RuleLine → Option (List ℕ × List ℕ)

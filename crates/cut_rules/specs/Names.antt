@@ -16,7 +16,7 @@ names_in names = map (λ (n : Name). n.bytes.now) names
 abbrev pub index_among : List Name → List ℕ → Option ℕ
 index_among names x = index_of (unpinned (names_in names) []) x
 
--- these are the first lines with the property, in order
+-- exactly the lines up to the number `count` that have the property, in order
 pub record AreLinesOf (P : ℕ → Type 0) (count : ℕ) (lines : List ℕ) : Type 0 where
   pub each : (l : ℕ) → Contains lines l → (l ≤ count) × P l
   pub all : (l : ℕ) → l ≤ count → P l → Contains lines l
@@ -31,8 +31,8 @@ pub record IsWithinRuleLimit (pieces : List (List ℕ)) (line : ℕ) : Type 0 wh
   pub few : length lines ≤ 4096
 
 -- the name is a module's or one of these
-abbrev pub IsNoted : Network → List Name → List ℕ → Type 0
-IsNoted net names x = Contains net.names x ⊎ Contains (names_in names) x
+abbrev pub IsKnownName : Network → List Name → List ℕ → Type 0
+IsKnownName net names x = Contains net.names x ⊎ Contains (names_in names) x
 
 -- the name is that of a module or of a set
 abbrev pub IsDeclaredName : Network → List (List ℕ) → List ℕ → Type 0
@@ -40,7 +40,7 @@ IsDeclaredName net pieces x = Contains net.names x ⊎ IsSet pieces x
 
 -- the names in rules are a module's or among these, but for rules after the first one too many; and none of these is a module's
 pub record AreRuleNames (net : Network) (pieces : List (List ℕ)) (names : List Name) : Type 0 where
-  pub noted : (line : ℕ) (kind : RuleKind) (x y : List ℕ) → IsWithinRuleLimit pieces line → States pieces line (Restricts kind x y) → IsNoted net names x × IsNoted net names y
+  pub noted : (line : ℕ) (kind : RuleKind) (x y : List ℕ) → IsWithinRuleLimit pieces line → States pieces line (Restricts kind x y) → IsKnownName net names x × IsKnownName net names y
   pub apart : (x : List ℕ) → Contains (names_in names) x → Contains net.names x → ⊥
 
 -- a name is flagged exactly if it is that of a set

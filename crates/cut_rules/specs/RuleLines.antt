@@ -82,7 +82,7 @@ MayFollow (Adds s Tree) text = EndsRule text
 MayFollow (Restricts kind x y) text = EndsRule text
 MayFollow (Allow m n) text = EndsRule text
 
--- the bytes of a line state this
+-- the bytes of a line are this content, and a comment if one may follow
 pub record Spells (piece : List ℕ) (content : RuleLine) : Type 0 where
   pub form : IsRuleLine content
   pub comment : List ℕ
@@ -90,8 +90,8 @@ pub record Spells (piece : List ℕ) (content : RuleLine) : Type 0 where
   pub whole : piece ≡ rule_line content ++ comment
 
 -- the bytes of a line state nothing: they are empty or a comment
-abbrev pub IsIdle : List ℕ → Type 0
-IsIdle piece = (piece ≡ []) ⊎ IsComment piece
+abbrev pub IsEmptyOrComment : List ℕ → Type 0
+IsEmptyOrComment piece = (piece ≡ []) ⊎ IsComment piece
 
 -- ---- texts
 
@@ -105,7 +105,7 @@ pub record IsPieceAt (pieces : List (List ℕ)) (line : ℕ) (piece : List ℕ) 
   pub number : line ≡ place + 1
   pub present : slice_get pieces place ≡ Some piece
 
--- the line of this number states this
+-- the line of this number has this content
 pub record States (pieces : List (List ℕ)) (line : ℕ) (content : RuleLine) : Type 0 where
   pub piece : List ℕ
   pub at : IsPieceAt pieces line piece

@@ -7,13 +7,13 @@ use Rattle.cut_net.specs.Prices.{is_named}
 use Rattle.glob.specs.Globs.{Matches}
 use Rattle.cut_rules.specs.declared.file.File.{File}
 use Rattle.cut_rules.specs.declared.rule.RuleKind.{RuleKind}
-use Rattle.cut_rules.specs.RuleLines.{RuleLine, Selector, Module, Folder, Named, Tree, Adds, Restricts, Allow, IsIdle, IsPieceAt, States, Spells}
+use Rattle.cut_rules.specs.RuleLines.{RuleLine, Selector, Module, Folder, Named, Tree, Adds, Restricts, Allow, IsEmptyOrComment, IsPieceAt, States, Spells}
 
 -- ---- sets
 
 -- the path with a slash at its end
-abbrev pub closed : List ℕ → List ℕ
-closed path = if ends_with nat_eq path (47 ∷ []) then path else path ++ 47 ∷ []
+abbrev pub with_slash : List ℕ → List ℕ
+with_slash path = if ends_with nat_eq path (47 ∷ []) then path else path ++ 47 ∷ []
 
 -- the path without a `./` before it
 abbrev pub without_dot : List ℕ → List ℕ
@@ -21,7 +21,7 @@ without_dot path = if starts_with nat_eq path (46 ∷ 47 ∷ []) then drop 2 pat
 
 -- what the path of each file below PATH begins with, so that `.` and `./` are the tree's own folder
 abbrev pub folder_prefix : List ℕ → List ℕ
-folder_prefix path = without_dot (closed path)
+folder_prefix path = without_dot (with_slash path)
 
 -- the file is below the folder
 abbrev pub IsBelow : List ℕ → List ℕ → Type 0
@@ -84,7 +84,7 @@ pub record IsOverLimit (P : ℕ → Type 0) (line : ℕ) : Type 0 where
   pub ascending : AllPairs (λ i j. i < j) lines
   pub each : (l : ℕ) → Contains lines l → (l < line) × P l
 
--- what a line writes as the modules that it adds
+-- the text by which a line selects modules; for a `tree` line the name of the set
 abbrev pub selector_text : List ℕ → Selector → List ℕ
 selector_text s (Module m) = m
 selector_text s (Folder path) = path
@@ -92,11 +92,11 @@ selector_text s (Named pattern) = pattern
 selector_text s Tree = s
 
 -- the fault of a line that adds no module to its set
-abbrev pub empty_fault : List ℕ → Selector → LineFault
-empty_fault s (Module m) = NoSuchModule m
-empty_fault s (Folder path) = EmptySet path
-empty_fault s (Named pattern) = EmptySet pattern
-empty_fault s Tree = EmptySet s
+abbrev pub empty_selection_fault : List ℕ → Selector → LineFault
+empty_selection_fault s (Module m) = NoSuchModule m
+empty_selection_fault s (Folder path) = EmptySet path
+empty_selection_fault s (Named pattern) = EmptySet pattern
+empty_selection_fault s Tree = EmptySet s
 
 -- the line is a rule
 abbrev pub IsRule : List (List ℕ) → ℕ → Type 0
@@ -129,13 +129,13 @@ module _ (net : Network) (files : List File) (pieces : List (List ℕ)) where
   IsWrong line TooMany (Restricts kind x y) = IsOverLimit (IsRule pieces) line
   IsWrong line fault content = ⊥
 
-  -- the line states something, and nothing that has a form
-  abbrev pub IsNoLine : ℕ → Type 0
-  IsNoLine line = (piece : List ℕ) × IsPieceAt pieces line piece × (IsIdle piece → ⊥) × ((content : RuleLine) → Spells piece content → ⊥)
+  -- the line is neither empty nor a comment, and has no valid content
+  abbrev pub IsInvalidLine : ℕ → Type 0
+  IsInvalidLine line = (piece : List ℕ) × IsPieceAt pieces line piece × (IsEmptyOrComment piece → ⊥) × ((content : RuleLine) → Spells piece content → ⊥)
 
   -- the line of this number has this fault
   abbrev pub HasFault : ℕ → LineFault → Type 0
-  HasFault line fault = (IsNoLine line × (fault ≡ BadLine)) ⊎ ((content : RuleLine) × States pieces line content × IsWrong line fault content)
+  HasFault line fault = (IsInvalidLine line × (fault ≡ BadLine)) ⊎ ((content : RuleLine) × States pieces line content × IsWrong line fault content)
 
 -- the order in which the errors of a line are tested
 abbrev pub rank : LineFault → ℕ

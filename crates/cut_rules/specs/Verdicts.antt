@@ -4,7 +4,7 @@ use Rattle.std.specs.List.{flat_map}
 use Rattle.std.specs.Fmt.{decimal}
 use Rattle.digraph.specs.Chains.{IsChain}
 use Rattle.digraph.specs.ShortestPaths.{IsLeastOf}
-use Rattle.text_escape.specs.Places.{Style, location_text}
+use Rattle.texts.specs.Places.{Style, location_text}
 use Rattle.cut_net.specs.declared.priced.Priced.{Priced}
 use Rattle.cut_net.specs.Network.{Network, name_of, missing_item}
 use Rattle.cut_rules.specs.declared.file.File.{File}
@@ -55,7 +55,7 @@ module _ (net : Network) (files : List File) (pieces : List (List ℕ)) where
   abbrev pub IsViolation : Violation → Type 0
   IsViolation v = IsLeastOf (Breaks v.line v.import_number) v.path
 
--- by the line, then by the names of the two modules
+-- the order of violations: by the line of the rule, then by the number of the import, and so by the names of its modules
 abbrev pub ComesBefore : Violation → Violation → Type 0
 ComesBefore v w = (v.line < w.line) ⊎ ((v.line ≡ w.line) × (v.import_number < w.import_number))
 
@@ -76,7 +76,7 @@ pub record Stale : Type 0 where
 abbrev pub stale_of : StaleAllow → Stale
 stale_of s = record { line = s.line; importer = s.importer.now; imported = s.imported.now }
 
--- exactly these lines, in order
+-- exactly the stale `allow` lines of the text, in order
 pub record AreStaleLines (net : Network) (pieces : List (List ℕ)) (stale : List Stale) : Type 0 where
   pub each : (s : Stale) → Contains stale s → IsStale net pieces s.line s.importer s.imported
   pub all : (line : ℕ) (m n : List ℕ) → IsStale net pieces line m n → (s : Stale) × Contains stale s × (s.line ≡ line)
@@ -102,7 +102,7 @@ violation_line style net sites v =
 abbrev pub stale_line : Stale → List ℕ
 stale_line s = codes "stale " ++ (decimal s.line ++ (spaced (s.importer ∷ s.imported ∷ []) ++ 10 ∷ []))
 
--- the lines of both, one after the other
+-- the lines of the violations, and then the stale lines
 abbrev pub lines_text : Style → Network → List Site → List Violation → List Stale → List ℕ
 lines_text style net sites violations stale = flat_map (violation_line style net sites) violations ++ flat_map stale_line stale
 

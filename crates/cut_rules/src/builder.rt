@@ -4,17 +4,17 @@ ghost use Rattle.cut_rules.specs.Builders.{number_of, IsSetIndex, IsStated, HasP
 ghost use Rattle.cut_rules.specs.Faults.{cause_of, UnlessMemory};
 ghost use Rattle.cut_rules.specs.Folders.{ArePathsInOrder};
 ghost use Rattle.cut_rules.specs.LineReading.{selector_content};
-ghost use Rattle.cut_rules.specs.Names.{names_in, AreNames, IsDeclaredName, IsNoted};
+ghost use Rattle.cut_rules.specs.Names.{names_in, AreNames, IsDeclaredName, IsKnownName};
 ghost use Rattle.cut_rules.specs.RuleLines.{Adds, Allow, IsPieceAt, Restricts};
-ghost use Rattle.cut_rules.specs.Rules.{SetIsModule, NoSuchModule, empty_fault};
+ghost use Rattle.cut_rules.specs.Rules.{SetIsModule, NoSuchModule, empty_selection_fault};
 
 use crate::File;
 use crate::fault::RulesFault;
-use crate::line::{Line, Selector, is_idle, parse_line};
+use crate::line::{Line, Selector, is_empty_or_comment, parse_line};
 use crate::names::{Names, name_index};
 use crate::rule::{Rule, RuleKind, StaleAllow};
 use crate::table::SetTable;
-use cut_net::{Net, import_named};
+use cut_net::{Net, find_import_number};
 use std::alloc::{AllocError, Global};
 use std::collections::BTreeSet;
 
@@ -33,12 +33,12 @@ pub(crate) struct RulesBuilder<'a> {
     pub(crate) pairs: BTreeSet<(&'a str, &'a str)>,
 }
 
-/// What a line is read for.
+/// The context in which a line is read.
 #[derive(Clone, Copy)]
 pub(crate) struct LineContext<'a> {
     pub(crate) alloc: Global,
     pub(crate) net: &'a Net,
-    /// Sorted by their paths.
+    /// The files of the tree, sorted by path.
     pub(crate) files: &'a [File<'a>],
     pub(crate) names: &'a Names<'a>,
     /// The number of the line, from 1.
@@ -52,13 +52,13 @@ impl LineContext<'_> {
         ensures found { IfOk result (λ number. number_of self.now.net.now (names_in self.now.names.now.sets.keys) name.now ≡ Some number) }
         ensures known { IfOk result (λ number. (pieces : List (List ℕ)) → AreNames self.now.net.now pieces self.now.names.now → IsDeclaredName self.now.net.now pieces name.now) }
         ensures none { IfErr result (λ fault. UnlessMemory fault ((cause_of fault ≡ Some (self.now.line, NoSuchModule name.now))
-            × ((pieces : List (List ℕ)) → AreNames self.now.net.now pieces self.now.names.now → IsNoted self.now.net.now self.now.names.now.sets.keys name.now → IsDeclaredName self.now.net.now pieces name.now → ⊥))) }
+            × ((pieces : List (List ℕ)) → AreNames self.now.net.now pieces self.now.names.now → IsKnownName self.now.net.now self.now.names.now.sets.keys name.now → IsDeclaredName self.now.net.now pieces name.now → ⊥))) }
     {
         self.net.invariants();
         if let Some(module) = name_index(&self.names.modules, name.as_bytes()) {
             return Ok(module);
         }
-        if let Some(set) = self.names.declared_set(name) {
+        if let Some(set) = self.names.declared_set_index(name) {
             return Ok(self.net.nodes() as usize + set);
         }
         Err(RulesFault::NoSuchModule {
@@ -86,8 +86,12 @@ impl LineContext<'_> {
     }
 
     /// The fault of a line that adds no module to its set.
-    fn empty_fault(&self, set: &str, selector: Selector<'_>) -> Result<RulesFault, AllocError>
-        ensures { IfOk result (λ fault. cause_of fault ≡ Some (self.now.line, empty_fault set.now (selector_content selector.entry))) }
+    fn empty_selection_fault(
+        &self,
+        set: &str,
+        selector: Selector<'_>,
+    ) -> Result<RulesFault, AllocError>
+        ensures { IfOk result (λ fault. cause_of fault ≡ Some (self.now.line, empty_selection_fault set.now (selector_content selector.entry))) }
     {
         let line = self.line;
         match selector {
@@ -121,7 +125,7 @@ impl<'a> RulesBuilder<'a> {
     {
         let place = context.set_index(set)?;
         if !self.table.add(context, place, selector)? {
-            return Err(context.empty_fault(set, selector)?);
+            return Err(context.empty_selection_fault(set, selector)?);
         }
         if self.table.patterns > MOST_LINES {
             return Err(RulesFault::TooMany { line: context.line });
@@ -130,7 +134,7 @@ impl<'a> RulesBuilder<'a> {
     }
 
     /// Adds the rule of a line.
-    fn restrict(
+    fn add_rule(
         &mut self,
         context: &LineContext<'_>,
         kind: RuleKind,
@@ -174,7 +178,7 @@ impl<'a> RulesBuilder<'a> {
                 imported: String::from_str(context.alloc, imported)?,
             });
         }
-        let Some(number) = import_named(context.net, importer, imported) else {
+        let Some(number) = find_import_number(context.net, importer, imported) else {
             self.stale.push(StaleAllow {
                 line,
                 importer,
@@ -186,7 +190,7 @@ impl<'a> RulesBuilder<'a> {
         Ok(())
     }
 
-    /// Takes what the line of the context states, if it states anything.
+    /// Adds what this line, the one of the context, states, if it states anything.
     pub(crate) fn take(
         &mut self,
         context: &LineContext<'_>,
@@ -196,14 +200,14 @@ impl<'a> RulesBuilder<'a> {
         requires present { (pieces : List (List ℕ)) × IsPieceAt pieces context.now.line piece.now × HasPreviousLines context.now pieces self.old }
         ensures { (pieces : List (List ℕ)) → IsPieceAt pieces context.now.line piece.now → HasPreviousLines context.now pieces self.old → Takes context.now.net.now context.now.files.now (names_in context.now.names.now.sets.keys) pieces context.now.line result self.new }
     {
-        if is_idle(piece) {
+        if is_empty_or_comment(piece) {
             return Ok(());
         }
         match parse_line(piece) {
             None => Err(RulesFault::BadLine { line: context.line }),
             Some(Line::Adds(set, selector)) => self.add(context, set, selector),
             Some(Line::Restricts(kind, first, second)) => {
-                self.restrict(context, kind, first, second)
+                self.add_rule(context, kind, first, second)
             }
             Some(Line::Allow(importer, imported)) => self.allow(context, importer, imported),
         }

@@ -4,7 +4,7 @@ ghost use Rattle.std.specs.List.{starts_with};
 ghost use Rattle.std.specs.Ordering.{is_lt, nat_cmp};
 ghost use Rattle.std.specs.Cmp.Lexicographic.{slice_cmp};
 ghost use Rattle.cut_rules.specs.Folders.{is_before, is_before_end, ArePathsInOrder};
-ghost use Rattle.cut_rules.specs.Rules.{closed, without_dot, IsBelow};
+ghost use Rattle.cut_rules.specs.Rules.{with_slash, without_dot, IsBelow};
 ghost use Rattle.cut_rules.specs.declared.file.File.{File as TreeFile};
 
 use crate::File;
@@ -25,14 +25,14 @@ fn is_before_end(file: &File<'_>, text: &[u8]) -> bool
 }
 
 /// The path with a slash at its end.
-fn closed(alloc: Global, path: &[u8]) -> Result<Vec<u8>, AllocError>
-    ensures { IfOk result (λ v. v.items ≡ closed path.now) }
+fn with_slash(alloc: Global, path: &[u8]) -> Result<Vec<u8>, AllocError>
+    ensures { IfOk result (λ v. v.items ≡ with_slash path.now) }
 {
-    let mut closed = Vec::from_slice(alloc, path)?;
+    let mut with_slash = Vec::from_slice(alloc, path)?;
     if !path.ends_with(b"/") {
-        closed.push(b'/')?;
+        with_slash.push(b'/')?;
     }
-    Ok(closed)
+    Ok(with_slash)
 }
 
 /// The path without a `./` before it.
@@ -52,8 +52,8 @@ pub(crate) fn range_below(
     ensures within { IfOk result (λ places. places.1 ≤ length files.now) }
     ensures elements { IfOk result (λ places. (k : ℕ) (f : TreeFile) → slice_get files.now k ≡ Some f → ((places.0 ≤ k) × (k < places.1)) ↔ IsBelow path.now f.path.now) }
 {
-    let closed = closed(alloc, path)?;
-    let prefix = without_dot(closed.as_slice());
+    let with_slash = with_slash(alloc, path)?;
+    let prefix = without_dot(with_slash.as_slice());
     let from = files.partition_point(|file| is_before(file, prefix));
     let to = files.partition_point(|file| is_before_end(file, prefix));
     Ok((from, to))

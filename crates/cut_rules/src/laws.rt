@@ -27,14 +27,14 @@ pub fn one_verdict()
 {}
 
 /// Each path that a rule forbids has an import that breaks the rule; so without these imports no such path is left.
-pub fn none_left()
+pub fn violations_cover_paths()
     // A forbidden path has an import that breaks the rule.
     ensures { (net : Network) (files : List TreeFile) (pieces : List (List ℕ)) (line : ℕ) (path : List ℕ) → IsForbiddenPath net files pieces line path
         → ((k : ℕ) → IsOnPath net path k → BreaksRule net files pieces line k → ⊥) → ⊥ }
 {}
 
 /// Each import that breaks a rule is needed: it is on a path that the rule forbids, whose other imports don't break the rule.
-pub fn each_leaves_one()
+pub fn each_violation_is_needed()
     // The import is on a forbidden path, and each import of that path that breaks the rule has its two modules.
     ensures { (net : Network) (files : List TreeFile) (pieces : List (List ℕ)) (line k : ℕ) → BreaksRule net files pieces line k
         → (path : List ℕ) × IsForbiddenPath net files pieces line path × IsOnPath net path k

@@ -1,6 +1,6 @@
 //! Rules for a tree: which modules may not import which, directly or through others. A breadth-first search for each rule finds the
 //! imports that break it.
-//! Depends on `cut_net` for networks, `digraph` for paths, `texts`, `text_escape` and `byte_sink` for input and output,
+//! Depends on `cut_net` for networks, `digraph` for paths, `texts` and `byte_sink` for input and output,
 //! `text_hash` and `indexmap` for names, `thiserror` for errors.
 //! The main calls are `Rules::read` and `write_verdict`. Rules are exactly those of the text, or its first error; the sink takes a line
 //! for exactly the imports that break a rule and the stale `allow` lines, or else `yes`.

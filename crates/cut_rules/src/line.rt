@@ -1,11 +1,11 @@
 //! The lines of a rules text.
 ghost use Rattle.std.specs.Prelude.{◌≡◌, ℕ, List, Some, option_map};
 ghost use Rattle.std.specs.List.{position};
-ghost use Rattle.cut_rules.specs.LineReading.{is_comment, is_idle, kind_of, last_name_of, line_after, line_content, line_of_fields, rule_line_of, rule_of, set_of, text_of};
+ghost use Rattle.cut_rules.specs.LineReading.{is_comment, is_empty_or_comment, kind_of, last_name_of, line_after, line_content, line_of_fields, rule_line_of, rule_of, set_of, text_of};
 ghost use Rattle.cut_rules.specs.RuleLines.{is_blank};
 
 use crate::rule::RuleKind;
-use texts::fields::{cut_at_byte, field_name};
+use texts::fields::{cut_at_byte, parse_field_name};
 
 /// Which modules a line adds to a set.
 #[derive(Clone, Copy)]
@@ -60,8 +60,8 @@ fn blank_index(bytes: &[u8]) -> Option<usize>
 }
 
 /// Whether the bytes of a line state nothing: they are empty or a comment.
-pub(crate) fn is_idle(piece: &[u8]) -> bool
-    ensures { result ≡ is_idle piece.now }
+pub(crate) fn is_empty_or_comment(piece: &[u8]) -> bool
+    ensures { result ≡ is_empty_or_comment piece.now }
 {
     piece.is_empty() || is_comment(piece)
 }
@@ -72,10 +72,10 @@ fn last_name(fields: &[u8]) -> Option<&str>
 {
     let end = blank_index(fields).unwrap_or(fields.len());
     let (name, rest) = fields.split_at(end);
-    if !is_idle(rest) {
+    if !is_empty_or_comment(rest) {
         return None;
     }
-    field_name(name)
+    parse_field_name(name)
 }
 
 /// The kind of rule that a keyword begins.
@@ -100,10 +100,10 @@ fn line_after<'a>(word: &[u8], first: &'a str, last: &'a [u8]) -> Option<Line<'a
     ensures { option_map line_content result ≡ line_after word.now first.now last.now }
 {
     if word == b"folder".as_slice() {
-        return Some(Line::Adds(first, Selector::Folder(text_in(last)?)));
+        return Some(Line::Adds(first, Selector::Folder(utf8_text(last)?)));
     }
     if word == b"named".as_slice() {
-        return Some(Line::Adds(first, Selector::Named(text_in(last)?)));
+        return Some(Line::Adds(first, Selector::Named(utf8_text(last)?)));
     }
     let second = last_name(last)?;
     if word == b"set".as_slice() {
@@ -117,7 +117,7 @@ fn line_after<'a>(word: &[u8], first: &'a str, last: &'a [u8]) -> Option<Line<'a
 }
 
 /// The bytes as text, or none if they aren't UTF-8.
-fn text_in(bytes: &[u8]) -> Option<&str>
+fn utf8_text(bytes: &[u8]) -> Option<&str>
     ensures { option_map (λ text. text.now) result ≡ text_of bytes.now }
 {
     match std::str::from_utf8(bytes) {
@@ -135,7 +135,7 @@ fn line_of_fields<'a>(word: &[u8], fields: &'a [u8]) -> Option<Line<'a>>
         return Some(Line::Adds(last_name(fields)?, Selector::Tree));
     }
     let (first, last) = cut_at_byte(fields, b' ')?;
-    line_after(word, field_name(first)?, last)
+    line_after(word, parse_field_name(first)?, last)
 }
 
 /// What the bytes of a line state, or none if they have no form.
@@ -149,7 +149,7 @@ pub(crate) fn parse_line(piece: &[u8]) -> Option<Line<'_>>
 
 /// The two names of the rule that the bytes of a line are. Most lines have another keyword, and aren't parsed.
 #[tactic(auto, unfolding(crate::specs::LineReading::rule_of, crate::specs::LineReading::rule_line_of))]
-pub(crate) fn rule_in(piece: &[u8]) -> Option<(&str, &str)>
+pub(crate) fn parse_rule_names(piece: &[u8]) -> Option<(&str, &str)>
     ensures { option_map (λ names. (names.0.now, names.1.now)) result ≡ rule_of piece.now }
 {
     let (word, fields) = cut_at_byte(piece, b' ')?;
@@ -162,7 +162,7 @@ pub(crate) fn rule_in(piece: &[u8]) -> Option<(&str, &str)>
 
 /// The set to which the bytes of a line add modules.
 #[tactic(auto, unfolding(crate::specs::LineReading::set_of))]
-pub(crate) fn set_in(piece: &[u8]) -> Option<&str>
+pub(crate) fn parse_set_name(piece: &[u8]) -> Option<&str>
     ensures { option_map (λ name. name.now) result ≡ set_of piece.now }
 {
     match parse_line(piece)? {

@@ -2,11 +2,11 @@
 ghost use Rattle.std.specs.Prelude.{◌≡◌, ◌⊎◌, ◌<◌, ◌≤◌, ℕ, Contains, IfNone, IfOk, IfSome, List, OnOk, Some, length, false, true};
 ghost use Rattle.digraph.specs.Marks.{marked};
 ghost use Rattle.cut_rules.specs.LineReading.{set_of};
-ghost use Rattle.cut_rules.specs.Names.{index_among, names_in, AreDeclared, AreNames, AreRuleNames, IsNoted};
+ghost use Rattle.cut_rules.specs.Names.{index_among, names_in, AreDeclared, AreNames, AreRuleNames, IsKnownName};
 ghost use Rattle.cut_rules.specs.RuleLines.{pieces_of};
 
 use crate::builder::MOST_LINES;
-use crate::line::{rule_in, set_field, set_in};
+use crate::line::{parse_rule_names, parse_set_name, set_field};
 use cut_net::Net;
 use indexmap::IndexSet;
 use std::alloc::{AllocError, Global};
@@ -18,7 +18,7 @@ const BYTES_A_NAME: usize = 4;
 /// The names of modules, and of the sets that rules name; lines about other sets are only parsed.
 #[derive(Drop)]
 pub(crate) struct Names<'a> {
-    /// Of all modules, by their numbers.
+    /// The names of all modules, by their numbers.
     pub(crate) modules: IndexSet<Name<'a>, Seed>,
     /// The names in rules that aren't modules', up to the first rule that exceeds the limit, in order of first occurrence.
     pub(crate) sets: IndexSet<Name<'a>, Seed>,
@@ -28,7 +28,7 @@ pub(crate) struct Names<'a> {
 
 impl Names<'_> {
     /// The index of a name, if a line adds modules to the set of this name.
-    pub(crate) fn declared_set(&self, name: &str) -> Option<usize>
+    pub(crate) fn declared_set_index(&self, name: &str) -> Option<usize>
         requires { length self.now.declared.items ≡ length self.now.sets.keys }
         ensures found { IfSome result (λ k. (index_among self.now.sets.keys name.now ≡ Some k) × (marked self.now.declared.items k ≡ true)) }
         ensures none { IfNone result ((k : ℕ) → index_among self.now.sets.keys name.now ≡ Some k → marked self.now.declared.items k ≡ false) }
@@ -81,7 +81,7 @@ fn add_name<'a>(
     name: &'a str,
 ) -> Result<(), AllocError>
     ensures retained { OnOk result ((x : List ℕ) → Contains (names_in names.old.keys) x → Contains (names_in names.new.keys) x) }
-    ensures noted { OnOk result (IsNoted net.now names.new.keys name.now) }
+    ensures noted { OnOk result (IsKnownName net.now names.new.keys name.now) }
     ensures apart { OnOk result ((x : List ℕ) → Contains (names_in names.new.keys) x → Contains (names_in names.old.keys) x ⊎ (Contains net.now.names x → ⊥)) }
 {
     if net.index_of(name).is_none() {
@@ -100,7 +100,7 @@ fn add_names<'a>(
     rule: (&'a str, &'a str),
 ) -> Result<(), AllocError>
     ensures retained { OnOk result ((x : List ℕ) → Contains (names_in names.old.keys) x → Contains (names_in names.new.keys) x) }
-    ensures noted { OnOk result (rules ≤ 4096 → IsNoted net.now names.new.keys rule.entry.0.now × IsNoted net.now names.new.keys rule.entry.1.now) }
+    ensures noted { OnOk result (rules ≤ 4096 → IsKnownName net.now names.new.keys rule.entry.0.now × IsKnownName net.now names.new.keys rule.entry.1.now) }
     ensures apart { OnOk result ((x : List ℕ) → Contains (names_in names.new.keys) x → Contains (names_in names.old.keys) x ⊎ (Contains net.now.names x → ⊥)) }
 {
     if rules > MOST_LINES {
@@ -124,7 +124,7 @@ fn rule_names<'a>(
     let mut names = IndexSet::with_hasher(alloc, seed);
     let mut rules = 0;
     for piece in bytes.split(|b| *b == b'\n') {
-        if let Some(rule) = rule_in(piece) {
+        if let Some(rule) = parse_rule_names(piece) {
             add_names(net, &mut names, rules, rule)?;
             rules += 1;
         }
@@ -134,7 +134,11 @@ fn rule_names<'a>(
 
 /// The index of the set to which a line adds modules, if its name is unflagged. Most lines aren't parsed, since their name is flagged or
 /// isn't one of the sets.
-fn declared_by(names: &IndexSet<Name<'_>, Seed>, declared: &[bool], piece: &[u8]) -> Option<usize>
+fn newly_declared_set(
+    names: &IndexSet<Name<'_>, Seed>,
+    declared: &[bool],
+    piece: &[u8],
+) -> Option<usize>
     requires { length declared.now ≡ length names.now.keys }
     ensures found { IfSome result (λ k. (k < length names.now.keys) × (x : List ℕ) × (set_of piece.now ≡ Some x) × (index_among names.now.keys x ≡ Some k)) }
     ensures none { IfNone result ((x : List ℕ) (k : ℕ) → set_of piece.now ≡ Some x → index_among names.now.keys x ≡ Some k → marked declared.now k ≡ true) }
@@ -143,12 +147,12 @@ fn declared_by(names: &IndexSet<Name<'_>, Seed>, declared: &[bool], piece: &[u8]
     if declared[place] {
         return None;
     }
-    set_in(piece)?;
+    parse_set_name(piece)?;
     Some(place)
 }
 
 /// Whether all flags are set.
-fn are_all_marked(flags: &[bool]) -> bool
+fn are_all_set(flags: &[bool]) -> bool
     ensures { result ≡ true → (k : ℕ) → k < length flags.now → marked flags.now k ≡ true }
 {
     for place in 0..flags.len() {
@@ -169,9 +173,9 @@ fn declared_sets(
 {
     let mut declared = vec![in alloc; false; names.len()]?;
     for piece in bytes.split(|b| *b == b'\n') {
-        if let Some(place) = declared_by(names, declared.as_slice(), piece) {
+        if let Some(place) = newly_declared_set(names, declared.as_slice(), piece) {
             declared[place] = true;
-            if are_all_marked(declared.as_slice()) {
+            if are_all_set(declared.as_slice()) {
                 return Ok(declared);
             }
         }

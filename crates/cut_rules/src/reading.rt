@@ -22,11 +22,11 @@ pub struct Rules<'a> {
     pub(crate) files: &'a [File<'a>],
     pub(crate) names: Names<'a>,
     pub(crate) table: SetTable,
-    /// In the order of their lines.
+    /// The rules, in the order of their lines.
     pub(crate) rules: Vec<Rule>,
     /// For each import of the network whether a line allows it.
     pub(crate) allowed: Vec<bool>,
-    /// In the order of their lines.
+    /// The stale `allow` lines, in order.
     pub(crate) stale: Vec<StaleAllow<'a>>,
 }
 
@@ -51,7 +51,7 @@ fn empty<'a>(context: &LineContext<'_>) -> Result<RulesBuilder<'a>, AllocError>
 }
 
 /// What all lines state, or the fault of the first line that has one.
-fn build_from<'a>(
+fn read_builder<'a>(
     context: &LineContext<'_>,
     bytes: &'a [u8],
 ) -> Result<RulesBuilder<'a>, RulesFault>
@@ -112,7 +112,7 @@ impl Rules<'_> {
             allowed,
             stale,
             ..
-        } = build_from(&context, bytes)?;
+        } = read_builder(&context, bytes)?;
         Ok(Rules {
             files,
             names,

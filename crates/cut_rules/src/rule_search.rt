@@ -2,7 +2,7 @@
 ghost use Rattle.std.specs.Prelude.{◌≡◌, ◌↔◌, ◌<◌, ℕ, All, IfOk, IsTrue, List, length, vec_len, true};
 ghost use Rattle.digraph.specs.Graphs.{IsGraph};
 ghost use Rattle.digraph.specs.Marks.{marked};
-ghost use Rattle.cut_rules.specs.Judged.{IsBarredBy, IsMarkSet, IsMayOf, IsNamed, IsOutsider, IsRepeated, IsRuleSearch, IsTarget};
+ghost use Rattle.cut_rules.specs.Judged.{IsBarredBy, IsFlagSet, IsMayOf, IsDenoted, IsOutsider, IsRepeated, IsRuleSearch, IsTarget};
 
 use crate::Rules;
 use crate::rule::{Rule, RuleKind};
@@ -22,7 +22,7 @@ pub(crate) struct RuleSearch {
 fn set_flags(flags: &mut Vec<bool>, nodes: &[u32], value: bool)
     requires { All (λ v. v < vec_len flags.old) nodes.now }
     ensures size { vec_len flags.new ≡ vec_len flags.old }
-    ensures flags { (v : ℕ) → IsMarkSet nodes.now value flags.old.items flags.new.items v }
+    ensures flags { (v : ℕ) → IsFlagSet nodes.now value flags.old.items flags.new.items v }
 {
     for node in nodes {
         flags[*node as usize] = value;
@@ -56,7 +56,7 @@ impl Rules<'_> {
     }
 
     /// For each module whether the `may` rules of the name with this number forbid to import it.
-    fn outsiders(&self, alloc: Global, net: &Net, first: usize) -> Result<Vec<bool>, AllocError>
+    fn may_targets(&self, alloc: Global, net: &Net, first: usize) -> Result<Vec<bool>, AllocError>
         ensures size { IfOk result (λ flags. vec_len flags ≡ length net.now.names) }
         ensures elements { IfOk result (λ flags. (n : ℕ) → n < length net.now.names → (marked flags.items n ≡ true) ↔ IsOutsider self.now first n) }
     {
@@ -79,7 +79,7 @@ impl Rules<'_> {
     {
         match rule.kind {
             RuleKind::Forbid | RuleKind::ForbidImport => self.flags(alloc, net, rule.second),
-            RuleKind::May => self.outsiders(alloc, net, rule.first),
+            RuleKind::May => self.may_targets(alloc, net, rule.first),
         }
     }
 

@@ -17,7 +17,7 @@ use std::alloc::{AllocError, Global};
 /// The modules of a set: for each file and then for each module whether the set has its module. The files of a folder are adjacent, so
 /// that a line adds them at once.
 #[derive(Drop)]
-pub struct MarkedSet {
+pub struct ModuleSet {
     pub flags: Vec<bool>,
 }
 
@@ -26,8 +26,8 @@ pub struct MarkedSet {
 pub(crate) struct SetTable {
     /// The number of the first set, which is the number of modules.
     pub(crate) modules: usize,
-    /// Those that rules name.
-    pub(crate) sets: Vec<MarkedSet>,
+    /// The sets that rules name.
+    pub(crate) sets: Vec<ModuleSet>,
     /// How many lines have a pattern.
     pub(crate) patterns: usize,
 }
@@ -37,19 +37,19 @@ pub(crate) fn empty_sets(
     alloc: Global,
     count: usize,
     places: usize,
-) -> Result<Vec<MarkedSet>, AllocError>
+) -> Result<Vec<ModuleSet>, AllocError>
     ensures { IfOk result (λ sets. AreEmptySets count places sets.items) }
 {
     let mut sets = Vec::with_capacity(alloc, count)?;
     for _ in 0..count {
         let flags = vec![in alloc; false; places]?;
-        sets.push(MarkedSet { flags })?;
+        sets.push(ModuleSet { flags })?;
     }
     Ok(sets)
 }
 
 /// Sets the flags with an index in `from..to`.
-fn mark_between(flags: &mut [bool], from: usize, to: usize)
+fn flag_range(flags: &mut [bool], from: usize, to: usize)
     requires { to ≤ length flags.old }
     ensures size { length flags.new ≡ length flags.old }
     ensures flags { (k : ℕ) → (marked flags.new k ≡ true) ↔ ((marked flags.old k ≡ true) ⊎ ((from ≤ k) × (k < to))) }
@@ -61,7 +61,7 @@ fn mark_between(flags: &mut [bool], from: usize, to: usize)
 
 impl SetTable {
     /// Adds the modules at the indices `from..to` to a set, if there is one, and returns whether the range is nonempty.
-    fn add_span(&mut self, set: Option<usize>, from: usize, to: usize) -> bool
+    fn add_range(&mut self, set: Option<usize>, from: usize, to: usize) -> bool
         requires set { IfSome set (λ s. s < length self.old.sets.items) }
         requires sized { (places : ℕ) × AreSized places self.old.sets.items × (to ≤ places) }
         ensures any { (result ≡ true) ↔ (from < to) }
@@ -72,7 +72,7 @@ impl SetTable {
         ensures patterns { self.new.patterns ≡ self.old.patterns }
     {
         if let Some(set) = set {
-            mark_between(self.sets[set].flags.as_mut_slice(), from, to);
+            flag_range(self.sets[set].flags.as_mut_slice(), from, to);
         }
         from < to
     }
@@ -88,7 +88,7 @@ impl SetTable {
             return false;
         };
         let place = context.files.len() + number;
-        self.add_span(set, place, place + 1)
+        self.add_range(set, place, place + 1)
     }
 
     /// Adds the modules whose names match the pattern to the set, if there is one, and returns whether a name matches.
@@ -109,7 +109,7 @@ impl SetTable {
         for node in 0..context.net.nodes() {
             if pattern.matches(context.net.name(node).as_bytes()) {
                 let place = context.files.len() + node as usize;
-                any = self.add_span(set, place, place + 1);
+                any = self.add_range(set, place, place + 1);
             }
         }
         self.patterns += 1;
@@ -133,10 +133,10 @@ impl SetTable {
             Selector::Module(module) => Ok(self.add_module(context, set, module)),
             Selector::Folder(path) => {
                 let (from, to) = range_below(context.alloc, context.files, path.as_bytes())?;
-                Ok(self.add_span(set, from, to))
+                Ok(self.add_range(set, from, to))
             }
             Selector::Named(pattern) => self.add_matching(context, set, pattern),
-            Selector::Tree => Ok(self.add_span(set, 0, context.files.len())),
+            Selector::Tree => Ok(self.add_range(set, 0, context.files.len())),
         }
     }
 }

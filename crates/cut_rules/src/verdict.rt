@@ -6,13 +6,13 @@ ghost use Rattle.std.specs.String.{string_bytes};
 ghost use Rattle.std.specs.Io.KnownBytes.{Appends};
 ghost use Rattle.byte_sink.specs.Sinks.{failures_after, AppendsPrefix};
 ghost use Rattle.byte_sink.specs.Pieces.{WritesAllBut};
-ghost use Rattle.text_escape.specs.Places.{style_of, writer_style};
+ghost use Rattle.texts.specs.Places.{style_of, writer_style};
 ghost use Rattle.digraph.specs.declared.edge.Edge.{Edge as GraphEdge};
 ghost use Rattle.digraph.specs.Edges.{IsAscending};
 ghost use Rattle.digraph.specs.Graphs.{IsGraph};
 ghost use Rattle.cut_net.specs.Network.{name_of};
 ghost use Rattle.cut_rules.specs.declared.file.File.{File as TreeFile};
-ghost use Rattle.cut_rules.specs.Judged.{AreOfRule, IsCounted, IsCountedGraph, IsFirstRule, IsSearchFor};
+ghost use Rattle.cut_rules.specs.Judged.{AreOfRule, IsUnallowed, IsCountedGraph, IsFirstRule, IsSearchFor};
 ghost use Rattle.cut_rules.specs.Outcomes.{AreRulesOf};
 ghost use Rattle.cut_rules.specs.Verdicts.{import_at, is_clean, is_none, lines_text, spaced, stale_line, stale_of, verdict_text, violation_line, AreStaleLines, AreViolations, Stale, Violation};
 
@@ -21,17 +21,17 @@ use crate::rule_search::RuleSearch;
 use crate::{Rules, Site};
 use byte_sink::{Sink, SinkFault, flush_if_full, write_fully};
 use cut_net::Net;
-use digraph::{Edge, Graph, graph_of, sort_all};
+use digraph::{Edge, Graph, graph_of, sort_and_dedup};
 use std::alloc::{AllocError, Global};
 use std::fmt::Write;
-use text_escape::{LocationStyle, LocationWriter};
+use texts::{LocationStyle, LocationWriter};
 
 /// The rules of a network, and the locations of its imports.
 #[derive(Clone, Copy)]
 struct Judgement<'a, 'r> {
     net: &'a Net,
     rules: &'r Rules<'a>,
-    /// For each import of the network.
+    /// The location of each import of the network.
     sites: &'a [Site<'a>],
 }
 
@@ -43,10 +43,10 @@ struct Lines<'a> {
 }
 
 /// The imports that no line allows, as edges in ascending order.
-fn counted_edges(alloc: Global, net: &Net, allowed: &[bool]) -> Result<Vec<Edge>, AllocError>
+fn unallowed_edges(alloc: Global, net: &Net, allowed: &[bool]) -> Result<Vec<Edge>, AllocError>
     requires { length allowed.now ≡ length net.now.imports }
     ensures ascending { IfOk result (λ edges. IsAscending edges.items) }
-    ensures elements { IfOk result (λ edges. (p : GraphEdge) → Contains edges.items p ↔ IsCounted net.now allowed.now p) }
+    ensures elements { IfOk result (λ edges. (p : GraphEdge) → Contains edges.items p ↔ IsUnallowed net.now allowed.now p) }
 {
     let imports = net.imports();
     let mut edges = Vec::new(alloc);
@@ -58,12 +58,12 @@ fn counted_edges(alloc: Global, net: &Net, allowed: &[bool]) -> Result<Vec<Edge>
             })?;
         }
     }
-    sort_all(&mut edges);
+    sort_and_dedup(&mut edges);
     Ok(edges)
 }
 
 /// Appends a name after a space.
-fn push_name(text: &mut String, name: &str) -> Result<(), AllocError>
+fn append_name(text: &mut String, name: &str) -> Result<(), AllocError>
     ensures { OnOk result (string_bytes text.new ≡ string_bytes text.old ++ 32 ∷ name.now) }
 {
     text.push(' ')?;
@@ -71,18 +71,18 @@ fn push_name(text: &mut String, name: &str) -> Result<(), AllocError>
 }
 
 /// Appends the names of modules, each after a space.
-fn push_names(text: &mut String, net: &Net, modules: &[u32]) -> Result<(), AllocError>
+fn append_names(text: &mut String, net: &Net, modules: &[u32]) -> Result<(), AllocError>
     requires { All (λ m. m < length net.now.names) modules.now }
     ensures { OnOk result (string_bytes text.new ≡ string_bytes text.old ++ spaced (map (name_of net.now) modules.now)) }
 {
     for module in modules {
-        push_name(text, net.name(*module))?;
+        append_name(text, net.name(*module))?;
     }
     Ok(())
 }
 
 /// Appends the line of a stale allow.
-fn push_stale(text: &mut String, stale: &StaleAllow<'_>) -> Result<(), AllocError>
+fn append_stale(text: &mut String, stale: &StaleAllow<'_>) -> Result<(), AllocError>
     ensures { OnOk result (string_bytes text.new ≡ string_bytes text.old ++ stale_line (stale_of stale.now)) }
 {
     writeln!(
@@ -94,7 +94,7 @@ fn push_stale(text: &mut String, stale: &StaleAllow<'_>) -> Result<(), AllocErro
 
 impl<'a> Lines<'a> {
     /// Appends the line of an import that breaks the rule of a line, with the path to its importing module.
-    fn push_violation(
+    fn append_violation(
         &mut self,
         judgement: &Judgement<'a, '_>,
         line: u64,
@@ -112,10 +112,10 @@ impl<'a> Lines<'a> {
         net.invariants();
         let site = judgement.sites[import];
         self.places
-            .push_start(&mut self.text, site.path, site.line, site.column)?;
+            .append_location(&mut self.text, site.path, site.line, site.column)?;
         write!(self.text, ": no {line}")?;
-        push_names(&mut self.text, net, path)?;
-        push_name(&mut self.text, net.name(net.imports()[import].to))?;
+        append_names(&mut self.text, net, path)?;
+        append_name(&mut self.text, net.name(net.imports()[import].to))?;
         self.text.push('\n')
     }
 }
@@ -155,7 +155,7 @@ impl<'a> Judgement<'a, '_> {
             return Ok(false);
         };
         if lines
-            .push_violation(self, line, import, path.as_slice())
+            .append_violation(self, line, import, path.as_slice())
             .is_err()
         {
             return Err(SinkFault::Memory);
@@ -255,7 +255,7 @@ impl<'a> Judgement<'a, '_> {
         ensures failures { S.failures sink.new ≡ failures_after result (S.failures sink.old) }
     {
         for stale in self.rules.stale.as_slice() {
-            if push_stale(&mut lines.text, stale).is_err() {
+            if append_stale(&mut lines.text, stale).is_err() {
                 return Err(SinkFault::Memory);
             }
             flush_if_full(&mut lines.text, sink)?;
@@ -265,15 +265,15 @@ impl<'a> Judgement<'a, '_> {
 }
 
 /// What is still to be written: `yes` if no line was, else the gathered lines.
-fn rest_of(clean: bool, text: &str) -> &[u8]
+fn final_bytes(clean: bool, text: &str) -> &[u8]
     ensures { result.now ≡ (if clean then codes "yes" ++ 10 ∷ [] else text.now) }
 {
     if clean { b"yes\n" } else { text.as_bytes() }
 }
 
 /// Writes a line `PATH:LINE:COL: no LINE A .. M N` for each import that breaks a rule, by the line of the rule and then by the names of
-/// the import's two modules, and then a line `stale LINE M N` for each `allow` of an import that the network doesn't have, by line; or
-/// `yes` if there is none, which is the result.
+/// the import's two modules, and then a line `stale LINE M N` for each `allow` of an import that the network doesn't have, by line. If
+/// there is no such line, writes `yes`. Returns whether there is none.
 ///
 /// An import of N by M that no line allows breaks
 /// - `forbid X Y` if N is in Y, and M in X or at the end of a path of unallowed imports from a module of X that enters no module of Y
@@ -299,7 +299,7 @@ pub fn write_verdict<'a, S: Sink>(
     ensures exact { IfOk result (λ clean. (files : List TreeFile) (pieces : List (List ℕ)) → AreRulesOf net.now files pieces rules.now
         → (violations : List Violation) × (stale : List Stale) × AreViolations net.now files pieces violations × AreStaleLines net.now pieces stale
         × (clean ≡ is_clean violations stale) × Appends (S.taken sink.old) (S.taken sink.new) (verdict_text (style_of style.entry) net.now sites.now violations stale)) }
-    // After an error the sink has taken a prefix of it.
+    // After an error the sink has taken a prefix of the text.
     ensures prefix { IfErr result (λ _. (files : List TreeFile) (pieces : List (List ℕ)) → AreRulesOf net.now files pieces rules.now
         → (violations : List Violation) (stale : List Stale) → AreViolations net.now files pieces violations → AreStaleLines net.now pieces stale
         → AppendsPrefix (S.taken sink.old) (S.taken sink.new) (verdict_text (style_of style.entry) net.now sites.now violations stale)) }
@@ -307,7 +307,7 @@ pub fn write_verdict<'a, S: Sink>(
     ensures failures { S.failures sink.new ≡ failures_after result (S.failures sink.old) }
 {
     net.invariants();
-    let Ok(edges) = counted_edges(alloc, net, rules.allowed.as_slice()) else {
+    let Ok(edges) = unallowed_edges(alloc, net, rules.allowed.as_slice()) else {
         return Err(SinkFault::Memory);
     };
     let Ok(graph) = graph_of(alloc, edges.as_slice(), net.nodes() as usize) else {
@@ -321,6 +321,6 @@ pub fn write_verdict<'a, S: Sink>(
     let error_prefix = judgement.write_rules(&mut lines, &graph, sink)?;
     judgement.write_stale(&mut lines, sink)?;
     let clean = !error_prefix && rules.stale.is_empty();
-    write_fully(sink, rest_of(clean, lines.text.as_str()))?;
+    write_fully(sink, final_bytes(clean, lines.text.as_str()))?;
     Ok(clean)
 }

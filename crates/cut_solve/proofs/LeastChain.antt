@@ -1,4 +1,4 @@
--- Where a chain leads from the one node to the other, a least chain does.
+-- If there is a path from one node to another, there is a lexicographically smallest shortest one.
 use Rattle.std.proofs.Common.{◌≡◌, ◌≢◌, ℕ, zero, suc, ◌≤◌, ◌<◌, ◌⊎◌, inl, inr, List, [], ◌∷◌, length, refl, sym, ap, ◌∙◌, subst, arith, Ordering}
 use Rattle.std.specs.Prelude.{Contains}
 use Rattle.std.specs.Cmp.{nat_cmp_is}
@@ -15,7 +15,7 @@ use Rattle.digraph.proofs.Members.{first_member, first_or_later, later_member, n
 abbrev Decided : Type 0 → Type 0
 Decided P = P ⊎ (P → ⊥)
 
--- what holds of a number holds of a least one
+-- a property that some number has is had by a smallest one
 module _ (P : ℕ → Type 0) (decide : (k : ℕ) → Decided (P k)) where
   abbrev Least : Type 0
   Least = (k : ℕ) × P k × ((j : ℕ) → P j → k ≤ j)
@@ -62,7 +62,7 @@ module _ (edges : List Edge) (end : ℕ) where
   at_end v ([], chain, long) = chain
   at_end v (w ∷ more, chain, long) = absurd (omega arith)
 
-  -- whether a chain of so many edges leads to the end
+  -- whether a path of so many edges leads to the end
   has_chain : (k v : ℕ) → Decided (HasChain edges v end k)
   has_chain zero v = elim (cases_eq v end) [ inl e ↦ inl ([], e, refl) | inr ne ↦ inr (λ has. ne (at_end v has)) ]
   has_chain (suc k) v = elim (next (λ w. HasChain edges w end k) (has_chain k) v edges) [
@@ -74,7 +74,7 @@ module _ (edges : List Edge) (end : ℕ) where
       onwards v k ([], chain, long) = absurd (omega arith)
       onwards v k (w ∷ more, (leads, rest), long) = (w, leads, (more, rest, omega arith))
 
-  -- the node leads to this one, and from there a chain of so many edges to the end
+  -- the node leads to this one, and from there a path of so many edges to the end
   abbrev GoesOn : ℕ → ℕ → ℕ → Type 0
   GoesOn v k w = Leads edges v w × HasChain edges w end k
 
@@ -90,7 +90,7 @@ module _ (edges : List Edge) (end : ℕ) where
         | inl e ↦ elim (has_chain k u) [ inl has ↦ inl (e, has) | inr none ↦ inr (λ h. none h.1) ]
       ]
 
-  -- of the chains with so many edges the least
+  -- of the paths with so many edges the least
   record IsLeastLong (v k : ℕ) (more : List ℕ) : Type 0 where
     is_chain : IsChain (Leads edges) v more end
     long : length more ≡ k

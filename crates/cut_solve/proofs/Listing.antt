@@ -1,4 +1,4 @@
--- Lists of imports in order, some of which are kept.
+-- Sorted lists of imports, and their filtered sublists.
 use Rattle.std.proofs.Common.{◌≡◌, ℕ, zero, suc, ◌+◌, ◌≤◌, ◌<◌, Bool, true, false, cond, not, List, [], ◌∷◌, length, get_or, refl, sym, ap, ◌∙◌, subst, arith, Some, None, sum_by}
 use Rattle.std.specs.Prelude.{All, Contains, IfSome, find, filter, is_some}
 use Rattle.std.proofs.lemmas.Bool.{false_from_ne_true}

@@ -1,4 +1,4 @@
--- Weights lowered to the flow of arcs.
+-- Weights reduced to the flow of arcs.
 use Rattle.std.proofs.Common.{◌≡◌, ℕ, zero, suc, ◌≤◌, List, [], ◌∷◌, map, refl, ap, subst, arith}
 use Rattle.std.specs.Prelude.{All}
 use Rattle.digraph.specs.declared.edge.Edge.{Edge}

@@ -1,4 +1,4 @@
--- Each printed import of an answer is needed.
+-- Each reported import of an answer is needed.
 use Rattle.std.proofs.Common.{◌≡◌, ◌<◌, ℕ, List, length, Some, sym, ◌∙◌, subst}
 use Rattle.std.proofs.lemmas.Option.{same_Some}
 use Rattle.cut_net.specs.Network.{Network, index_of}

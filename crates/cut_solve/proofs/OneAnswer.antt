@@ -1,4 +1,4 @@
--- Two names have one answer, but for the flow.
+-- The outcome of two names is unique but for the flow.
 use Rattle.std.proofs.Common.{◌≡◌, ◌≢◌, ℕ, suc, inl, inr, true, List, [], ◌∷◌, Option, Some, Result, Ok, Err, refl, sym, ap, ◌∙◌, subst, arith, Ordering}
 use Rattle.std.specs.Prelude.{Contains, IfSome, IsTrue, find}
 use Rattle.std.specs.Cmp.Lexicographic.{nat_list_cmp_total, slice_cmp}
@@ -39,7 +39,7 @@ found_is i (l ∷ lines) z up has same = elim (cases_Bool (have_equal_ends i l))
   ])
 ]
 
--- the printed imports are as the definition prints them, and so one list
+-- the reported imports are as the definition prints them, and so one list
 module _ (net : Network) (a b : ℕ) (total : ℕ) (printed flow : List Priced) (answer : IsCutAnswerWithPins net a b printed total flow)
     (again : ℕ) (others more : List Priced) (other : IsCutAnswerWithPins net a b others again more) where
   over : (z : Priced) → Contains printed z → Contains others z
@@ -68,7 +68,7 @@ one_cut net a b total printed flow again others more answer other =
     (over net a b total printed flow answer again others more other) (over net a b again others more other total printed flow answer) in
     (answer.right.weights.sum ∙ ap (λ (v : List Priced). weight net.imports (removed_by v)) same ∙ sym other.right.weights.sum, same)
 
--- a least chain is one
+-- a least path is one
 tied : (r s : Ordering) → r ≡ ordering_reverse s → r ≢ Greater → s ≢ Greater → r ≡ Equal
 tied Less Less e low high = absurd cc
 tied Less Equal e low high = absurd cc

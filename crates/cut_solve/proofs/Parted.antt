@@ -1,4 +1,4 @@
--- A question in the part between its two modules, and its answer told of the whole network.
+-- The answer for the subnetwork between two modules as an answer for the whole network.
 use Rattle.std.proofs.Common.{◌≡◌, ◌∙◌, ℕ, ◌<◌, Bool, List, length, get_or, set, true, sym, subst, subst₂, arith}
 use Rattle.std.proofs.lemmas.List.{get_or_default, length-set}
 use Rattle.cut_net.specs.declared.priced.Priced.{Priced}
@@ -8,10 +8,10 @@ use Rattle.cut_net.specs.AnswerClaim.{AnswerClaim}
 use Rattle.cut_net.specs.WellFormed.{AreBetween}
 use Rattle.cut_part.proofs.Parts.{end_low, ends_apart, start_low}
 use Rattle.cut_part.proofs.Whole.{answer_up, cheapest_up, lines_low}
-use Rattle.cut_part.specs.Marks.{claim_in_net, IsPart}
+use Rattle.cut_part.specs.Marks.{claim_in_net, IsSubnetwork}
 use Rattle.cut_preflow.specs.Flows.{AreEnds}
 
-module _ (net : Network) (a b : ℕ) (marks : List Bool) (numbers new_numbers : List ℕ) (small : Network) (part : IsPart net a b marks numbers new_numbers small) (ends : AreEnds net a b) where
+module _ (net : Network) (a b : ℕ) (marks : List Bool) (numbers new_numbers : List ℕ) (small : Network) (part : IsSubnetwork net a b marks numbers new_numbers small) (ends : AreEnds net a b) where
   place_in : (m : ℕ) → m < length net.names → m < length new_numbers
   place_in m h =
       let one = length-set marks a true in
@@ -27,7 +27,7 @@ module _ (net : Network) (a b : ℕ) (marks : List Bool) (numbers new_numbers : 
     lines_low net a b ends.from_in ends.to_in marks numbers new_numbers small part flow is.right.flow_in_order,
   )
 
-  -- the two modules in the part, as they are read from the places
+  -- the two modules in the subnetwork, as they are read from the indices
   module _ (x y : ℕ) (at_from : x ≡ get_or new_numbers a x) (at_to : y ≡ get_or new_numbers b y) where
     from : x ≡ get_or new_numbers a 0
     from = at_from ∙ get_or_default new_numbers a x 0 (place_in a ends.from_in)

@@ -1,17 +1,17 @@
--- What residual imports reach, as marks.
+-- The modules that residual imports reach, as flags.
 use Rattle.std.proofs.Common.{◌≡◌, ℕ, zero, suc, ◌-◌, ◌≤◌, ◌<◌, ◌⊎◌, inl, inr, Bool, true, false, not, List, [], ◌∷◌, ◌++◌, length, map, refl, sym, ◌∙◌, subst, arith}
 use Rattle.std.specs.Prelude.{Contains, nat_lt, ◌↔◌}
 use Rattle.std.proofs.lemmas.Bool.{both_ways, cases_lt, lt-ltb, ltb-true, not-true, not_from_false}
 use Rattle.std.proofs.lemmas.List.Elements.{Contains-append_cases, Contains-append_left, Contains-append_right}
 use Rattle.cut_net.specs.declared.priced.Priced.{Priced}
 use Rattle.cut_net.specs.Network.{Network}
-use Rattle.cut_net.specs.Cuts.{AreThose, Chain, IsChain, IsClosed, Outside, Reached}
+use Rattle.cut_net.specs.Cuts.{IsSetOf, Chain, IsChain, IsClosed, Outside, Reached}
 use Rattle.cut_net.specs.WellFormed.{AreBetween}
 use Rattle.cut_net.proofs.Chains.{chain_from_false, chain_or_none, joined, no_chain_to, no_chain_to-false, step}
 use Rattle.cut_net.proofs.Members.{from_map, in_map}
 use Rattle.residual_graph.specs.Graphs.{is_flagged}
 
--- the marks of the numbers below n that pass
+-- the flags of the numbers below n that pass
 marks : (ℕ → Bool) → ℕ → List Bool
 marks f zero = []
 marks f (suc n) = f 0 ∷ marks (λ k. f (suc k)) n
@@ -123,11 +123,11 @@ module _ (net : Network) (flow : Priced → ℕ) (a : ℕ) where
   unfolding near_marks
   near_size = marks_size reaches (length net.names)
 
-  pub near_reached : AreBetween net.imports (length net.names) → a < length net.names → AreThose (is_flagged near_marks) (Reached net flow a)
+  pub near_reached : AreBetween net.imports (length net.names) → a < length net.names → IsSetOf (is_flagged near_marks) (Reached net flow a)
   unfolding near_marks
   near_reached between a_in = marked reaches (length net.names) (Reached net flow a) reached (low between a_in)
 
--- the modules that have a chain to b outside a set of imports, as marks
+-- the modules that have a path to b outside a set of imports, as marks
 module _ (net : Network) (x : Priced → Bool) (b : ℕ) where
   goes_to : ℕ → Bool
   goes_to m = not (no_chain_to net.imports x b m)

@@ -1,4 +1,4 @@
--- Names that are refused have no other answer.
+-- Names with an error have no other outcome.
 use Rattle.std.proofs.Common.{◌≡◌, ℕ, List, Option, Result, Ok, Err, refl, sym, ap, ◌∙◌, Some, None, inl, inr}
 use Rattle.std.proofs.lemmas.Option.{none-some, same_Some}
 use Rattle.cut_net.specs.Network.{Network}

@@ -1,4 +1,4 @@
--- A preflow comes to rest: while a node has excess a step applies, and no legal list of events is longer than the bound.
+-- A preflow runs to completion: while a node is active a step applies, and no legal list of events is longer than the bound.
 use Rattle.std.proofs.Common.{◌≡◌, ℕ, zero, suc, ◌+◌, ◌≤◌, ◌<◌, ◌⊎◌, inl, inr, true, false, is_some, List, [], ◌∷◌, ◌++◌, length, length-append, refl, sym, ap, subst, arith}
 use Rattle.std.proofs.lemmas.Bool.{both_ways, cases_Bool, cases_eq, false_from_ne_true}
 use Rattle.cut_preflow.specs.declared.event.Event.{Event}

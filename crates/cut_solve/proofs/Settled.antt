@@ -1,4 +1,4 @@
--- The flow of a settled preflow is a greatest flow of the network that a cut is asked of.
+-- The flow of a completed preflow is a maximum flow of the given network.
 use Rattle.std.proofs.Common.{◌≡◌, ℕ, zero, suc, ◌+◌, ◌≤◌, ◌<◌, ◌==◌, if◌then◌else◌, Bool, false, inl, inr, List, [], ◌∷◌, ◌++◌, length, get_or, map, take, refl, sym, ap, ◌∙◌, subst, arith}
 use Rattle.std.specs.Prelude.{All, Contains, filter}
 use Rattle.std.proofs.lemmas.List.{get_or-map, length-map, take_all}
@@ -11,18 +11,18 @@ use Rattle.cut_net.specs.Lines.{flow_by, IsAscending}
 use Rattle.cut_net.specs.WellFormed.{IsNetwork}
 use Rattle.cut_net.proofs.ListSums.{sum_by-same}
 use Rattle.cut_part.specs.Apart.{flow_lines}
-use Rattle.cut_part.specs.CapacityReduction.{ends_of, import_in, IsBarred, IsByEnds, IsMaxFlow}
+use Rattle.cut_part.specs.CapacityReduction.{ends_of, import_in, IsBarred, DependsOnEndsOnly, IsMaxFlow}
 use Rattle.cut_part.specs.Reversal.{reversed_flow, reversed, reversed_net}
 use Rattle.cut_part.proofs.Apart.{ascending_apart, flow_by_number}
 use Rattle.cut_part.proofs.CapacityReduction.{at_numbers, by_lines, greatest_back, renumbering, same_pair}
 use Rattle.cut_part.proofs.Sums.{same_entering, same_leaving}
 use Rattle.cut_part.proofs.Reversal.{flow_round_back, greatest_round_back, lines_turned}
 use Rattle.cut_preflow.specs.Preflow.{State}
-use Rattle.cut_preflow.specs.Flows.{AreEnds, HasFlow, IsShutOff, network_on, value_of}
+use Rattle.cut_preflow.specs.Flows.{AreEnds, HasFlow, IsSinkUnreachable, network_on, value_of}
 use Rattle.residual_graph.specs.declared.arc.Arc.{Arc}
 use Rattle.residual_graph.specs.Graphs.{is_flagged, no_arc, AreClosed, AreReached}
 use Rattle.cut_solve.specs.MaximumFlow.{IsMaximumFlow}
-use Rattle.cut_solve.specs.Lines.{has_flow, flow_line, import_on}
+use Rattle.cut_solve.specs.Lines.{has_flow, flow_line, import_of_arc}
 use Rattle.cut_solve.specs.Settling.{arcs_with_flow}
 use Rattle.cut_solve.specs.Starts.{with_imports, HasReducedWeights, IsPreflowInput}
 use Rattle.cut_solve.proofs.Answering.{end_unmarked, greatest_by}
@@ -84,9 +84,9 @@ carrying_is (i ∷ more) (f ∷ flow) same zero d h = refl
 carrying_is (i ∷ more) (f ∷ flow) same (suc k) d h = carrying_is more flow (omega arith) k d (omega arith)
 
 carrying_size : (imports : List Priced) (flow : List ℕ) → length flow ≡ length imports → length (arcs_with_flow imports flow) ≡ length imports
-carrying_size imports flow same = sym (length-map (arcs_with_flow imports flow) import_on) ∙ ap length (carrying_imports imports flow same)
+carrying_size imports flow same = sym (length-map (arcs_with_flow imports flow) import_of_arc) ∙ ap length (carrying_imports imports flow same)
 
--- one more import looked at
+-- one more import inspected
 pub carrying_more : (imports : List Priced) (flow : List ℕ) (k f : ℕ) → length flow ≡ length imports → k < length imports → f ≡ get_or flow k 0 →
     take (k + 1) (arcs_with_flow imports flow) ≡ take k (arcs_with_flow imports flow) ++ arc_with (import_in imports k) f ∷ []
 carrying_more imports flow k f same h is =
@@ -119,7 +119,7 @@ lines_by_ends (x ∷ xs) (y ∷ ys) (f ∷ flow) e same =
     let rest = lines_by_ends xs ys flow (ap but_first e) (omega arith) in
     λ i. record { from = from i; to = to i; amount = f } ∷ rest i
 
--- and of imports that were turned round they are turned round
+-- and of imports that were reversed they are reversed
 turned_lines : (imports : List Priced) (flow : List ℕ) → flow_lines (map reversed imports) flow ≡ map reversed (flow_lines imports flow)
 turned_lines [] flow = refl
 turned_lines (i ∷ more) [] = refl
@@ -132,14 +132,14 @@ module _ (net : Network) (a b : ℕ) (is : IsNetwork net) (ends : AreEnds net a 
   abbrev on_narrow : Priced → ℕ
   on_narrow = flow_by (flow_lines reduction s.flow)
 
-  -- a greatest flow of the narrowed network
+  -- a maximum flow of the narrowed network
   narrow_greatest : (value : ℕ) → IsMaxFlow (with_imports net reduction) a b on_narrow value → IsMaxFlow net a b (flow_by (flow_lines net.imports s.flow)) value
   narrow_greatest value greatest =
       let size : length reduction ≡ length net.imports = sym (length-map reduction _) ∙ ap length start.reduced_capacities.ends ∙ length-map net.imports _ in
       subst (λ lines. IsMaxFlow net a b (flow_by lines) value) (lines_by_ends reduction net.imports s.flow start.reduced_capacities.ends size)
       (greatest_back net (with_imports net reduction) a b start.reduced_capacities on_narrow value (by_lines (flow_lines reduction s.flow)) greatest)
 
-  -- the same of it turned round
+  -- the same of it reversed
   turned_greatest : (value : ℕ) → IsMaxFlow (reversed_net (with_imports net reduction)) b a (flow_by (flow_lines (map reversed reduction) s.flow)) value →
       IsMaxFlow net a b (flow_by (flow_lines net.imports s.flow)) value
   turned_greatest value greatest =
@@ -150,7 +150,7 @@ module _ (net : Network) (a b : ℕ) (is : IsNetwork net) (ends : AreEnds net a 
 
   -- a flow of what the preflow started on, whose residual imports don't lead to the sink
   abbrev Settles : List Priced → ℕ → ℕ → Type 0
-  Settles v m k = HasFlow (network_on (length net.names) v m k) s → IsShutOff (network_on (length net.names) v m k) s →
+  Settles v m k = HasFlow (network_on (length net.names) v m k) s → IsSinkUnreachable (network_on (length net.names) v m k) s →
       (value : ℕ) × IsMaxFlow net a b (flow_by (flow_lines net.imports s.flow)) value
 
   pub settled_flow : Settles imports source sink
@@ -160,7 +160,7 @@ module _ (net : Network) (a b : ℕ) (is : IsNetwork net) (ends : AreEnds net a 
 
 -- a flow of a network with lower weights is one of the network
 module _ (old new : Network) (a b : ℕ) (ends : ends_of new.imports ≡ ends_of old.imports) (reduced : (k : ℕ) → (import_in new.imports k).amount ≤ (import_in old.imports k).amount) where
-  flow_lowered : (flow : Priced → ℕ) (value : ℕ) → IsByEnds flow → IsFlow new a b flow value → IsFlow old a b flow value
+  flow_lowered : (flow : Priced → ℕ) (value : ℕ) → DependsOnEndsOnly flow → IsFlow new a b flow value → IsFlow old a b flow value
   flow_lowered flow value by_ends is_flow =
       let into = λ (m : ℕ). same_entering flow by_ends new.imports old.imports m ends in
       let out = λ (m : ℕ). same_leaving flow by_ends new.imports old.imports m ends in
@@ -207,7 +207,7 @@ module _ (net : Network) (a b : ℕ) (is : IsNetwork net) (ends : AreEnds net a 
         | inr w ↦ (value, back w.0 value (subst (λ (m : ℕ). IsFlow there m a on value) w.1 (subst (λ (k : ℕ). IsFlow there source k on value) w.2 flow)))
       ]
 
--- a search in the network with this flow: what it marked, and whether it came to the second module
+-- a search in the residual graph of this flow: the flags, and whether the second module is reached
 pub record IsSearched (net : Network) (a b : ℕ) (flow : List ℕ) (source_side : List Bool) (came : Bool) : Type 0 where
   pub same : length flow ≡ length net.imports
   pub reached : AreReached (record { nodes = length net.names; arcs = arcs_with_flow net.imports flow }) a source_side
@@ -227,13 +227,13 @@ module _ (net : Network) (flow : List ℕ) (same : length flow ≡ length net.im
 
   pub agree : (i : Priced) → Contains net.imports i → on i ≡ flow_on arcs i
   agree = at_numbers net.imports (λ i. on i ≡ flow_on arcs i) (λ k h.
-      let size : length arcs ≡ length net.imports = sym (length-map arcs import_on) ∙ ap length imports_are in
-      let here : import_on (get_or arcs k no_arc) ≡ import_in net.imports k =
-      sym (get_or-map import_on arcs k no_arc missing_item (omega arith)) ∙ ap (λ (v : List Priced). get_or v k missing_item) imports_are in
+      let size : length arcs ≡ length net.imports = sym (length-map arcs import_of_arc) ∙ ap length imports_are in
+      let here : import_of_arc (get_or arcs k no_arc) ≡ import_in net.imports k =
+      sym (get_or-map import_of_arc arcs k no_arc missing_item (omega arith)) ∙ ap (λ (v : List Priced). get_or v k missing_item) imports_are in
       flow_by_number net.imports flow (ascending_apart net.imports up) same k h ∙ sym (carrying_at net.imports flow same k h)
       ∙ sym (flow_is arcs (subst IsAscending (sym imports_are) up) k (omega arith)) ∙ ap (flow_on arcs) here)
 
--- so it is a greatest one where the search doesn't come to the end
+-- so the flow is maximum if the search doesn't reach the sink
 module _ (net : Network) (a b : ℕ) (flow : List ℕ) (source_side : List Bool) (came : Bool) (searched : IsSearched net a b flow source_side came) (up : IsAscending net.imports) (a_in : a < length net.names) where
   pub settled_greatest : (value : ℕ) → IsFlow net a b (flow_by (flow_lines net.imports flow)) value → came ≡ false →
       IsMaximumFlow net a b source_side (filter has_flow (map flow_line (arcs_with_flow net.imports flow)))

@@ -1,4 +1,4 @@
--- Each two names have an answer.
+-- Any two names have an outcome.
 use Rattle.std.proofs.Common.{◌≡◌, ℕ, ◌⊎◌, inl, inr, Bool, List, map, Option, Some, None, Result, Ok, Err, refl, sym, ap, ◌∙◌, subst, sum_by}
 use Rattle.std.specs.Prelude.{Contains, filter}
 use Rattle.std.proofs.lemmas.Bool.{both_ways, cases_Bool, cases_eq}
@@ -28,7 +28,7 @@ use Rattle.cut_preflow.proofs.Opening.{runs_keep}
 use Rattle.residual_graph.specs.declared.arc.Arc.{Arc}
 use Rattle.residual_graph.specs.Graphs.{is_flagged}
 use Rattle.cut_solve.specs.MaximumFlow.{IsMaximumFlow}
-use Rattle.cut_solve.specs.Lines.{flow_line, has_flow, import_on, is_printed}
+use Rattle.cut_solve.specs.Lines.{flow_line, has_flow, import_of_arc, is_reported_import}
 use Rattle.cut_solve.specs.Settling.{arcs_with_flow}
 use Rattle.cut_solve.specs.Solving.{IsSolveOutcome, SolveError, SameModule, NoSuchModule}
 use Rattle.cut_solve.proofs.Answering.{answered, cheapest, kept_above_zero, kept_lines}
@@ -72,8 +72,8 @@ module _ (net : Network) (a b : ℕ) (is : IsNetwork net) (ends : AreEnds net a 
     known : (line : Priced) → Contains (map flow_line arcs) line → IsImport net line
     known line c =
         let (r, there, e) = from_map flow_line arcs line c in (
-          import_on r,
-          subst (λ (v : List Priced). Contains v (import_on r)) (imports_are net s.flow kept.flows is.imports_ascend) (in_map import_on arcs r there),
+          import_of_arc r,
+          subst (λ (v : List Priced). Contains v (import_of_arc r)) (imports_are net s.flow kept.flows is.imports_ascend) (in_map import_of_arc arcs r there),
           ap (λ (v : Priced). v.from) e,
           ap (λ (v : Priced). v.to) e,
           tt,
@@ -94,7 +94,7 @@ module _ (net : Network) (a b : ℕ) (is : IsNetwork net) (ends : AreEnds net a 
     cut_here =
         let sink_side = far_marks net (leaves (is_flagged source_side)) b in
         let chains = far_chains net (leaves (is_flagged source_side)) b is.between ends.to_in in
-        let printed = filter (is_printed source_side sink_side) net.imports in (
+        let printed = filter (is_reported_import source_side sink_side) net.imports in (
           CutOf (sum_by (λ (i : Priced). i.amount) printed) printed flow,
           answered net a b source_side sink_side flow is.imports_ascend is.between ends.from_in greatest chains,
           cheapest net a b source_side sink_side flow is.imports_ascend is.between ends.from_in greatest chains,
@@ -109,7 +109,7 @@ module _ (net : Network) (a b : ℕ) (is : IsNetwork net) (ends : AreEnds net a 
   by_pin : (i : Priced) → ByPin net i ⊎ (ByPin net i → ⊥)
   by_pin i = elim (cases_Bool (is_pinned net i)) [ inl t ↦ inl t | inr f ↦ inr (λ t. both_ways (is_pinned net i) f t) ]
 
-  -- a cut, or the least chain of pins
+  -- a cut, or the least path of pins
   some_said : ArePins net → (claim : AnswerClaim) × IsAnswerWithPins net a b claim × IsCheapestAnswerWithPins net a b claim
   some_said pins = elim (chain_or_none net.imports (ByPin net) by_pin a b) [
     | inl chain ↦

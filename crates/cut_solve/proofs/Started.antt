@@ -1,4 +1,4 @@
--- The network that a preflow starts on is one that the core takes.
+-- The input of a preflow satisfies the requirements of `start_on`.
 use Rattle.std.proofs.Common.{◌≡◌, ◌≢◌, ℕ, ◌≤◌, ◌<◌, false, List, [], ◌∷◌, length, get_or, map, refl, sym, ap, ◌∙◌, subst, arith, inl, inr}
 use Rattle.std.proofs.lemmas.Bool.{both_ways, false_from_ne_true}
 use Rattle.std.proofs.lemmas.List.{get_or_default, length-map}
@@ -25,7 +25,7 @@ use Rattle.cut_preflow.proofs.Networks.{between_limits}
 use Rattle.cut_preflow.proofs.Totals.{total-le}
 use Rattle.cut_solve.specs.Starts.{HasReducedWeights, IsReducedFrom, IsPreflowInput}
 
--- what holds both ways holds of the start
+-- a property of both directions holds of the input
 pub either_way : (net : Network) (a b : ℕ) (imports : List Priced) (source sink : ℕ) (start : IsPreflowInput net a b imports source sink) (P : List Priced → ℕ → ℕ → Type 0) →
     P start.reduction a b → P (map reversed start.reduction) b a → P imports source sink
 either_way net a b imports source sink start P forth back = elim start.way [
@@ -66,7 +66,7 @@ flow_network n imports a b between are a_in b_in apart = record {
 pub narrow_between : (net : Network) (a b : ℕ) → IsNetwork net → (imports : List Priced) (source sink : ℕ) (start : IsPreflowInput net a b imports source sink) → AreBetween start.reduction (length net.names)
 narrow_between net a b is imports source sink start = still_between start.reduction net.imports (length net.names) start.reduced_capacities.ends is.between
 
--- the ends of imports that were turned round
+-- the ends of imports that were reversed
 swapped : Edge → Edge
 swapped e = record { from = e.to; to = e.from }
 
@@ -95,7 +95,7 @@ start_below net a b imports source sink start = elim start.way [
   }
 ]
 
--- and stays so where weights are lowered
+-- and stays so where weights are reduced
 pub lowered_below : (net : Network) (a b : ℕ) (old new : List Priced) (source sink : ℕ) → HasReducedWeights net a b old source sink → IsReducedFrom old new → HasReducedWeights net a b new source sink
 lowered_below net a b old new source sink below low = record {
   reduced = λ k. let one = low.reduced k in let two = below.reduced k in omega arith;

@@ -6,12 +6,12 @@ use Rattle.residual_graph.specs.declared.arc.Arc.{Arc}
 use Rattle.residual_graph.specs.Graphs.{is_flagged}
 
 -- the arc of an import, without flow
-abbrev pub empty_of : Priced → Arc
-empty_of i = record { from = i.from; to = i.to; capacity = i.amount; flow = 0 }
+abbrev pub arc_without_flow : Priced → Arc
+arc_without_flow i = record { from = i.from; to = i.to; capacity = i.amount; flow = 0 }
 
 -- the import of an arc
-abbrev pub import_on : Arc → Priced
-import_on r = record { from = r.from; to = r.to; amount = r.capacity }
+abbrev pub import_of_arc : Arc → Priced
+import_of_arc r = record { from = r.from; to = r.to; amount = r.capacity }
 
 -- the line of an arc's flow
 abbrev pub flow_line : Arc → Priced
@@ -21,9 +21,9 @@ abbrev pub has_flow : Priced → Bool
 has_flow line = nat_lt 0 line.amount
 
 -- the reversed arc of an import, with capacity exactly if the import doesn't leave the minimal source side
-abbrev pub reversed_of : List Bool → Priced → Arc
-reversed_of source_side i = record { from = i.to; to = i.from; capacity = if leaves (is_flagged source_side) i then 0 else 1; flow = 0 }
+abbrev pub reversed_arc_of : List Bool → Priced → Arc
+reversed_arc_of source_side i = record { from = i.to; to = i.from; capacity = if leaves (is_flagged source_side) i then 0 else 1; flow = 0 }
 
 -- the import leads from the minimal source side to a module that reaches the sink outside of it
-abbrev pub is_printed : List Bool → List Bool → Priced → Bool
-is_printed source_side sink_side i = leaves (is_flagged source_side) i && is_flagged sink_side i.to
+abbrev pub is_reported_import : List Bool → List Bool → Priced → Bool
+is_reported_import source_side sink_side i = leaves (is_flagged source_side) i && is_flagged sink_side i.to

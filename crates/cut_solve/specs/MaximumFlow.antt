@@ -2,14 +2,14 @@
 use Rattle.std.specs.Prelude.{◌≡◌, ℕ, ◌<◌, Bool, false, List, length, All}
 use Rattle.cut_net.specs.declared.priced.Priced.{Priced}
 use Rattle.cut_net.specs.Network.{Network}
-use Rattle.cut_net.specs.Cuts.{AreThose, IsFlow, Reached}
+use Rattle.cut_net.specs.Cuts.{IsSetOf, IsFlow, Reached}
 use Rattle.cut_net.specs.Lines.{flow_by, AreImportsInOrder}
 use Rattle.residual_graph.specs.Graphs.{is_flagged}
 
 -- the lines are a flow from a to b, and the flags are those of the modules that a reaches in the residual graph, which b isn't
 pub record IsMaximumFlow (net : Network) (a b : ℕ) (source_side : List Bool) (flow : List Priced) : Type 0 where
   pub size : length source_side ≡ length net.names
-  pub reached : AreThose (is_flagged source_side) (Reached net (flow_by flow) a)
+  pub reached : IsSetOf (is_flagged source_side) (Reached net (flow_by flow) a)
   pub end : is_flagged source_side b ≡ false
   pub in_order : AreImportsInOrder net flow
   pub above_zero : All (λ line. 0 < line.amount) flow

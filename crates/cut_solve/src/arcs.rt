@@ -1,6 +1,6 @@
 //! Conversions between imports and the arcs of a residual graph.
 ghost use Rattle.std.specs.Prelude.{◌≡◌, IfOk, filter, length, map};
-ghost use Rattle.cut_solve.specs.Lines.{empty_of, has_flow, flow_line};
+ghost use Rattle.cut_solve.specs.Lines.{arc_without_flow, has_flow, flow_line};
 
 use cut_net::{Net, Priced};
 use residual_graph::{Arc, ResidualGraph};
@@ -8,7 +8,7 @@ use std::alloc::{AllocError, Global};
 
 /// For each import an arc without flow, whose capacity is the import's weight.
 pub(crate) fn arcs_of(alloc: Global, imports: &[Priced]) -> Result<Vec<Arc>, AllocError>
-    ensures { IfOk result (λ arcs. arcs.items ≡ map empty_of imports.now) }
+    ensures { IfOk result (λ arcs. arcs.items ≡ map arc_without_flow imports.now) }
 {
     let mut arcs = Vec::with_capacity(alloc, imports.len())?;
     for i in imports {
@@ -26,7 +26,7 @@ pub(crate) fn arcs_of(alloc: Global, imports: &[Priced]) -> Result<Vec<Arc>, All
 /// fails.
 pub fn graph_of(alloc: Global, net: &Net) -> Result<ResidualGraph, AllocError>
     // The nodes are the modules, and the arcs the imports in their order.
-    ensures { IfOk result (λ graph. graph ≡ record { nodes = length net.now.names; arcs = map empty_of net.now.imports }) }
+    ensures { IfOk result (λ graph. graph ≡ record { nodes = length net.now.names; arcs = map arc_without_flow net.now.imports }) }
 {
     net.invariants();
     let arcs = arcs_of(alloc, net.imports())?;
@@ -34,7 +34,7 @@ pub fn graph_of(alloc: Global, net: &Net) -> Result<ResidualGraph, AllocError>
 }
 
 /// For each arc an import whose amount is the arc's flow.
-pub(crate) fn flows_of(alloc: Global, arcs: &[Arc]) -> Result<Vec<Priced>, AllocError>
+pub(crate) fn flow_per_arc(alloc: Global, arcs: &[Arc]) -> Result<Vec<Priced>, AllocError>
     ensures { IfOk result (λ imports. imports.items ≡ map flow_line arcs.now) }
 {
     let mut imports = Vec::with_capacity(alloc, arcs.len())?;
@@ -49,7 +49,7 @@ pub(crate) fn flows_of(alloc: Global, arcs: &[Arc]) -> Result<Vec<Priced>, Alloc
 }
 
 /// The arcs with flow, as imports whose amount is the flow. Fails if an allocation fails.
-pub fn flow_of(alloc: Global, arcs: &[Arc]) -> Result<Vec<Priced>, AllocError>
+pub fn nonzero_flow(alloc: Global, arcs: &[Arc]) -> Result<Vec<Priced>, AllocError>
     // They are exactly the arcs with flow above 0, in their order.
     ensures { IfOk result (λ flow. flow.items ≡ filter has_flow (map flow_line arcs.now)) }
 {

@@ -10,7 +10,12 @@ use std::alloc::{AllocError, Global};
 
 /// The shortest path of pinned imports from one module to the other, as an answer, since then no cut exists; none without a path. Fails
 /// if an allocation fails.
-pub fn blocked(alloc: Global, net: &Net, from: u32, to: u32) -> Result<Option<Answer>, AllocError>
+pub fn find_blocked_answer(
+    alloc: Global,
+    net: &Net,
+    from: u32,
+    to: u32,
+) -> Result<Option<Answer>, AllocError>
     // `from` is a module.
     requires from { from < length net.now.names }
     // `to` is a module.
@@ -30,7 +35,7 @@ pub fn blocked(alloc: Global, net: &Net, from: u32, to: u32) -> Result<Option<An
 }
 
 /// The cheapest cut between two modules, as an answer.
-pub fn as_answer(net: &Net, cut: Cut, from: u32, to: u32) -> Answer
+pub fn answer_of_cut(net: &Net, cut: Cut, from: u32, to: u32) -> Answer
     // No path of pinned imports leads from the one module to the other.
     requires free { PinChain net.now from to → ⊥ }
     // The cut is the reported one by its definition.

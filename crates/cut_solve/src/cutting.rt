@@ -4,7 +4,7 @@ ghost use Rattle.cut_net.specs.Answers.{cut_claim};
 ghost use Rattle.cut_net.specs.Lines.{IsAnswer, IsCheapestAnswer};
 ghost use Rattle.cut_solve.specs.MaximumFlow.{IsMaximumFlow};
 
-use crate::printing::{reported_imports, sink_side_of, weight_of};
+use crate::reporting::{reported_imports, sink_side_of, weight_of};
 use cut_net::{Cut, Net, Priced};
 use std::alloc::{AllocError, Global};
 

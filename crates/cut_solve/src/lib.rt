@@ -1,6 +1,7 @@
 //! Cheapest cuts: the imports to remove, and a flow that proves that no cut is cheaper, or the path of pinned imports because of which
 //! there is none. The algorithm is push-relabel (Goldberg and Tarjan 1988) by many threads on one locked preflow. Depends on `cut_part`
-//! for smaller networks, `initial_flow` for an initial flow, `cut_preflow` for steps, `residual_graph` for the final search. The main call is
+//! for smaller networks, `initial_flow` for an initial flow, `cut_preflow` for steps, `residual_graph` for the final search. The main call
+//! is
 //! `solve`. It promises the reported cut by its definition, its weight and a flow of that value, for every schedule.
 #![tactic(auto)]
 
@@ -8,11 +9,11 @@ mod arcs;
 mod blocking;
 mod cutting;
 mod fault;
+mod initial_capacities;
 pub mod laws;
-mod lowering;
 mod names;
 mod open_gate;
-mod printing;
+mod reporting;
 mod settling;
 mod solving;
 mod start;
@@ -20,13 +21,13 @@ mod turn;
 mod whole;
 pub mod workers;
 
-pub use arcs::{flow_of, graph_of};
-pub use blocking::{as_answer, blocked};
+pub use arcs::{graph_of, nonzero_flow};
+pub use blocking::{answer_of_cut, find_blocked_answer};
 pub use cutting::minimum_cut;
 pub use fault::SolveFault;
-pub use names::module_of;
+pub use names::module_number;
 pub use open_gate::OpenGate;
 pub use solving::solve;
-pub use start::{Start, preflow_input};
+pub use start::{PreflowInput, preflow_input};
 pub use turn::{Gate, Locked, Look};
 pub use workers::worker;

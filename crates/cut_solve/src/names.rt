@@ -6,7 +6,7 @@ use cut_net::Net;
 use std::alloc::Global;
 
 /// The number of the module of this name. Fails with `NoSuchModule`, or with `Memory`.
-pub fn module_of(alloc: Global, net: &Net, name: &str) -> Result<u32, SolveFault>
+pub fn module_number(alloc: Global, net: &Net, name: &str) -> Result<u32, SolveFault>
     // It is the number of the module with this name, or there is none.
     ensures { IsModuleOr net.now name.now result }
 {

@@ -9,11 +9,11 @@ ghost use Rattle.cut_preflow.specs.Preflow.{count};
 ghost use Rattle.cut_solve.specs.Settling.{arcs_with_flow};
 ghost use Rattle.cut_solve.specs.Starts.{HasReducedWeights, IsPreflowInput};
 
-use crate::arcs::flow_of;
+use crate::arcs::nonzero_flow;
 use crate::cutting::minimum_cut;
 use cut_net::{Cut, Net, Priced};
 use cut_preflow::{NetworkLedger, Preflow};
-use residual_graph::{Arc, marks};
+use residual_graph::{Arc, flag_reachable};
 use std::alloc::{AllocError, Global};
 
 /// The imports as arcs, each with the flow of the preflow on the import of its number.
@@ -41,9 +41,9 @@ fn arcs_with_flow<L: NetworkLedger>(
 }
 
 /// The cheapest cut between two modules that the flow of a preflow without active modules gives, or none.
-/// If a search with the weights as capacities doesn't reach the second module from the first, the flow is maximum, and the search finds the
-/// minimal source side. It doesn't reach it if the capacities of the preflow allow a maximum flow.
-fn quiet_cut<L: NetworkLedger>(
+/// If a search with the weights as capacities doesn't reach the second module from the first, the flow is maximum, and the search finds
+/// the minimal source side. If the capacities of the preflow allow a maximum flow, the search doesn't reach the second module.
+fn cut_of_quiet_preflow<L: NetworkLedger>(
     alloc: Global,
     net: &Net,
     preflow: &Preflow<L>,
@@ -61,18 +61,18 @@ fn quiet_cut<L: NetworkLedger>(
     net.invariants();
     preflow.invariants();
     let arcs = arcs_with_flow(alloc, net.imports(), preflow)?;
-    let source_side = marks(alloc, &arcs, net.nodes(), from)?;
+    let source_side = flag_reachable(alloc, &arcs, net.nodes(), from)?;
     if source_side[to as usize] {
         return Ok(None);
     }
-    let flow = flow_of(alloc, &arcs)?;
+    let flow = nonzero_flow(alloc, &arcs)?;
     let cut = minimum_cut(alloc, net, &source_side, flow, from, to)?;
     Ok(Some(cut))
 }
 
 /// The cheapest cut between two modules, with a flow that proves it, after the calling thread has taken the pushes and relabels that are
 /// left (Goldberg and Tarjan 1988). None if the capacities of the preflow don't allow a maximum flow.
-pub(crate) fn last_pass<L: NetworkLedger>(
+pub(crate) fn settle_and_cut<L: NetworkLedger>(
     alloc: Global,
     net: &Net,
     preflow: &mut Preflow<L>,
@@ -87,5 +87,5 @@ pub(crate) fn last_pass<L: NetworkLedger>(
     ensures found { IsPreflowInput net.now from to preflow.old.trace.net.imports preflow.old.trace.net.source preflow.old.trace.net.sink → IfOk result (λ found. IsSome found) }
 {
     preflow.settle()?;
-    quiet_cut(alloc, net, preflow, from, to)
+    cut_of_quiet_preflow(alloc, net, preflow, from, to)
 }

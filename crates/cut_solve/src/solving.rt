@@ -8,17 +8,17 @@ ghost use Rattle.cut_solve.specs.Faults.{HasOutcome};
 ghost use Rattle.cut_solve.specs.Solving.{AreNeeded, IsSolveOutcome, SolveError};
 ghost use Rattle.cut_solve.specs.Starts.{HasReducedWeights, IsPreflowInput};
 
-use crate::blocking::{as_answer, blocked};
-use crate::lowering::reduced;
-use crate::names::module_of;
-use crate::settling::last_pass;
-use crate::start::{Start, preflow_input};
+use crate::blocking::{answer_of_cut, find_blocked_answer};
+use crate::initial_capacities::reduced;
+use crate::names::module_number;
+use crate::settling::settle_and_cut;
+use crate::start::{PreflowInput, preflow_input};
 use crate::whole::cut_in_net;
 use crate::workers::worker;
 use crate::{Gate, Locked, SolveFault};
 use cut_net::{Answer, Cut, Net};
 use cut_part::between;
-use cut_preflow::{NetworkLedger, PARTS, Preflow, Share};
+use cut_preflow::{LEDGER_PARTS, NetworkLedger, Preflow, Share};
 use std::alloc::{AllocError, Global};
 use std::marker::Brand;
 use std::sync::ledger::Blank;
@@ -89,11 +89,11 @@ fn run_workers<L: NetworkLedger + Send + Sync, R: Threads + Wait + Sync, G: Gate
 
 /// A cheapest cut between two modules, with a flow that proves it, by this number of workers on one preflow, whose ledger is that of
 /// `blank`. None if the capacities of `start` don't allow a maximum flow.
-fn with_ledger<L: NetworkLedger + Send + Sync, R: Threads + Wait + Sync, G: Gate + Sync>(
+fn solve_with_ledger<L: NetworkLedger + Send + Sync, R: Threads + Wait + Sync, G: Gate + Sync>(
     rt: &R,
     alloc: Global,
     blank: Blank,
-    start: Start,
+    start: PreflowInput,
     net: &Net,
     ends: (u32, u32),
     workers: u32,
@@ -110,7 +110,7 @@ fn with_ledger<L: NetworkLedger + Send + Sync, R: Threads + Wait + Sync, G: Gate
 {
     net.invariants();
     let (from, to) = ends;
-    let Start {
+    let PreflowInput {
         imports,
         source,
         sink,
@@ -118,14 +118,14 @@ fn with_ledger<L: NetworkLedger + Send + Sync, R: Threads + Wait + Sync, G: Gate
     let preflow = Preflow::<L>::start_on(alloc, blank, net.nodes(), imports, source, sink)?;
     let mut preflow = run_workers(rt, alloc, preflow, workers, gate)?;
     preflow.invariants();
-    last_pass(alloc, net, &mut preflow, from, to)
+    settle_and_cut(alloc, net, &mut preflow, from, to)
 }
 
-/// A cheapest cut between two modules, as `with_ledger` finds it, with a new ledger.
-fn with_new_ledger<R: Threads + Wait + Sync, G: Gate + Sync>(
+/// A cheapest cut between two modules, as `solve_with_ledger` finds it, with a new ledger.
+fn solve_with_new_ledger<R: Threads + Wait + Sync, G: Gate + Sync>(
     rt: &R,
     alloc: Global,
-    start: Start,
+    start: PreflowInput,
     net: &Net,
     ends: (u32, u32),
     workers: u32,
@@ -137,10 +137,10 @@ fn with_new_ledger<R: Threads + Wait + Sync, G: Gate + Sync>(
     ensures cheapest { IfOk result (λ found. IfSome found (λ cut. IsCheapestAnswer net.now ends.0 ends.1 (cut_claim cut))) }
     ensures found { IsPreflowInput net.now ends.0 ends.1 start.imports.items start.source start.sink → IfOk result (λ found. IsSome found) }
 {
-    with_ledger::<Brand, R, G>(
+    solve_with_ledger::<Brand, R, G>(
         rt,
         alloc,
-        Blank::new(PARTS),
+        Blank::new(LEDGER_PARTS),
         start,
         net,
         ends,
@@ -166,10 +166,10 @@ fn solve_reduced<R: Threads + Wait + Sync, G: Gate + Sync>(
     net.invariants();
     let start = preflow_input(alloc, net, ends.0, ends.1)?;
     let lower = reduced(alloc, net.nodes(), &start)?;
-    if let Some(cut) = with_new_ledger(rt, alloc, lower, net, ends, workers, gate)? {
+    if let Some(cut) = solve_with_new_ledger(rt, alloc, lower, net, ends, workers, gate)? {
         return Ok(cut);
     }
-    match with_new_ledger(rt, alloc, start, net, ends, workers, gate)? {
+    match solve_with_new_ledger(rt, alloc, start, net, ends, workers, gate)? {
         Some(cut) => Ok(cut),
         None => unreachable!(),
     }
@@ -213,11 +213,11 @@ fn answer_between<R: Threads + Wait + Sync, G: Gate + Sync>(
     ensures cheapest { IfOk result (λ answer. IsCheapestAnswerWithPins net.now ends.0 ends.1 (answer_claim answer)) }
 {
     let (from, to) = ends;
-    if let Some(answer) = blocked(alloc, net, from, to)? {
+    if let Some(answer) = find_blocked_answer(alloc, net, from, to)? {
         return Ok(answer);
     }
     let cut = solve_subnetwork(rt, alloc, net, ends, workers, gate)?;
-    Ok(as_answer(net, cut, from, to))
+    Ok(answer_of_cut(net, cut, from, to))
 }
 
 /// A cheapest cut between the modules of two names, or the shortest path of pinned imports, because of which no cut exists.
@@ -245,8 +245,8 @@ pub fn solve<R: Threads + Wait + Sync, G: Gate + Sync>(
     ensures needed { IfOk result (λ answer. AreNeeded net.now from.now to.now (answer_claim answer)) }
 {
     net.invariants();
-    let from = module_of(alloc, net, from)?;
-    let to = module_of(alloc, net, to)?;
+    let from = module_number(alloc, net, from)?;
+    let to = module_number(alloc, net, to)?;
     if from == to {
         return Err(SolveFault::SameModule);
     }

@@ -10,7 +10,7 @@ use std::alloc::{AllocError, Global};
 
 /// Imports in the order of a network's imports, and the source and the sink of a preflow on them.
 #[derive(Drop)]
-pub struct Start {
+pub struct PreflowInput {
     /// The imports, with capacities as amounts.
     pub imports: Vec<Priced>,
     /// The source, a module number.
@@ -29,8 +29,8 @@ fn reduction(alloc: Global, net: &Net, from: u32, to: u32) -> Result<Vec<Priced>
     reduced_capacities(alloc, net.imports(), net.nodes(), &order, from, to)
 }
 
-/// The weight of the imports by a module, at most 2^64 - 1.
-fn weight_from(imports: &[Priced], module: u32) -> u64 {
+/// The sum of the weights of the imports whose importer is this module, capped at 2^64 - 1.
+fn outgoing_weight(imports: &[Priced], module: u32) -> u64 {
     let mut sum = 0u64;
     for import in imports {
         if import.from == module {
@@ -40,8 +40,8 @@ fn weight_from(imports: &[Priced], module: u32) -> u64 {
     sum
 }
 
-/// The weight of the imports of a module, at most 2^64 - 1.
-fn weight_to(imports: &[Priced], module: u32) -> u64 {
+/// The sum of the weights of the imports whose imported module is this one, capped at 2^64 - 1.
+fn incoming_weight(imports: &[Priced], module: u32) -> u64 {
     let mut sum = 0u64;
     for import in imports {
         if import.to == module {
@@ -51,24 +51,29 @@ fn weight_to(imports: &[Priced], module: u32) -> u64 {
     sum
 }
 
-/// The input of a preflow between two modules: imports with reduced capacities. They are reversed if the imports of `to` weigh less than
-/// those by `from`, since less excess has to return then. Fails if an allocation fails.
-pub fn preflow_input(alloc: Global, net: &Net, from: u32, to: u32) -> Result<Start, AllocError>
+/// The input of a preflow between two modules: imports with reduced capacities. They are reversed if the imports into `to` weigh less
+/// than those out of `from`, since less excess has to return then. Fails if an allocation fails.
+pub fn preflow_input(
+    alloc: Global,
+    net: &Net,
+    from: u32,
+    to: u32,
+) -> Result<PreflowInput, AllocError>
     // `from` and `to` are two modules.
     requires { AreEnds net.now from to }
     // The imports are those between the two modules, as they are or reversed, with capacities that allow the same flows.
     ensures { IfOk result (λ s. IsPreflowInput net.now from to s.imports.items s.source s.sink) }
 {
     let imports = reduction(alloc, net, from, to)?;
-    if weight_from(&imports, from) <= weight_to(&imports, to) {
-        return Ok(Start {
+    if outgoing_weight(&imports, from) <= incoming_weight(&imports, to) {
+        return Ok(PreflowInput {
             imports,
             source: from,
             sink: to,
         });
     }
     let imports = reversed_imports(alloc, &imports)?;
-    Ok(Start {
+    Ok(PreflowInput {
         imports,
         source: to,
         sink: from,

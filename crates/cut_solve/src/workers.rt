@@ -14,7 +14,7 @@ use std::thread;
 const MOST_RESTS: u32 = 4096;
 
 /// Yields to other threads this number of times.
-fn rest(times: u32) {
+fn yield_times(times: u32) {
     for _ in 0..times {
         thread::yield_now();
     }
@@ -31,7 +31,7 @@ fn lock_with_backoff<'a, L: NetworkLedger, R: Wait>(
         if let Some(guard) = locked.try_lock() {
             return guard;
         }
-        rest(rests);
+        yield_times(rests);
         rests = rests.saturating_mul(2).min(MOST_RESTS);
     }
     unreachable!()
@@ -53,7 +53,7 @@ pub fn look<L: NetworkLedger>(preflow: &Preflow<L>, worker: u32) -> Look
 }
 
 /// The event that the worker is to try. Without one, flags its share.
-fn event_or_mark<L: NetworkLedger>(
+fn find_event_or_flag<L: NetworkLedger>(
     preflow: &Preflow<L>,
     number: u32,
     share: &mut Share<L>,
@@ -85,7 +85,7 @@ fn next<L: NetworkLedger>(
     if preflow.apply_as(event, share) == Outcome::Refused {
         return None;
     }
-    event_or_mark(preflow, number, share)
+    find_event_or_flag(preflow, number, share)
 }
 
 /// Runs the worker of this number until no module is active or an allocation fails in a step; then the share is marked.
@@ -105,7 +105,8 @@ pub fn worker<L: NetworkLedger, R: Wait, G: Gate>(
     // The share counts at least the steps that it counted before.
     ensures counted { share.count ≤ result.count }
 {
-    let Some(mut event) = event_or_mark(&*lock_with_backoff(rt, locked), number, &mut share) else {
+    let Some(mut event) = find_event_or_flag(&*lock_with_backoff(rt, locked), number, &mut share)
+    else {
         return share;
     };
     let mut turn = 0u64;

@@ -7,7 +7,7 @@ use crate::description::expect;
 use crate::preflows::is_free;
 use crate::worked::{THREE_IMPORTS, describe_answer, net_of};
 use cut_net::Net;
-use cut_preflow::{NetworkLedger, PARTS, Preflow, Share};
+use cut_preflow::{LEDGER_PARTS, NetworkLedger, Preflow, Share};
 use cut_solve::{Gate, Locked, OpenGate, solve, worker};
 use std::alloc::{AllocError, Global};
 use std::marker::Brand;
@@ -197,7 +197,7 @@ fn describe_line_run<R: Threads + Wait + Sync, G: Gate + Sync>(
     if net.nodes() < 2 || !is_free(alloc, &net, 0, 1)? {
         return Err(AllocError);
     }
-    describe_run::<Brand, R, G>(rt, alloc, Blank::new(PARTS), &net, gate)
+    describe_run::<Brand, R, G>(rt, alloc, Blank::new(LEDGER_PARTS), &net, gate)
 }
 
 /// The cut of the path of three imports by this many workers with a gate.

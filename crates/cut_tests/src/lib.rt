@@ -1,4 +1,5 @@
-//! Tests of `residual_graph`, `cut_net`, `cut_part`, `cut_report`, `cut_rules`, `initial_flow`, `cut_preflow`, `cut_check`, `cut_dot`, `cut_solve`
+//! Tests of `residual_graph`, `cut_net`, `cut_part`, `cut_report`, `cut_rules`, `initial_flow`, `cut_preflow`, `cut_check`, `cut_dot`,
+//! `cut_solve`
 //! and `cut_plain`, of what no command shows: pictures by flow, failing sinks, the solver's own calls, workers at gates, the sequential
 //! solver, repeated prices, written networks, paths and rules, and verdicts on results that no report states.
 //! Orders that no contract claims, and the initial flow, are compared with reference implementations.

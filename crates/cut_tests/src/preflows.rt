@@ -6,7 +6,7 @@ ghost use Rattle.cut_preflow.specs.Flows.{AreEnds, network_between};
 use crate::description::expect;
 use crate::worked::{A_WAY_BACK, THREE_IMPORTS, TWO_IMPORTS, append_lines, net_of};
 use cut_net::{Net, Priced};
-use cut_preflow::{Event, NetworkLedger, Outcome, PARTS, Preflow, Share, Step};
+use cut_preflow::{Event, LEDGER_PARTS, NetworkLedger, Outcome, Preflow, Share, Step};
 use cut_solve::workers::look;
 use std::alloc::{AllocError, Global};
 use std::marker::Brand;
@@ -376,7 +376,7 @@ pub(crate) fn try_on(
     if !is_free(alloc, net, ends.0, ends.1)? {
         return Err(AllocError);
     }
-    tried_in::<Brand>(alloc, Blank::new(PARTS), net, ends, trial)
+    tried_in::<Brand>(alloc, Blank::new(LEDGER_PARTS), net, ends, trial)
 }
 
 /// A network, the scenario between its first two modules, and its expected result.

@@ -12,7 +12,7 @@ use std::alloc::{AllocError, Global};
 use std::process::Abort;
 use std::test::Fail;
 use test_doubles::ByOne;
-use text_escape::LocationStyle;
+use texts::LocationStyle;
 
 /// Rules that the tree satisfies.
 const KEPT: &[&[u8]] = &[

@@ -5,7 +5,7 @@ use crate::description::expect;
 use crate::worked::{DIAMOND, TWO_WAYS, net_of};
 use byte_sink::{Sink, SinkFault};
 use cut_net::Net;
-use cut_report::{least_chain_of, write_chain, write_net};
+use cut_report::{shortest_import_path, write_chain, write_net};
 use std::alloc::{AllocError, Global};
 use std::test::Fail;
 use test_doubles::ByOne;
@@ -87,7 +87,7 @@ fn write_path<S: Sink>(
     if !is_unpinned(net) || from >= net.nodes() || to >= net.nodes() {
         return Err(AllocError);
     }
-    match least_chain_of(alloc, net, from, to)? {
+    match shortest_import_path(alloc, net, from, to)? {
         Some(chain) => Ok(Some(is_complete(write_chain(alloc, net, chain.as_slice(), sink))?)),
         None => Ok(None),
     }

@@ -1,4 +1,4 @@
--- The nodes that wait for a node are found along the trail of the edges to it.
+-- The nodes whose current edge leads to a node are found along the linked list of its incoming edges.
 use Rattle.std.proofs.Common.{◌≡◌, ℕ, ◌+◌, List, [], ◌∷◌, ◌++◌, sym, ap, ◌∙◌, arith, inl, inr}
 use Rattle.std.proofs.lemmas.Bool.{cases_eq, cases_lt}
 use Rattle.std.proofs.lemmas.List.{length_push}

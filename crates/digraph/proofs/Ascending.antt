@@ -1,4 +1,4 @@
--- Two lists in one order with the same elements are one list.
+-- Two strictly sorted lists with the same elements are equal.
 use Rattle.std.proofs.Common.{◌≡◌, ℕ, zero, suc, ◌<◌, List, [], ◌∷◌, refl, sym, ◌∙◌, ap, subst, arith}
 use Rattle.std.specs.Prelude.{AllPairs, Contains, IsTrue}
 use Rattle.std.specs.List.Sorted.{IsStrictlySortedBy}
@@ -26,7 +26,7 @@ module _ {X : Type 0} (R : X → X → Type 0) (apart : (x y : X) → R x y → 
   here : (x : X) (xs : List X) → Contains (x ∷ xs) x
   here x xs = (0, omega arith, refl)
 
-  -- the one list's first element is the other's
+  -- the first elements of the two lists are equal
   same_first : (x y : X) (xs ys : List X) → AllPairs R (x ∷ xs) → AllPairs R (y ∷ ys) → Contains (y ∷ ys) x → Contains (x ∷ xs) y → x ≡ y
   same_first x y xs ys a b (zero, l, is) has = sym is
   same_first x y xs ys a b (suc k, l, is) (zero, m, same) = same
@@ -40,7 +40,7 @@ module _ {X : Type 0} (R : X → X → Type 0) (apart : (x y : X) → R x y → 
       absurd (apart x x below below)
   same_rest x y z xs ys a e (suc k, l, is) has = (k, omega arith, is)
 
-  -- two lists in one order with the same elements are one list
+  -- two strictly sorted lists with the same elements are equal
   pub same_members : (xs ys : List X) → AllPairs R xs → AllPairs R ys → ((z : X) → Contains xs z → Contains ys z) → ((z : X) → Contains ys z → Contains xs z) → xs ≡ ys
   same_members [] [] a b to from = refl
   same_members [] (y ∷ ys) a b to from = absurd (let has = from y (here y ys) in let l : has.0 < 0 = has.1 in omega arith)
@@ -64,7 +64,7 @@ both_before p q a b = grind (arith, nat_tests)
 name_pairs : (names : List (List ℕ)) → AreAscending names → AllPairs (λ x y. slice_cmp nat_cmp x y ≡ Less) names
 name_pairs names h i j d lt l = Less-from_sorted (slice_cmp nat_cmp) names i j d h lt l
 
--- of names and of edges
+-- for lists of names and of edges
 pub same_names : (a b : List (List ℕ)) → AreAscending a → AreAscending b → ((n : List ℕ) → Contains a n → Contains b n) → ((n : List ℕ) → Contains b n → Contains a n) → a ≡ b
 same_names a b g h to from = same_members (λ x y. slice_cmp nat_cmp x y ≡ Less) both_less a b (name_pairs a g) (name_pairs b h) to from
 

@@ -1,4 +1,4 @@
--- Rows of the nodes with an edge to each node.
+-- Lists of predecessors for each node.
 use Rattle.std.proofs.Common.{◌≡◌, ℕ, suc, ◌+◌, ◌<◌, List, [], ◌∷◌, ◌++◌, length, map, take, refl, sym, ap, ◌∙◌, arith, inl, inr, eq-eqb, subst}
 use Rattle.std.specs.Prelude.{filter, slice_set, ◌==◌}
 use Rattle.std.proofs.lemmas.Bool.{cases_eq, cases_Bool, false_from_ne_true, eqb-true}
@@ -37,7 +37,7 @@ rows_more edges rows new k l within old is v =
           other ∙ old v ∙ sym (predecessors_more edges k v l ∙ ap (λ (r : List ℕ). predecessors (take k edges) v ++ r) none ∙ append-nil (predecessors (take k edges) v))
     ]
 
--- the other way round
+-- the converse
 pub predecessors_flipped : (edges : List Edge) (v : ℕ) → predecessors (map transposed edges) v ≡ successors edges v
 predecessors_flipped [] v = refl
 predecessors_flipped (p ∷ ps) v = elim (cases_Bool (p.from == v)) [

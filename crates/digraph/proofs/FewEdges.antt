@@ -1,4 +1,4 @@
--- Ascending edges between few nodes are few.
+-- A bound on the number of strictly sorted edges between few nodes.
 use Rattle.std.proofs.Common.{ℕ, zero, suc, ◌+◌, ◌*◌, ◌<◌, ◌≤◌, List, length, arith}
 use Rattle.std.specs.Prelude.{IsTrue}
 use Rattle.std.proofs.lemmas.Bool.Decides.{nat_tests}

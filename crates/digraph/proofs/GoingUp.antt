@@ -1,4 +1,4 @@
--- A shortest path from its end up to its start.
+-- The shortest path, from its end up to its start.
 use Rattle.std.proofs.Common.{◌≡◌, ℕ, ◌+◌, ◌-◌, ◌≤◌, ◌<◌, inl, inr, List, [], ◌∷◌, ◌++◌, length, reverse, refl, sym, ◌∙◌, ap, subst, arith, Bool, false, Option, Some, None, length-append, append_assoc}
 use Rattle.std.specs.Prelude.{All, IfNone}
 use Rattle.std.proofs.lemmas.List.{append-nil, length-reverse, reverse-append}
@@ -13,7 +13,7 @@ use Rattle.digraph.proofs.Members.{first_member, one_member}
 use Rattle.digraph.proofs.Parents.{some_or_none}
 use Rattle.digraph.proofs.Searching.{path_some}
 
--- how many nodes may still be appended, and one for the last test
+-- how many nodes may still be appended, plus one for the last test
 abbrev pub steps_left : List (Option ℕ) → List ℕ → Option ℕ → ℕ
 steps_left parents path None = 0
 steps_left parents path (Some at) = length parents - length path + 1
@@ -22,7 +22,7 @@ module _ (edges : List Edge) (starts : List ℕ) (barrier : List Bool) (search :
   abbrev IsShortest : ℕ → List ℕ → Type 0
   IsShortest v p = IsShortestPath (Leads edges) starts barrier v p
 
-  -- the nodes so far come after each shortest path of the next one; without a next one they are all
+  -- the nodes so far follow each shortest path to the next node; without a next node they are the whole path
   abbrev pub GoesUp : ℕ → List ℕ → Option ℕ → Type 0
   GoesUp end path (Some at) = ((u : ℕ) × (parent_of search.parents.items at ≡ Some u)) × ((before : List ℕ) → IsShortest at before → IsShortest end (before ++ reverse path))
   GoesUp end path None = IsShortest end (reverse path)
@@ -45,7 +45,7 @@ module _ (edges : List Edge) (starts : List ℕ) (barrier : List Bool) (search :
         let e = own u from in
         subst (IsShortest end) (sym pushed) (up.1 (at ∷ []) (is.start at (from ∙ ap (λ (n : ℕ). Some n) (sym e))))
 
-    -- a node is left, so the nodes so far are fewer than all
+    -- a node is left, so the path has fewer nodes so far than the graph
     pub goes_up_within : length path < length search.parents.items
     goes_up_within =
         let (u, from) = up.0 in
@@ -67,7 +67,7 @@ module _ (edges : List Edge) (starts : List ℕ) (barrier : List Bool) (search :
     steps_fewer (Some u) = (let low = goes_up_within in let size = length-append path (at ∷ []) in omega arith)
     steps_fewer None = omega arith
 
--- ---- from one start, around nothing
+-- ---- from one start, without a barrier
 
 none_marked : (more : List ℕ) → All (λ n. marked [] n ≡ false) more
 none_marked more k d within = refl

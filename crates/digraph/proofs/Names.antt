@@ -1,4 +1,4 @@
--- Names in order, by their bytes, and where a name stands in a list.
+-- Sorted names, and the index of a name in a list.
 use Rattle.std.proofs.Common.{◌≡◌, ℕ, ◌+◌, Bool, true, false, cond, not, ◌||◌, List, [], ◌∷◌, get_or, map, refl, sym, ap, ◌∙◌, arith, Ordering}
 use Rattle.std.specs.Prelude.{String}
 use Rattle.std.specs.List.{IsDistinct, list_any, position, prefix_len}
@@ -17,7 +17,7 @@ use Rattle.std.proofs.lemmas.Slice.Eq.{bytes_eq-Decides}
 pub same_is : (a b : List ℕ) → a ≡ b → bytes_eq a b ≡ true
 same_is a b e = (bytes_eq-Decides a b).1 e
 
--- two texts that are apart and not the other way round are in order
+-- two different texts of which the second isn't smaller are sorted
 pub below : (a b : List ℕ) → is_lt (slice_cmp nat_cmp b a) ≡ false → (a ≡ b → ⊥) → slice_cmp nat_cmp a b ≡ Less
 below a b not_less apart = by (slice_cmp nat_cmp a b) refl
   where
@@ -26,13 +26,13 @@ below a b not_less apart = by (slice_cmp nat_cmp a b) refl
     by Equal e = absurd (apart ((bytes_eq-Decides a b).0 (sym (is_eq-slice_cmp a b) ∙ ap is_eq e)))
     by Greater e = absurd (false≢true (sym not_less ∙ ap is_lt (nat_list_cmp_total.antisymm b a ∙ ap ordering_reverse e)))
 
--- names in order that are apart ascend
+-- sorted names that differ are strictly sorted
 pub apart_ascend : (names : List (List ℕ)) → IsSorted (slice_cmp nat_cmp) names → IsDistinct bytes_eq names → IsStrictlySortedBy (slice_cmp nat_cmp) names
 apart_ascend names sorted once = sorted_from_all_adjacent nat_list_cmp_total names [] (λ k within.
     below (get_or names k []) (get_or names (k + 1) []) (sorted k [] (omega arith) within) (λ alike.
     false≢true (sym (apart_from_distinct bytes_eq names k (k + 1) [] once (omega arith) within) ∙ same_is (get_or names k []) (get_or names (k + 1) []) alike)))
 
--- names that ascend are apart
+-- strictly sorted names differ
 pub ascending_apart : (ns : List (List ℕ)) → IsStrictlySortedBy (slice_cmp nat_cmp) ns → IsDistinct bytes_eq ns
 ascending_apart ns up = IsDistinct-from_apart bytes_eq ns (λ i j d lt l. sym (is_eq-slice_cmp (get_or ns i d) (get_or ns j d)) ∙ ap is_eq (Less-from_sorted (slice_cmp nat_cmp) ns i j d up lt l))
 

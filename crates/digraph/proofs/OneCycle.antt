@@ -1,4 +1,4 @@
--- At most one cycle is named, and none where no chain of edges comes back.
+-- The canonical cycle is unique, and an acyclic graph has none.
 use Rattle.std.proofs.Common.{◌≡◌, ℕ, zero, suc, ◌+◌, ◌-◌, ◌<◌, ◌≤◌, inl, inr, List, [], ◌∷◌, ◌++◌, length, refl, sym, ◌∙◌, ap, subst, arith, Bool, length-append, length-drop, take, drop}
 use Rattle.std.specs.Prelude.{slice_index, nat_eq, All}
 use Rattle.std.specs.List.{IsDistinct}
@@ -12,7 +12,7 @@ use Rattle.digraph.specs.Chains.{Chain, IsAcyclic}
 use Rattle.digraph.specs.Cycle.{ClosesAt, IsCycleCore, IsLeast, IsNext, IsRotated, IsWalk, IsCanonicalCycle}
 use Rattle.digraph.proofs.Walks.{All-prefix, All-back}
 
--- the same nodes are members
+-- two cycle cores have the same members
 abbrev AreSame : (ℕ → Bool) → (ℕ → Bool) → Type 0
 AreSame s t = (v : ℕ) → s v ≡ t v
 
@@ -37,7 +37,7 @@ same_next G s t e v w x y same a b =
     let down : y ≤ w = b.least w (subst (λ (u : ℕ). G u w) same a.leads) (sym (e w) ∙ a.member) in
     omega arith
 
--- two walks go together as far as both go
+-- two walks agree as far as both go
 together : (G : ℕ → ℕ → Type 0) (s t : ℕ → Bool) → AreSame s t → (xs ys : List ℕ) → IsWalk G s xs → IsWalk G t ys → (k : ℕ) → k < length xs → k < length ys
     → slice_index xs k ≡ slice_index ys k
 together G s t e xs ys a b zero l m = same_least s t e (slice_index xs 0) (slice_index ys 0) (a.begins l) (b.begins m)
@@ -47,7 +47,7 @@ together G s t e xs ys a b (suc k) l m =
     subst (λ (n : ℕ). slice_index xs n ≡ slice_index ys n) one
     (same_next G s t e (slice_index xs k) (slice_index xs (k + 1)) (slice_index ys k) (slice_index ys (k + 1)) before (a.goes_on k (omega arith)) (b.goes_on k (omega arith)))
 
--- numbers at two places of a list without repeats differ
+-- numbers at two different indices of a list without repeats differ
 two_places : (xs : List ℕ) → IsDistinct nat_eq xs → (i j : ℕ) → i < j → j < length xs → slice_index xs i ≡ slice_index xs j → ⊥
 two_places xs once i j lt l same = false≢true (sym (apart_from_distinct nat_eq xs i j 0 once lt l) ∙ eq-eqb (slice_index xs i) (slice_index xs j) same)
 
@@ -60,7 +60,7 @@ one_place xs once i j l m same = elim (cases_order i j) [
   ]
 ]
 
--- a walk that came back doesn't go on
+-- a walk whose next node repeats doesn't continue
 not_shorter : (G : ℕ → ℕ → Type 0) (s t : ℕ → Bool) → AreSame s t → (xs ys : List ℕ) (p : ℕ) → ClosesAt G s xs p → IsWalk G t ys → length xs < length ys → ⊥
 not_shorter G s t e xs ys p a b lt =
     let n = length xs - 1 in
@@ -99,7 +99,7 @@ same_places G s t e xs ys p q a b =
     let back : slice_index xs p ≡ slice_index ys q = same_next G s t e (slice_index xs n) (slice_index xs p) (slice_index ys n) (slice_index ys q) here (a.back n last) (b.back n last') in
     one_place xs a.walked.once p q within (omega arith) (back ∙ ap (λ (l : List ℕ). slice_index l q) (sym lists))
 
--- where a list was turned
+-- the index at which a list was rotated
 record TurnedAt (loop rotated : List ℕ) (place : ℕ) : Type 0 where
   pub within : place < length loop
   pub is : rotated ≡ drop place loop ++ take place loop
@@ -114,14 +114,14 @@ turned_by loop rotated prefix (y ∷ ys) some whole rotate_to_min =
     let fore : take (length prefix) loop ≡ prefix = ap (take (length prefix)) whole ∙ take-append_seam prefix (y ∷ ys) in
     (length prefix, record { within = omega arith; is = rotate_to_min ∙ rw (back, fore) refl })
 
--- the turned list begins with what stands at the place
+-- the rotated list begins with the element at that index
 begins_at : (loop rotated : List ℕ) (place : ℕ) → TurnedAt loop rotated place → slice_index rotated 0 ≡ slice_index loop place
 begins_at loop rotated place t =
     let within : place < length loop = t.within in
     let some : 0 < length (drop place loop) = (let e = length-drop place loop in omega arith) in
     ap (λ (l : List ℕ). slice_index l 0) t.is ∙ get_or_append_left (drop place loop) (take place loop) 0 0 some ∙ get_or-drop place loop 0 0 ∙ ap (slice_index loop) (omega arith)
 
--- what holds of the turned list holds of the loop
+-- a property of all elements of the rotated list holds for the list
 loop_has : (P : ℕ → Type 0) (loop rotated : List ℕ) (place : ℕ) → TurnedAt loop rotated place → All P rotated → All P loop
 loop_has P loop rotated place t all =
     let parts : All P (drop place loop ++ take place loop) = subst (All P) t.is all in
@@ -150,7 +150,7 @@ rest_distinct xs p once = IsDistinct-from_apart nat_eq (drop p xs) (λ i j d lt 
     let inside : p + j < length xs = (let e = length-drop p xs in omega arith) in
     rw (get_or-drop p xs i d, get_or-drop p xs j d) (apart_from_distinct nat_eq xs (p + i) (p + j) d once (omega arith) inside))
 
--- at most one cycle is named
+-- the canonical cycle is unique
 pub one_cycle : (G : ℕ → ℕ → Type 0) (a b : List ℕ) → IsCanonicalCycle G a → IsCanonicalCycle G b → a ≡ b
 one_cycle G a b s t =
     let e : AreSame s.core_nodes t.core_nodes = same_endlesss G s.core_nodes t.core_nodes s.is_core t.is_core in
@@ -161,7 +161,7 @@ one_cycle G a b s t =
     let some : 0 < length (drop s.place s.walk) = (let l = length-drop s.place s.walk in omega arith) in
     same_turns (drop s.place s.walk) a b some (rest_distinct s.walk s.place s.closes_at.walked.once) s.rotated (subst (λ (l : List ℕ). IsRotated l b) loops t.rotated)
 
--- a walk is a chain
+-- a walk is a path
 walk_chain : (G : ℕ → ℕ → Type 0) (s : ℕ → Bool) (walk : List ℕ) → IsWalk G s walk → (d k : ℕ) → k + d < length walk
     → Chain G (slice_index walk k) (slice_index walk (k + d))
 walk_chain G s walk w zero k l = ([], ap (slice_index walk) (let e : k ≡ k + 0 = omega arith in e))
@@ -171,7 +171,7 @@ walk_chain G s walk w (suc d) k l =
     let end : k + 1 + d ≡ k + suc d = omega arith in
     subst (λ (n : ℕ). Chain G (slice_index walk k) (slice_index walk n)) end (slice_index walk (k + 1) ∷ rest.0, (next.leads, rest.1))
 
--- where a cycle is named, a chain comes back
+-- a canonical cycle is a cycle of the graph
 pub cyclic : (G : ℕ → ℕ → Type 0) (cycle : List ℕ) → IsCanonicalCycle G cycle → IsAcyclic G → ⊥
 cyclic G cycle c acyclic =
     let n = length c.walk - 1 in

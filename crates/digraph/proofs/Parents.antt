@@ -1,4 +1,4 @@
--- Parents of nodes, and those that a step of a search gives.
+-- Parents of nodes, and the parents that a step of a search sets.
 use Rattle.std.proofs.Common.{◌≡◌, ◌≢◌, ℕ, zero, suc, ◌<◌, ◌⊎◌, inl, inr, List, [], ◌∷◌, ◌++◌, length, get_or, set, refl, sym, ◌∙◌, ap, subst, arith, Bool, Option, Some, None, true, false, cond, replicate, take, length-append}
 use Rattle.std.specs.Prelude.{AllPairs, Contains, is_some}
 use Rattle.std.proofs.lemmas.Bool.{cases_eq, cases_lt}
@@ -10,7 +10,7 @@ use Rattle.digraph.specs.Marks.{marked}
 use Rattle.digraph.specs.Search.{parent_of, undiscovered, AreDiscovered}
 use Rattle.digraph.proofs.Members.{no_member}
 
--- a value is there or is not
+-- an optional value is present or absent
 pub some_or_none : (o : Option ℕ) → ((j : ℕ) × (o ≡ Some j)) ⊎ (o ≡ None)
 some_or_none (Some j) = inl (j, refl)
 some_or_none None = inr refl
@@ -21,7 +21,7 @@ never_both o j some none = absurd (let e : Some j ≡ None = sym some ∙ none i
 pub same_value : (o : Option ℕ) (i j : ℕ) → o ≡ Some i → o ≡ Some j → i ≡ j
 same_value o i j a b = let e : Some i ≡ Some j = sym a ∙ b in cc
 
--- a node with a parent is one of those that the list is of
+-- a node with a parent has an index within the list
 pub parent_within : (parents : List (Option ℕ)) (v u : ℕ) → parent_of parents v ≡ Some u → v < length parents
 parent_within parents v u is = elim (cases_lt v (length parents)) [
   | inl lt ↦ lt
@@ -37,7 +37,7 @@ pub none_discovered : (n : ℕ) → undiscovered (replicate n None) ≡ n
 none_discovered zero = refl
 none_discovered (suc n) = let rest = none_discovered n in omega (arith, sum_by-cons (λ (o : Option ℕ). cond (is_some o) 0 1) None (replicate n None))
 
--- whether there is a value, by the test
+-- whether an optional value is present, by the test
 pub none_if : (o : Option ℕ) → is_some o ≡ false → o ≡ None
 none_if (Some j) e = absurd cc
 none_if None e = refl
@@ -46,7 +46,7 @@ pub some_if : (o : Option ℕ) → is_some o ≡ true → (j : ℕ) × (o ≡ So
 some_if (Some j) e = (j, refl)
 some_if None e = absurd cc
 
--- each of the first so many of ascending nodes is below the next
+-- in a strictly sorted list each earlier node is below the next
 pub above_before : (nodes : List ℕ) (i v : ℕ) → AllPairs (λ x y. x < y) nodes → i < length nodes → Contains (take i nodes) v → v < get_or nodes i 0
 above_before nodes i v ascending within (k, lt, is) =
     let size = length-take i nodes in
@@ -54,7 +54,7 @@ above_before nodes i v ascending within (k, lt, is) =
     let e : get_or nodes k 0 ≡ v = get_or_default nodes k 0 v (omega arith) ∙ sym (get_or-take i nodes k v low) ∙ is in
     subst (λ (n : ℕ). n < get_or nodes i 0) e (ascending k i 0 low within)
 
--- ---- one node more
+-- ---- one more node
 
 pub discovered_none : (barrier : List Bool) (given : ℕ → ℕ) (old : List (Option ℕ)) → AreDiscovered [] barrier given old old []
 discovered_none barrier given old = record {
@@ -68,7 +68,7 @@ discovered_none barrier given old = record {
 }
 
 module _ (nodes : List ℕ) (barrier : List Bool) (given : ℕ → ℕ) (old now : List (Option ℕ)) (found : List ℕ) (are : AreDiscovered nodes barrier given old now found) (n : ℕ) where
-  -- a marked node, or one with a parent, stays as it is
+  -- a flagged node, or a node with a parent, is unchanged
   pub discovered_same : (marked barrier n ≡ true) ⊎ ((u : ℕ) × (parent_of now n ≡ Some u)) → AreDiscovered (nodes ++ n ∷ []) barrier given old now found
   discovered_same reason = record {
     size = are.size;
@@ -89,7 +89,7 @@ module _ (nodes : List ℕ) (barrier : List Bool) (given : ℕ → ℕ) (old now
     count = are.count;
   }
 
-  -- one that has neither is found
+  -- an unflagged node without a parent is discovered
   pub discovered_more : parent_of now n ≡ None → marked barrier n ≡ false → n < length now → ((v : ℕ) → Contains nodes v → v < n) →
       AreDiscovered (nodes ++ n ∷ []) barrier given old (set now n (Some (given n))) (found ++ n ∷ [])
   discovered_more none unmarked within above =

@@ -1,4 +1,4 @@
--- Paths in order: the shorter ones first, and of those as long the ones with smaller nodes.
+-- The order of paths: by length, then lexicographically.
 use Rattle.std.proofs.Common.{◌≡◌, ◌≢◌, ℕ, ◌≤◌, ◌<◌, ◌⊎◌, inl, inr, List, [], ◌∷◌, ◌++◌, length, refl, sym, ◌∙◌, ap, subst, arith, Ordering, length-append}
 use Rattle.std.specs.Cmp.{nat_cmp_is}
 use Rattle.std.specs.Cmp.Lexicographic.{slice_cmp, nat_list_cmp_total}
@@ -7,11 +7,11 @@ use Rattle.std.specs.declared.cmp.Ordering.TheVariants.{Less, Equal, Greater}
 use Rattle.std.proofs.lemmas.Map.Lookups.{exact_bytes}
 use Rattle.digraph.specs.ShortestPaths.{IsLeastOf}
 
--- the one path is shorter than the other, or as long and smaller
+-- the first path is shorter than the second, or equally long and lexicographically smaller
 abbrev pub IsBefore : List ℕ → List ℕ → Type 0
 IsBefore p q = (length p < length q) ⊎ ((length p ≡ length q) × (slice_cmp nat_cmp p q ≡ Less))
 
--- or the same
+-- or equal
 abbrev pub IsUpTo : List ℕ → List ℕ → Type 0
 IsUpTo p q = IsBefore p q ⊎ (p ≡ q)
 
@@ -79,7 +79,7 @@ up_to_trans p q r first second = elim first [
   | inr same ↦ subst (λ (l : List ℕ). IsUpTo l r) (sym same) second
 ]
 
--- a path that is up to all others is the shortest one
+-- a path that precedes or equals all others is the shortest one
 up_to_long : (p q : List ℕ) → IsUpTo p q → length p ≤ length q
 up_to_long p q up = elim up [
   | inl before ↦ elim before [ inl shorter ↦ omega arith | inr (size, less) ↦ omega arith ]
@@ -106,7 +106,7 @@ least_up_to Are p is up = record {
   least = λ q are size. up_to_least p q (up q are) size;
 }
 
--- ---- there is one least list
+-- ---- the smallest list is unique
 
 neither : (o p : Ordering) → o ≡ ordering_reverse p → o ≢ Greater → p ≢ Greater → o ≡ Equal
 neither o Less e first second = absurd (first e)

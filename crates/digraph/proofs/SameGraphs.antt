@@ -1,4 +1,4 @@
--- Two graphs in which the same nodes lead to each other have the same cycles.
+-- Two graphs with equal edge relations have equal cycles.
 use Rattle.std.proofs.Common.{ℕ, List, [], ◌∷◌, Bool}
 use Rattle.std.specs.Prelude.{◌↔◌}
 use Rattle.digraph.specs.Chains.{IsAcyclic, IsChain}

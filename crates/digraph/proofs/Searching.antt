@@ -1,4 +1,4 @@
--- A breadth-first search, node after node of its queue.
+-- Breadth-first search, for each node of its queue.
 use Rattle.std.proofs.Common.{◌≡◌, ℕ, ◌+◌, ◌-◌, ◌≤◌, ◌<◌, ◌⊎◌, inl, inr, List, [], ◌∷◌, ◌++◌, length, get_or, refl, sym, ◌∙◌, ap, subst, arith, Bool, Option, Some, None, false, cond, replicate, length-append, append_assoc}
 use Rattle.std.specs.Prelude.{All, Contains, is_some}
 use Rattle.std.proofs.lemmas.Bool.{cases_eq, cases_lt}
@@ -15,7 +15,7 @@ use Rattle.digraph.proofs.Parents.{never_both, no_parent, none_discovered, paren
 use Rattle.digraph.proofs.PathOrder.{before_push, before_push_same, least_up_to, one_least, up_to_append, up_to_trans, IsBefore, IsUpTo}
 use Rattle.digraph.proofs.Successors.{successor}
 
--- ---- paths with one node more
+-- ---- paths with one more node
 
 chain_push : (leads : ℕ → ℕ → Type 0) (m : ℕ) (more : List ℕ) (n v : ℕ) → IsChain leads m more n → leads n v → IsChain leads m (more ++ v ∷ []) v
 chain_push leads m [] n v is step = (subst (λ (k : ℕ). leads k v) (sym is) step, refl)
@@ -31,12 +31,12 @@ path_some leads starts barrier v (m ∷ more) is = omega arith
 
 -- ---- the search so far
 
--- of the node with this parent: it is a start and its own parent, or its path is that of one of the first so many nodes of the queue, and itself
+-- a node with this parent is a start and its own parent, or its path is the path of one of the first nodes of the queue, followed by it
 abbrev pub ComesFrom : List ℕ → ℕ → (ℕ → List ℕ) → ℕ → ℕ → Type 0
 ComesFrom queue next path v u =
     ((u ≡ v) × (path v ≡ v ∷ [])) ⊎ ((k : ℕ) × (k < next) × (get_or queue k 0 ≡ u) × (path v ≡ path u ++ v ∷ []))
 
--- the nodes with a parent have these paths, of which those of the queue come in order, and the successors of its first so many nodes have parents
+-- the nodes with a parent have these paths, the queue is sorted by path, and the successors of its first nodes have parents
 pub record HasPaths (edges : List Edge) (starts : List ℕ) (barrier : List Bool) (nodes : ℕ) (parents : List (Option ℕ)) (queue : List ℕ) (next : ℕ) (path : ℕ → List ℕ) : Type 0 where
   pub size : length parents ≡ nodes
   pub are_paths : (v u : ℕ) → parent_of parents v ≡ Some u → IsPathAround (Leads edges) starts barrier v (path v)
@@ -80,14 +80,14 @@ searching_starts edges starts barrier nodes parents queue are =
     }
 
 module _ (edges : List Edge) (starts : List ℕ) (barrier : List Bool) (nodes : ℕ) (parents : List (Option ℕ)) (queue : List ℕ) (next : ℕ) (path : ℕ → List ℕ) (s : HasPaths edges starts barrier nodes parents queue next path) where
-  -- a node's parent has one too
+  -- a node's parent has a parent too
   pub parent_has : (v u : ℕ) → next ≤ length queue → parent_of parents v ≡ Some u → (w : ℕ) × (parent_of parents u ≡ Some w)
   parent_has v u le is = elim (s.from v u is) [
     | inl (own, alone) ↦ (u, ap (parent_of parents) own ∙ is)
     | inr (k, lt, at, more) ↦ s.discovered u (subst (Contains queue) at (Contains-get_or queue k 0 (omega arith)))
   ]
 
-  -- each node of the queue is one of all
+  -- each node of the queue is a node of the graph
   queue_within : (k : ℕ) → k < length queue → get_or queue k 0 < nodes
   queue_within k lt =
       let own = s.discovered (get_or queue k 0) (Contains-get_or queue k 0 lt) in
@@ -97,7 +97,7 @@ module _ (edges : List Edge) (starts : List ℕ) (barrier : List Bool) (nodes : 
 
   -- ---- the next node of the queue
 
-  -- its path with a node more comes after the path of each node that has a parent
+  -- the path of the node, with one more node, comes after the path of each node that has a parent
   below_next : (v u w : ℕ) → next < length queue → parent_of parents v ≡ Some u → IsBefore (path v) (path (get_or queue next 0) ++ w ∷ [])
   below_next v u w lt is =
       let last = get_or queue next 0 in
@@ -114,7 +114,7 @@ module _ (edges : List Edge) (starts : List ℕ) (barrier : List Bool) (nodes : 
     abbrev node : ℕ
     node = get_or queue next 0
 
-    -- the paths of those that had a parent stay, and the others come from the node
+    -- nodes that had a parent keep their paths, and the others get theirs from the current node
     abbrev longer : ℕ → List ℕ
     longer v = cond (is_some (parent_of parents v)) (path v) (path node ++ v ∷ [])
 
@@ -255,7 +255,7 @@ module _ (edges : List Edge) (starts : List ℕ) (barrier : List Bool) (nodes : 
     abbrev IsPath : ℕ → List ℕ → Type 0
     IsPath v p = IsPathAround (Leads edges) starts barrier v p
 
-    -- a path that goes on from a node with a parent leads to one with a parent, whose own path is up to it
+    -- a path that continues from a node with a parent leads to a node with a parent, whose own path precedes or equals it
     goes_on : (m u : ℕ) → parent_of parents m ≡ Some u → (more : List ℕ) (v : ℕ) → IsChain (Leads edges) m more v → All (λ n. marked barrier n ≡ false) more →
         (w : ℕ) × (parent_of parents v ≡ Some w) × IsUpTo (path v) (path m ++ more)
     goes_on m u is [] v chain unmarked = (u, ap (parent_of parents) (sym chain) ∙ is, inr (ap path (sym chain) ∙ sym (append-nil (path m))))
@@ -281,7 +281,7 @@ module _ (edges : List Edge) (starts : List ℕ) (barrier : List Bool) (nodes : 
     shortest : (v u : ℕ) → parent_of parents v ≡ Some u → IsShortestPath (Leads edges) starts barrier v (path v)
     shortest v u is = least_up_to (IsPath v) (path v) (s.are_paths v u is) (λ other are. (reached v other are).2)
 
-    -- the path of a node that is its own parent has no other one
+    -- a node that is its own parent has no other path
     alone : (v : ℕ) → parent_of parents v ≡ Some v → path v ≡ v ∷ []
     alone v is = elim (s.from v v is) [
       | inl (_, one) ↦ one

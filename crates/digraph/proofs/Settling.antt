@@ -1,4 +1,4 @@
--- Marks that are taken away one by one, until each marked node leads to a marked one.
+-- Candidates are removed one by one, until each candidate has an edge to a candidate.
 use Rattle.std.proofs.Common.{◌≡◌, ℕ, zero, suc, ◌+◌, ◌*◌, ◌<◌, ◌≤◌, inl, inr, List, [], ◌∷◌, ◌++◌, length, refl, sym, ◌∙◌, ap, subst, arith, Bool, true, false, length-append}
 use Rattle.std.specs.Prelude.{Contains, slice_index_or, slice_set, replicate}
 use Rattle.std.proofs.lemmas.Bool.{cases_eq, cases_lt, false≢true}
@@ -11,7 +11,7 @@ use Rattle.digraph.specs.Marks.{missing_item, edge_at, marked, mark_count, index
 use Rattle.digraph.specs.Incoming.{AreDependents}
 use Rattle.digraph.specs.Edges.{AreBetween, IsAscending, Leads, comes_before}
 
--- the place of an edge between two nodes
+-- the index of an edge between two nodes
 pub record PlaceOf (edges : List Edge) (v w : ℕ) : Type 0 where
   pub place : ℕ
   pub within : place < length edges
@@ -43,7 +43,7 @@ pub to_ascends : (edges : List Edge) (j k : ℕ) → IsAscending edges → j < k
     → (edge_at edges j).to < (edge_at edges k).to
 to_ascends edges j k up lt l same = before_to (edge_at edges j) (edge_at edges k) (up j k missing_item lt l) same
 
--- where another node's edge stands, the node has no more
+-- from the index of another node's edge on, the node has no further edge
 pub passed_beyond : (edges : List Edge) (marks : List Bool) (v start p : ℕ) → IsAscending edges → StartsFrom edges v start → start ≤ p → p < length edges
     → ((edge_at edges p).from ≡ v → ⊥) → ArePassed edges marks v start p → ArePassed edges marks v start (length edges)
 passed_beyond edges marks v start p up starts le l other passed k low _ inside is = elim (cases_lt k p) [
@@ -54,7 +54,7 @@ passed_beyond edges marks v start p up starts le l other passed k low _ inside i
       absurd (other (omega arith))
 ]
 
--- one more edge before those that are known
+-- one more edge before those that were inspected
 pub starts_more : (edges : List Edge) (nodes : ℕ) (places : List ℕ) (p : ℕ) → IsAscending edges → p < length edges → ((v : ℕ) → v < nodes → StartsFrom edges v (index_at places v))
     → (v : ℕ) → v < nodes → StartsFrom edges v (index_at (slice_set places (edge_at edges p).from p) v)
 starts_more edges nodes places p up l starts v in_nodes k low inside = elim (cases_eq v (edge_at edges p).from) [
@@ -90,13 +90,13 @@ above_more edges places p l here above k le inside = elim (cases_eq (edge_at edg
       ]
 ]
 
--- a mark stands within the list
+-- a set flag has an index within the list
 pub marked_below : (marks : List Bool) (v : ℕ) → marked marks v ≡ true → v < length marks
 marked_below [] v h = cc
 marked_below (b ∷ bs) zero h = omega arith
 marked_below (b ∷ bs) (suc v) h = let l : v < length bs = marked_below bs v h in omega arith
 
--- there is one mark less
+-- one flag fewer is set
 pub mark_count-without : (marks : List Bool) (v : ℕ) → marked marks v ≡ true → mark_count (slice_set marks v false) + 1 ≡ mark_count marks
 mark_count-without [] v h = cc
 mark_count-without (true ∷ bs) zero h = refl
@@ -104,7 +104,7 @@ mark_count-without (false ∷ bs) zero h = cc
 mark_count-without (true ∷ bs) (suc v) h = ap (λ n. n + 1) (mark_count-without bs v h)
 mark_count-without (false ∷ bs) (suc v) h = mark_count-without bs v h
 
--- a node in a set each of whose members leads to a member has an edge
+-- a node in a set each of whose members has an edge to a member has an edge
 inside_nodes : (edges : List Edge) (nodes : ℕ) → AreBetween edges nodes → (t : ℕ → Bool) → EachLeadsToMember (Leads edges) t → (v : ℕ) → t v ≡ true → v < nodes
 inside_nodes edges nodes between t each v h =
     let m = each v h in
@@ -121,7 +121,7 @@ settling_first edges nodes marks places again between full size starts all = rec
   greatest = λ t each v h. rw full (get_or-replicate nodes v true false (inside_nodes edges nodes between t each v h));
 }
 
--- a node without a mark need not be looked at again
+-- a node that is no candidate need not be inspected again
 pub settling_unmarked : (edges : List Edge) (nodes : ℕ) (marks : List Bool) (places again : List ℕ) (v : ℕ) → IsPruning edges nodes marks places (again ++ v ∷ [])
     → marked marks v ≡ false → IsPruning edges nodes marks places again
 settling_unmarked edges nodes marks places again v s off = record {
@@ -139,7 +139,7 @@ settling_unmarked edges nodes marks places again v s off = record {
   greatest = s.greatest;
 }
 
--- a node that leads on to a marked one from a later place need not either
+-- a node with a later edge to a candidate need not be inspected again either
 pub settling_placed : (edges : List Edge) (nodes : ℕ) (marks : List Bool) (places again : List ℕ) (v p : ℕ) → IsPruning edges nodes marks places (again ++ v ∷ [])
     → marked marks v ≡ true → index_at places v ≤ p → LeadsToMarked edges marks v p → ArePassed edges marks v (index_at places v) p
     → IsPruning edges nodes marks (slice_set places v p) again
@@ -176,7 +176,7 @@ settling_placed edges nodes marks places again v p s on later leads passed =
       greatest = s.greatest;
     }
 
--- a node that leads to no marked one loses its mark, and those that wait for it are looked at again
+-- a node without an edge to a candidate is removed, and the nodes whose current edge leads to it are inspected again
 pub settling_without : (edges : List Edge) (nodes : ℕ) (marks : List Bool) (places again row : List ℕ) (v : ℕ) → IsPruning edges nodes marks places (again ++ v ∷ [])
     → AreDependents edges places v row → marked marks v ≡ true → ArePassed edges marks v (index_at places v) (length edges)
     → IsPruning edges nodes (slice_set marks v false) places (again ++ row)
@@ -224,7 +224,7 @@ settling_without edges nodes marks places again row v s are on none =
       ];
     }
 
--- where none is to be looked at again, the marks are those of the endless nodes
+-- if no node waits for inspection, the candidates are the cycle core
 pub settled_leads : (edges : List Edge) (nodes : ℕ) (marks : List Bool) (places : List ℕ) → IsPruning edges nodes marks places [] → (v : ℕ) → marked marks v ≡ true
     → LeadsToMarked edges marks v (index_at places v)
 settled_leads edges nodes marks places s v h = elim (s.waits v h) [
@@ -256,7 +256,7 @@ settled_next edges nodes marks places up s v h =
           ]);
     }
 
--- one mark less pays for its predecessors
+-- the removal of a candidate pays for the inspection of its predecessors
 pub work_less : (edges : List Edge) (marks : List Bool) (again row : List ℕ) (v : ℕ) → marked marks v ≡ true → length row ≤ length edges
     → work_left edges (slice_set marks v false) (again ++ row) ≤ work_left edges marks again
 work_less edges marks again row v on few =
@@ -265,6 +265,6 @@ work_less edges marks again row v on few =
     let all : (mark_count (slice_set marks v false) + 1) * (length edges + 1) ≡ mark_count marks * (length edges + 1) = ap (λ (n : ℕ). n * (length edges + 1)) less in
     omega arith
 
--- what was read is what stands at the node's place
+-- the value that was read is the value at the node's index
 pub read_place : (places : List ℕ) (v r : ℕ) → r ≡ slice_index_or places v r → v < length places → r ≡ index_at places v
 read_place places v r is l = is ∙ get_or_default places v r 0 l

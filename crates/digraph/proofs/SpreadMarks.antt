@@ -1,4 +1,4 @@
--- Marks spread along trails of steps.
+-- The spreading of flags along linked lists of steps.
 use Rattle.std.proofs.Common.{◌≡◌, ℕ, ◌+◌, ◌<◌, Bool, true, false, not, cond, List, [], ◌∷◌, ◌++◌, length, replicate, set, sym, ap, ◌∙◌, subst, arith, inl, inr, get_or-set_same, get_or-set_other}
 use Rattle.std.specs.Prelude.{◌≢◌, Contains}
 use Rattle.std.proofs.lemmas.Bool.{both_ways, cases_eq, cases_lt}
@@ -9,7 +9,7 @@ use Rattle.digraph.specs.Marks.{marked}
 use Rattle.digraph.specs.Spreading.{left_over, IsSpread, IsSpreadBut}
 use Rattle.digraph.specs.LinkedLists.{IsLast}
 
--- ---- one mark more
+-- ---- one more flag
 
 pub mark_here : (marks : List Bool) (v : ℕ) → v < length marks → marked (set marks v true) v ≡ true
 mark_here marks v within = get_or-set_same marks v true false within
@@ -23,14 +23,14 @@ mark_kept marks v x within on = elim (cases_eq x v) [
 pub mark_before : (marks : List Bool) (v x : ℕ) → x ≢ v → marked (set marks v true) x ≡ true → marked marks x ≡ true
 mark_before marks v x ne on = sym (get_or-set_other marks v x true false ne) ∙ on
 
--- a mark stands within the list
+-- a set flag has an index within the list
 pub mark_within : (marks : List Bool) (v : ℕ) → marked marks v ≡ true → v < length marks
 mark_within marks v on = elim (cases_lt v (length marks)) [
   | inl less ↦ less
   | inr more ↦ absurd (both_ways _ (get_or_past marks v false more) on)
 ]
 
--- a node with no mark gets one and waits
+-- an unflagged node is flagged and waits
 pub left_same : (marks : List Bool) (waiting : List ℕ) (v : ℕ) → v < length marks → marked marks v ≡ false → left_over (set marks v true) (waiting ++ v ∷ []) ≡ left_over marks waiting
 left_same marks waiting v within off =
     let sum = sum_by-set (λ (m : Bool). cond {A = ℕ} (not m) 1 0) marks v true false within in
@@ -70,14 +70,14 @@ module _ (leaves : ℕ → ℕ → Type 0) (to : ℕ → ℕ) (count : ℕ) (mar
   }
 
   module _ (number next : ℕ) (last : IsLast (leaves one) number next) (f : IsSpreadBut leaves to count marks waiting one (number + 1)) where
-    -- one of those that were left is this one, or is left still
+    -- a step that was left is the current one, or is still left
     still : (k v : ℕ) → leaves v k → v ≡ one → k < number + 1 → k ≢ number → k < next
     still k v leaves_it e low other = elim (cases_lt k next) [
       | inl less ↦ less
       | inr more ↦ absurd (last.none_after k more (omega arith) (subst (λ (x : ℕ). leaves x k) e leaves_it))
     ]
 
-    -- what it leads to has a mark already
+    -- the target of the step is flagged already
     pub follow_marked : marked marks (to number) ≡ true → IsSpreadBut leaves to count marks waiting one next
     follow_marked on = record {
       waits = f.waits;
@@ -94,7 +94,7 @@ module _ (leaves : ℕ → ℕ → Type 0) (to : ℕ → ℕ) (count : ℕ) (mar
       ];
     }
 
-    -- it gets one, and waits
+    -- the target is flagged now, and waits
     pub follow_unmarked : to number < length marks → IsSpreadBut leaves to count (set marks (to number) true) (waiting ++ to number ∷ []) one next
     follow_unmarked within =
         let new = set marks (to number) true in

@@ -11,7 +11,7 @@ use Rattle.digraph.specs.Edges.{comes_before, IsAscending, Leads, successors}
 use Rattle.digraph.specs.Marks.{lists, missing_item, list_at}
 use Rattle.digraph.proofs.Members.{from_map, in_filter, in_map, of_filter}
 
--- they are those that the node leads to
+-- they are the targets of the node's edges
 pub successor : (edges : List Edge) (v w : ℕ) → Contains (successors edges v) w ↔ Leads edges v w
 successor edges v w = (
   λ has.
@@ -22,7 +22,7 @@ successor edges v w = (
   λ leads. in_map (λ (q : Edge). q.to) (filter (λ q. q.from == v) edges) (record { from = v; to = w }) (in_filter (λ (q : Edge). q.from == v) edges (record { from = v; to = w }) (eq-eqb v v refl) leads),
 )
 
--- the nodes that a node leads to ascend
+-- the successors of a node are strictly sorted
 pub successors_ascend : (edges : List Edge) (v : ℕ) → IsAscending edges → AllPairs (λ (m n : ℕ). m < n) (successors edges v)
 successors_ascend edges v up i j d less in_j =
     let some = filter (λ (p : Edge). p.from == v) edges in
@@ -38,7 +38,7 @@ successors_ascend edges v up i j d less in_j =
       | inr r ↦ ltb-true (get_or some i missing_item).to (get_or some j missing_item).to (and_parts _ _ r).1
     ])
 
--- the row of a node are its successors
+-- the list of a node has its successors
 pub row_is : (edges : List Edge) (rows : List (Vec ℕ)) (at : ℕ) (row : Vec ℕ) (items : List ℕ) → items ≡ row.items → row ≡ get_or rows at row → at < length rows →
     list_at (lists rows) at ≡ successors edges at → items ≡ successors edges at
 row_is edges rows at row items value is in_rows same =

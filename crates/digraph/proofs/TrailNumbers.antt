@@ -1,4 +1,4 @@
--- Trails of numbers, without a thing and with one more.
+-- Linked lists of numbered items, empty and with one more item.
 use Rattle.std.proofs.Common.{◌≡◌, ℕ, ◌+◌, ◌<◌, List, [], ◌∷◌, ◌++◌, length, replicate, set, get_or, refl, sym, ◌∙◌, subst, arith, inl, inr, length-set, get_or-set_same, get_or-set_other}
 use Rattle.std.proofs.lemmas.Bool.{cases_eq}
 use Rattle.std.proofs.lemmas.List.{get_or-replicate, get_or_push, get_or_append_left, length-replicate, length_push}
@@ -17,7 +17,7 @@ no_trails on list_count last before none empty = rw (none, empty) record {
 }
 
 module _ (on : ℕ → ℕ → Type 0) (list_count count : ℕ) (last before : List ℕ) (t : AreLinkedLists on list_count last before count) where
-  -- the next thing stands on no trail
+  -- the next item is in no list yet
   pub trails_over : ((list : ℕ) → on list count → ⊥) → (x : ℕ) → AreLinkedLists on list_count last (before ++ x ∷ []) (count + 1)
   trails_over none x =
       let each = t.each in
@@ -42,7 +42,7 @@ module _ (on : ℕ → ℕ → Type 0) (list_count count : ℕ) (last before : L
         ];
       }
 
-  -- it stands on this one
+  -- the next item is in this list
   pub trails_more : (list : ℕ) → list < list_count → on list count → ((other : ℕ) → on other count → other ≡ list) →
       AreLinkedLists on list_count (set last list (count + 1)) (before ++ get_or last list 0 ∷ []) (count + 1)
   trails_more list low here alone =

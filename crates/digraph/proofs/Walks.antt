@@ -1,4 +1,4 @@
--- Walks of one step more.
+-- A walk with one more step.
 use Rattle.std.proofs.Common.{◌≡◌, ℕ, zero, suc, ◌+◌, ◌-◌, ◌<◌, ◌≤◌, inl, inr, List, [], ◌∷◌, ◌++◌, length, refl, sym, ◌∙◌, ap, subst, arith, Bool, true, false, Option, Some, None, length-append, length-drop, take, drop, take_all}
 use Rattle.std.specs.Prelude.{slice_index, slice_index_or, slice_set, nat_eq, replicate, All}
 use Rattle.std.specs.List.{IsDistinct, list_any}
@@ -14,11 +14,11 @@ use Rattle.digraph.specs.Cycle.{ClosesAt, IsLeast, IsNext, IsRotated, IsWalk}
 use Rattle.digraph.specs.Marks.{marked}
 use Rattle.digraph.proofs.Settling.{marked_below}
 
--- the place that the table has for a node
+-- the index that the table has for a node
 abbrev pub index_in : List (Option ℕ) → ℕ → Option ℕ
 index_in table v = slice_index_or table v None
 
--- a walk that goes on at a node which it hasn't met, with the places of those that it has
+-- a walk that continues at a node that it hasn't visited, with the indices of the nodes that it has visited
 pub record Walking (Leads : ℕ → ℕ → Type 0) (s : ℕ → Bool) (walk : List ℕ) (table : List (Option ℕ)) (at : ℕ) : Type 0 where
   pub walked : IsWalk Leads s walk
   pub members : (k : ℕ) → k < length walk → s (slice_index walk k) ≡ true
@@ -32,7 +32,7 @@ pub record Walking (Leads : ℕ → ℕ → Type 0) (s : ℕ → Bool) (walk : L
 same_default : (xs : List ℕ) (k y : ℕ) → k < length xs → slice_index xs k ≡ slice_index_or xs k y
 same_default xs k y l = get_or_default xs k 0 y l
 
--- a number that stands at no place is not found
+-- a number that occurs at no index is not in the list
 absent : (xs : List ℕ) (y : ℕ) → ((k : ℕ) → k < length xs → slice_index xs k ≡ y → ⊥) → list_any (nat_eq y) xs ≡ false
 absent xs y none = elim (cases_Bool (list_any (nat_eq y) xs)) [
   | inl t ↦ let c = Contains-from_any exact_unsigned_eq y xs t in absurd (none c.0 c.1 (same_default xs c.0 y c.1 ∙ c.2))
@@ -66,7 +66,7 @@ walking_first Leads s table n v e least =
       unmet = unmet v;
     }
 
--- the node that the walk is at is in none of its places
+-- the current node of the walk is at none of its indices
 new_node : (Leads : ℕ → ℕ → Type 0) (s : ℕ → Bool) (walk : List ℕ) (table : List (Option ℕ)) (at : ℕ) → Walking Leads s walk table at
     → (k : ℕ) → k < length walk → slice_index walk k ≡ at → ⊥
 new_node Leads s walk table at w k l is =
@@ -80,7 +80,7 @@ module _ (Leads : ℕ → ℕ → Type 0) (s : ℕ → Bool) (walk : List ℕ) (
   old : (k : ℕ) → k < length walk → slice_index (walk ++ at ∷ []) k ≡ slice_index walk k
   old k l = get_or_append_left walk (at ∷ []) 0 k l
 
-  -- the node that the walk is at belongs to it
+  -- the walk with its current node appended is a walk
   pub is_walk : IsWalk Leads s (walk ++ at ∷ [])
   is_walk =
       let long : length (walk ++ at ∷ []) ≡ length walk + 1 = length-append walk (at ∷ []) in
@@ -136,7 +136,7 @@ module _ (Leads : ℕ → ℕ → Type 0) (s : ℕ → Bool) (walk : List ℕ) (
       let last : n ≡ length walk = omega arith in
       rw (end n last) next
 
-  -- the walk goes on
+  -- the walk continues
   pub walking_more : (y : ℕ) → at < length table → IsNext Leads s at y → index_in (slice_set table at (Some (length walk))) y ≡ None
       → Walking Leads s (walk ++ at ∷ []) (slice_set table at (Some (length walk))) y
   walking_more y here next unmet =
@@ -152,7 +152,7 @@ module _ (Leads : ℕ → ℕ → Type 0) (s : ℕ → Bool) (walk : List ℕ) (
         unmet = unmet;
       }
 
-  -- the walk comes back
+  -- the walk closes a cycle
   pub walking_back : (y k : ℕ) → at < length table → IsNext Leads s at y → index_in (slice_set table at (Some (length walk))) y ≡ Some k → ClosesAt Leads s (walk ++ at ∷ []) k
   walking_back y k here next met =
       let p = all_known here y k met in
@@ -162,7 +162,7 @@ module _ (Leads : ℕ → ℕ → Type 0) (s : ℕ → Bool) (walk : List ℕ) (
         back = λ n e. rw p.1 (last_leads y n next e);
       }
 
--- a walk has at most as many nodes as there are marks
+-- a walk has at most as many nodes as the graph
 pub walking_length : (marks : List Bool) (walk : List ℕ) → IsDistinct nat_eq walk → ((k : ℕ) → k < length walk → marked marks (slice_index walk k) ≡ true) → length walk ≤ length marks
 walking_length marks walk once members = length-le_from_distinct_below walk (length marks) once (λ q t.
     let c = Contains-from_any exact_unsigned_eq q walk t in
@@ -177,7 +177,7 @@ pub table_read : (table : List (Option ℕ)) (v : ℕ) (o : Option ℕ) → o �
 table_read table v o is l = get_or_default table v None o l ∙ sym is
 
 module _ (Leads : ℕ → ℕ → Type 0) (s : ℕ → Bool) (walk : List ℕ) (table : List (Option ℕ)) (at : ℕ) (w : Walking Leads s walk table at) where
-  -- the same of what was pushed and read
+  -- the state after a step that pushes the current node and finds no index for the next one
   pub step_more : (new : List ℕ) (n y : ℕ) (r : Option ℕ) → new ≡ walk ++ at ∷ [] → n ≡ length walk → at < length table → y < length table → IsNext Leads s at y
       → r ≡ slice_index_or (slice_set table at (Some n)) y r → r ≡ None → Walking Leads s new (slice_set table at (Some n)) y
   step_more new n y r pushed counted here there next read is =
@@ -209,7 +209,7 @@ none_cloned table n Cloned all differs = all (λ y. from_clone Cloned differs y)
     from_clone Cloned differs None h = refl
     from_clone Cloned differs (Some x) h = absurd (differs x h)
 
--- what holds of a list holds of its parts
+-- a property of all elements of a list holds for its parts
 pub All-prefix : (P : ℕ → Type 0) (xs ys : List ℕ) → All P (xs ++ ys) → All P xs
 All-prefix P xs ys all k d l = subst P (get_or_append_left xs ys d k l) (all k d (let e = length-append xs ys in omega arith))
 
@@ -217,13 +217,13 @@ pub All-back : (P : ℕ → Type 0) (xs ys : List ℕ) → All P (xs ++ ys) → 
 All-back P [] ys all = all
 All-back P (x ∷ xs) ys all = All-back P xs ys (All-tail P x (xs ++ ys) all)
 
--- what holds of a list holds when it is turned
+-- a property of all elements of a list holds for the rotated list
 pub All-rotated : (P : ℕ → Type 0) (loop rotated : List ℕ) → IsRotated loop rotated → All P loop → All P rotated
 All-rotated P loop rotated t all =
     let whole : All P (t.prefix ++ t.rest) = subst (All P) t.whole all in
     subst (All P) (sym t.rotate_to_min) (All-append P t.rest t.prefix (All-back P t.prefix t.rest whole) (All-prefix P t.prefix t.rest whole))
 
--- the list turned at the place of its least number
+-- the list is rotated at the index of its smallest number
 pub turned_at : (loop rotated : List ℕ) (place : ℕ) → place < length loop → ((k : ℕ) → k < length loop → slice_index loop place ≤ slice_index loop k) → rotated ≡ drop place loop ++ take place loop
     → IsRotated loop rotated
 turned_at loop rotated place within least is =

@@ -4,7 +4,7 @@ use Rattle.digraph.specs.declared.edge.Edge.{Edge}
 use Rattle.digraph.specs.Marks.{edge_at, index_at}
 use Rattle.digraph.specs.LinkedLists.{AreLinkedLists, IsLast, IsInList}
 
--- the index plus one of the last of the first count edges that leads to the node; 0 if none does
+-- `next` is the index plus one of the last edge to the node, among the first `count` edges; 0 if none leads to the node
 abbrev pub IsLastTo : List Edge → ℕ → ℕ → ℕ → Type 0
 IsLastTo edges v count next = IsLast (IsInList (λ k. (edge_at edges k).to) v) count next
 
@@ -17,7 +17,7 @@ pub record AreDependents (edges : List Edge) (places : List ℕ) (v : ℕ) (row 
   pub all : (k : ℕ) → k < length edges → (edge_at edges k).to ≡ v → index_at places (edge_at edges k).from ≡ k → Contains row (edge_at edges k).from
   pub few : length row ≤ length edges
 
--- the list has each node whose current edge leads to v and has a number plus one above next
+-- the list has each node whose current edge leads to v and has an index of at least next
 pub record AreDependentsFrom (edges : List Edge) (places : List ℕ) (v : ℕ) (row : List ℕ) (next : ℕ) : Type 0 where
   pub all : (k : ℕ) → next ≤ k → k < length edges → (edge_at edges k).to ≡ v → index_at places (edge_at edges k).from ≡ k → Contains row (edge_at edges k).from
   pub few : length row + next ≤ length edges

@@ -10,7 +10,7 @@ use Rattle.digraph.specs.ShortestPaths.{IsPathAround, IsShortestPath}
 abbrev pub parent_of : List (Option ℕ) → ℕ → Option ℕ
 parent_of parents v = slice_index_or parents v None
 
--- the parent of the node, if it has another one than itself
+-- the parent of the node; none if the node has no parent or is its own parent
 abbrev pub IsPredecessor : List (Option ℕ) → ℕ → Option ℕ → Type 0
 IsPredecessor parents v (Some u) = (parent_of parents v ≡ Some u) × (v ≢ u)
 IsPredecessor parents v None = (u : ℕ) → parent_of parents v ≡ Some u → v ≡ u
@@ -28,7 +28,7 @@ pub record IsSearch (edges : List Edge) (starts : List ℕ) (barrier : List Bool
   pub parent : (v u : ℕ) → parent_of search.parents.items v ≡ Some u → (w : ℕ) × (parent_of search.parents.items u ≡ Some w)
   pub step : (v u : ℕ) (path : List ℕ) → parent_of search.parents.items v ≡ Some u → v ≢ u → IsShortestPath (Leads edges) starts barrier u path → IsShortestPath (Leads edges) starts barrier v (path ++ v ∷ [])
 
--- the unmarked ones of the nodes that had no parent have the given one now, and are found in ascending order
+-- those of the nodes that had no parent and that the barrier doesn't flag now have the given parent, and `found` lists them, sorted
 pub record AreDiscovered (nodes : List ℕ) (barrier : List Bool) (given : ℕ → ℕ) (old new : List (Option ℕ)) (found : List ℕ) : Type 0 where
   pub size : length new ≡ length old
   pub unchanged : (v u : ℕ) → parent_of old v ≡ Some u → parent_of new v ≡ Some u

@@ -15,7 +15,7 @@ pub record IsLeastOf (Are : List ℕ → Type 0) (chain : List ℕ) : Type 0 whe
   pub least : (other : List ℕ) → Are other → length other ≡ length chain → slice_cmp nat_cmp chain other ≢ Greater
 
 module _ (Leads : ℕ → ℕ → Type 0) (a b : ℕ) where
-  -- these nodes are a path from a start to the end around the barrier: only the first may be flagged
+  -- these nodes are a path from a to b
   abbrev pub AreChain : List ℕ → Type 0
   AreChain [] = ⊥
   AreChain (m ∷ more) = (m ≡ a) × IsChain Leads m more b
@@ -29,11 +29,11 @@ abbrev pub HasChain : List Edge → ℕ → ℕ → ℕ → Type 0
 HasChain edges v end count = (more : List ℕ) × IsChain (Leads edges) v more end × (length more ≡ count)
 
 module _ (Leads : ℕ → ℕ → Type 0) (starts : List ℕ) (barrier : List Bool) (end : ℕ) where
-  -- these nodes are a path from a start to the end around the barrier: none but the first may be marked
+  -- these nodes are a path from a start to the end around the barrier: the barrier flags none of them but possibly the first
   abbrev pub IsPathAround : List ℕ → Type 0
   IsPathAround [] = ⊥
   IsPathAround (m ∷ more) = Contains starts m × IsChain Leads m more end × All (λ n. marked barrier n ≡ false) more
 
-  -- the shortest of these paths, of several the lexicographically smallest
+  -- the shortest path from a start to the end around the barrier, of several the lexicographically smallest
   abbrev pub IsShortestPath : List ℕ → Type 0
   IsShortestPath path = IsLeastOf IsPathAround path

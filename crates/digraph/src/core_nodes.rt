@@ -5,7 +5,7 @@ ghost use Rattle.digraph.specs.Marks.{edge_at, marked, index_at, work_left, Star
 ghost use Rattle.digraph.specs.Incoming.{AreIncoming};
 ghost use Rattle.digraph.specs.Edges.{AreBetween, IsAscending, Leads};
 
-use crate::incoming::push_dependents;
+use crate::incoming::append_dependents;
 use crate::{Edge, LinkedLists, link_by_key};
 use std::alloc::{AllocError, Global};
 
@@ -31,7 +31,7 @@ pub fn is_marked(marks: &[bool], node: u32) -> bool
 }
 
 /// For each node the index of its first edge; the number of edges for a node without any.
-fn starts_of(alloc: Global, edges: &[Edge], nodes: usize) -> Result<Vec<usize>, AllocError>
+fn first_edge_indices(alloc: Global, edges: &[Edge], nodes: usize) -> Result<Vec<usize>, AllocError>
     requires between { AreBetween edges.now nodes }
     requires ascending { IsAscending edges.now }
     ensures { IfOk result (λ places. AreStarts edges.now nodes places.items) }
@@ -44,7 +44,7 @@ fn starts_of(alloc: Global, edges: &[Edge], nodes: usize) -> Result<Vec<usize>, 
 }
 
 /// All nodes, in ascending order.
-fn each_node(alloc: Global, nodes: usize) -> Result<Vec<u32>, AllocError>
+fn all_nodes(alloc: Global, nodes: usize) -> Result<Vec<u32>, AllocError>
     requires { nodes ≤ 8192 }
     ensures { IfOk result (λ all. (v : ℕ) → v < nodes → Contains all.items v) }
 {
@@ -56,7 +56,7 @@ fn each_node(alloc: Global, nodes: usize) -> Result<Vec<u32>, AllocError>
 }
 
 /// The index of the node's first edge to a candidate, from `start` on.
-fn marked_from(edges: &[Edge], marks: &[bool], node: u32, start: usize) -> Option<usize>
+fn find_edge_to_marked(edges: &[Edge], marks: &[bool], node: u32, start: usize) -> Option<usize>
     requires ascending { IsAscending edges.now }
     requires start { StartsFrom edges.now node start }
     ensures after { IfSome result (λ place. start ≤ place) }
@@ -78,7 +78,7 @@ fn marked_from(edges: &[Edge], marks: &[bool], node: u32, start: usize) -> Optio
 impl CycleCore {
     /// Moves the node on to its next edge to a candidate. Without one, removes it from the candidates and schedules the nodes whose
     /// current edge leads to it.
-    fn recheck(
+    fn recheck_node(
         &mut self,
         edges: &[Edge],
         incoming: &LinkedLists,
@@ -96,11 +96,11 @@ impl CycleCore {
             return Ok(());
         }
         let start = self.places[node as usize];
-        match marked_from(edges, self.marks.as_slice(), node, start) {
+        match find_edge_to_marked(edges, self.marks.as_slice(), node, start) {
             Some(place) => self.places[node as usize] = place,
             None => {
                 self.marks[node as usize] = false;
-                push_dependents(edges, incoming, &self.places, node, again)?;
+                append_dependents(edges, incoming, &self.places, node, again)?;
             }
         }
         Ok(())
@@ -115,16 +115,20 @@ impl CycleCore {
         ensures { OnOk result (IsPruning edges.now nodes self.new.marks.items self.new.places.items []) }
     {
         let incoming = link_by_key(alloc, edges, nodes, |edge: &Edge| edge.to)?;
-        let mut again = each_node(alloc, nodes)?;
+        let mut again = all_nodes(alloc, nodes)?;
         while let Some(node) = again.pop() {
-            self.recheck(edges, &incoming, node, &mut again)?;
+            self.recheck_node(edges, &incoming, node, &mut again)?;
         }
         Ok(())
     }
 }
 
 /// The largest set of nodes in which each node has an edge to a node of the set. Takes time linear in nodes and edges.
-pub(crate) fn core_of(alloc: Global, edges: &[Edge], nodes: usize) -> Result<CycleCore, AllocError>
+pub(crate) fn compute_cycle_core(
+    alloc: Global,
+    edges: &[Edge],
+    nodes: usize,
+) -> Result<CycleCore, AllocError>
     requires between { AreBetween edges.now nodes }
     requires ascending { IsAscending edges.now }
     requires few_nodes { nodes ≤ 8192 }
@@ -136,7 +140,7 @@ pub(crate) fn core_of(alloc: Global, edges: &[Edge], nodes: usize) -> Result<Cyc
         IsNext (Leads edges.now) (marked core_nodes.marks.items) v (edge_at edges.now (index_at core_nodes.places.items v)).to) }
 {
     let marks = vec![in alloc; true; nodes]?;
-    let places = starts_of(alloc, edges, nodes)?;
+    let places = first_edge_indices(alloc, edges, nodes)?;
     let mut core_nodes = CycleCore { marks, places };
     core_nodes.prune(alloc, edges, nodes)?;
     Ok(core_nodes)

@@ -5,7 +5,7 @@ ghost use Rattle.digraph.specs.Graphs.{IsGraph};
 ghost use Rattle.digraph.specs.Marks.{lists, list_at};
 
 use crate::Edge;
-use crate::rows::{predecessors_of, transposed};
+use crate::rows::{predecessor_lists, transposed};
 use std::alloc::{AllocError, Global};
 
 /// A graph with its adjacency lists, so that it can be searched more than once.
@@ -18,14 +18,14 @@ pub struct Graph<'a> {
 }
 
 /// For each node its successors, in the order of the edges.
-fn successors_of(alloc: Global, edges: &[Edge], nodes: usize) -> Result<Vec<Vec<u32>>, AllocError>
+fn successor_lists(alloc: Global, edges: &[Edge], nodes: usize) -> Result<Vec<Vec<u32>>, AllocError>
     // Both ends of each edge are below `nodes`.
     requires between { AreBetween edges.now nodes }
     ensures size { IfOk result (λ rows. vec_len rows ≡ nodes) }
     ensures rows { IfOk result (λ rows. (v : ℕ) → list_at (lists rows.items) v ≡ successors edges.now v) }
 {
     let rotated = transposed(alloc, edges)?;
-    let rows = predecessors_of(alloc, rotated.as_slice(), nodes)?;
+    let rows = predecessor_lists(alloc, rotated.as_slice(), nodes)?;
     Ok(rows)
 }
 
@@ -44,6 +44,6 @@ pub fn graph_of(alloc: Global, edges: &[Edge], nodes: usize) -> Result<Graph<'_>
     // It has `nodes` nodes.
     ensures nodes { IfOk result (λ graph. vec_len graph.after ≡ nodes) }
 {
-    let after = successors_of(alloc, edges, nodes)?;
+    let after = successor_lists(alloc, edges, nodes)?;
     Ok(Graph { edges, after })
 }

@@ -7,7 +7,7 @@ use crate::{Edge, LinkedLists};
 use std::alloc::AllocError;
 
 /// Appends to `again` each node whose current edge leads to `node`; the other nodes are unaffected.
-pub(crate) fn push_dependents(
+pub(crate) fn append_dependents(
     edges: &[Edge],
     incoming: &LinkedLists,
     places: &[usize],

@@ -10,7 +10,7 @@ use std::alloc::{AllocError, Global};
 
 /// The shortest path between two nodes, as its nodes; of several the lexicographically smallest. None if no path leads from `from` to
 /// `to`. The edges are strictly sorted and lead between the first `nodes` nodes. Fails if an allocation fails.
-pub fn least_chain(
+pub fn shortest_path(
     alloc: Global,
     edges: &[Edge],
     nodes: usize,
@@ -27,7 +27,7 @@ pub fn least_chain(
     requires from { from < nodes }
     // `to` is a node.
     requires to { to < nodes }
-    // The path has the fewest edges, and of those the smallest nodes, from the first on.
+    // The path is the shortest, of several the lexicographically smallest.
     ensures found { IfOk result (λ answer. IfSome answer (λ chain. IsLeastChain (Leads edges.now) from to chain.items)) }
     // Without a result no path leads from `from` to `to`.
     ensures none { IfOk result (λ answer. IfNone answer (Chain (Leads edges.now) from to → ⊥)) }

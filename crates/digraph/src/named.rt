@@ -6,7 +6,7 @@ ghost use Rattle.digraph.specs.Edges.{AreBetween, IsAscending, Leads};
 ghost use Rattle.digraph.specs.Chains.{IsAcyclic};
 
 use crate::Edge;
-use crate::core_nodes::{CycleCore, core_of};
+use crate::core_nodes::{CycleCore, compute_cycle_core};
 use crate::walk::{first_marked, walk};
 use std::alloc::{AllocError, Global};
 
@@ -35,7 +35,7 @@ fn rotate_to_min(numbers: &mut [u32])
 }
 
 /// The cycle that the walk from the smallest candidate enters, rotated to begin with its smallest node.
-fn cycle_from(
+fn walk_to_cycle(
     alloc: Global,
     edges: &[Edge],
     core_nodes: &CycleCore,
@@ -56,9 +56,9 @@ fn cycle_from(
     Ok(cycle)
 }
 
-/// The canonical cycle, as its nodes; none if the graph is acyclic. From the smallest node from which a cycle is reachable, walk on to
-/// the smallest successor from which one is, until a node repeats; the cycle begins with its smallest node. The edges are strictly sorted
-/// and lead between the first `nodes` nodes. Fails if an allocation fails.
+/// The canonical cycle, as its nodes; none if the graph is acyclic. Walk from the smallest node from which a cycle is reachable, at each
+/// step to the smallest successor from which a cycle is reachable, until a node repeats. The cycle begins with its smallest node. The
+/// edges are strictly sorted and lead between the first `nodes` nodes. Fails if an allocation fails.
 pub fn cycle(alloc: Global, edges: &[Edge], nodes: usize) -> Result<Option<Vec<u32>>, AllocError>
     // Both ends of each edge are below `nodes`.
     requires between { AreBetween edges.now nodes }
@@ -73,10 +73,10 @@ pub fn cycle(alloc: Global, edges: &[Edge], nodes: usize) -> Result<Option<Vec<u
     // Without a result the graph is acyclic.
     ensures none { IfOk result (λ answer. IfNone answer (IsAcyclic (Leads edges.now))) }
 {
-    let core_nodes = core_of(alloc, edges, nodes)?;
+    let core_nodes = compute_cycle_core(alloc, edges, nodes)?;
     let Some(first) = first_marked(core_nodes.marks.as_slice()) else {
         return Ok(None);
     };
-    let cycle = cycle_from(alloc, edges, &core_nodes, first)?;
+    let cycle = walk_to_cycle(alloc, edges, &core_nodes, first)?;
     Ok(Some(cycle))
 }

@@ -8,7 +8,7 @@ use crate::Edge;
 use std::alloc::{AllocError, Global};
 
 /// Sorts the edges by source and then by target, and removes duplicates.
-pub fn sort_all(edges: &mut Vec<Edge>)
+pub fn sort_and_dedup(edges: &mut Vec<Edge>)
     // They are strictly sorted.
     ensures ascending { IsAscending edges.new.items }
     // No edge is added or lost.
@@ -35,12 +35,12 @@ pub fn ranks_of(alloc: Global, order: &[u32]) -> Result<Vec<u32>, AllocError>
 }
 
 /// The edges with each node replaced by its rank, strictly sorted. Fails if an allocation fails.
-pub fn renumbered(alloc: Global, edges: &[Edge], ranks: &[u32]) -> Result<Vec<Edge>, AllocError>
+pub fn renumber_edges(alloc: Global, edges: &[Edge], ranks: &[u32]) -> Result<Vec<Edge>, AllocError>
     // Each node has a rank.
     requires between { AreBetween edges.now (length ranks.now) }
     // They are strictly sorted.
     ensures ascending { IfOk result (λ others. IsAscending others.items) }
-    // They are exactly the renumbered edges.
+    // They are exactly the edges with each node replaced by its rank.
     ensures same { IfOk result (λ others. (p : GraphEdge) → Contains others.items p ↔ Contains (map (by_ranks ranks.now) edges.now) p) }
 {
     let mut others = Vec::new(alloc);
@@ -50,6 +50,6 @@ pub fn renumbered(alloc: Global, edges: &[Edge], ranks: &[u32]) -> Result<Vec<Ed
             to: ranks[edge.to as usize],
         })?;
     }
-    sort_all(&mut others);
+    sort_and_dedup(&mut others);
     Ok(others)
 }

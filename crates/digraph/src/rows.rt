@@ -6,7 +6,7 @@ ghost use Rattle.digraph.specs.Marks.{lists, list_at};
 use crate::Edge;
 use std::alloc::{AllocError, Global};
 
-fn add(predecessors: &mut Vec<Vec<u32>>, edge: Edge) -> Result<(), AllocError>
+fn add_predecessor(predecessors: &mut Vec<Vec<u32>>, edge: Edge) -> Result<(), AllocError>
     requires { edge.to < vec_len predecessors.old }
     ensures size { OnOk result (vec_len predecessors.new ≡ vec_len predecessors.old) }
     ensures rows { OnOk result (lists predecessors.new.items ≡ slice_set (lists predecessors.old.items) edge.to (list_at (lists predecessors.old.items) edge.to ++ edge.from ∷ [])) }
@@ -44,7 +44,7 @@ pub fn transposed(alloc: Global, edges: &[Edge]) -> Result<Vec<Edge>, AllocError
 }
 
 /// For each node its predecessors, in the order of the edges. Fails if an allocation fails.
-pub fn predecessors_of(
+pub fn predecessor_lists(
     alloc: Global,
     edges: &[Edge],
     nodes: usize,
@@ -58,7 +58,7 @@ pub fn predecessors_of(
 {
     let mut rows = empty_lists(alloc, nodes)?;
     for edge in edges {
-        add(&mut rows, *edge)?;
+        add_predecessor(&mut rows, *edge)?;
     }
     Ok(rows)
 }

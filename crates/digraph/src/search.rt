@@ -13,7 +13,7 @@ use std::alloc::{AllocError, Global};
 /// The breadth-first tree of a search: which nodes it reached, and by which paths.
 #[derive(Drop)]
 pub struct Search {
-    /// For each node the one that it was discovered from; a start is its own parent.
+    /// For each node its parent, from which it was discovered; none if the search didn't reach the node. A start is its own parent.
     pub(crate) parents: Vec<Option<u32>>,
 }
 
@@ -27,8 +27,9 @@ fn parent_at(parents: &[Option<u32>], node: u32) -> Option<u32>
     }
 }
 
-/// Sets the parent of each unflagged node without one, to `parent` or without it to the node itself, and appends the node to the queue.
-fn discover(
+/// Gives each of the nodes that has no parent and isn't flagged the parent `parent`, or itself if `parent` is `None`, and appends it to
+/// the queue.
+fn discover_nodes(
     parents: &mut Vec<Option<u32>>,
     queue: &mut Vec<u32>,
     nodes: &[u32],
@@ -49,31 +50,31 @@ fn discover(
 }
 
 impl Graph<'_> {
-    /// Searches breadth-first from the starts, in ascending order, around the nodes that the barrier flags; a start may be flagged, and
-    /// nodes past the end of the barrier aren't. Takes time linear in nodes and edges. Fails if an allocation fails.
+    /// Searches breadth-first from the starts, in ascending order, around the nodes that the barrier flags. A start may be flagged; a node
+    /// past the end of the barrier counts as not flagged. Takes time linear in nodes and edges. Fails if an allocation fails.
     pub fn search_from(
         &self,
         alloc: Global,
         starts: &[u32],
         barrier: &[bool],
     ) -> Result<Search, AllocError>
-        // The graph is one of `graph_of`.
+        // The graph was made by `graph_of`.
         requires graph { IsGraph self.now }
         // The starts are strictly sorted.
         requires ascending { AllPairs (λ v w. v < w) starts.now }
         // They are nodes.
         requires within { All (λ v. v < vec_len self.now.after) starts.now }
-        // The result has a path to each node that one leads to, and it is the shortest one.
+        // The result has the shortest path to each node that a path leads to.
         ensures { IfOk result (IsSearch self.now.edges.now starts.now barrier.now) }
     {
         let mut parents = vec![in alloc; None; self.after.len()]?;
         let mut queue = Vec::new(alloc);
-        discover(&mut parents, &mut queue, starts, None, &[])?;
+        discover_nodes(&mut parents, &mut queue, starts, None, &[])?;
         let mut next = 0;
         'nodes: while next < queue.len() {
             let node = queue[next];
             let successors = self.after[node as usize].as_slice();
-            discover(&mut parents, &mut queue, successors, Some(node), barrier)?;
+            discover_nodes(&mut parents, &mut queue, successors, Some(node), barrier)?;
             next += 1;
         }
         Ok(Search { parents })
@@ -83,7 +84,7 @@ impl Graph<'_> {
 impl Search {
     /// Whether a path leads from a start around the barrier to the node. A start has a path to itself.
     pub fn has_reached(&self, node: u32) -> bool
-        // The result is true exactly if such a path leads to the node.
+        // The result is true exactly if a path leads from a start around the barrier to the node.
         ensures { (edges : List GraphEdge) (starts : List ℕ) (barrier : List Bool) → IsSearch edges starts barrier self.now →
             IsTrue result ↔ ((path : List ℕ) × IsPathAround (Leads edges) starts barrier node path) }
     {
@@ -100,10 +101,10 @@ impl Search {
         }
     }
 
-    /// The nodes of the path from a start around the barrier to the node, both included, that has the fewest edges, and of those the
-    /// smallest nodes from the first on; none if no such path leads there. Fails if an allocation fails.
+    /// The shortest path from a start around the barrier to the node, as its nodes, both ends included; of several the lexicographically
+    /// smallest. None if no path leads to the node. Fails if an allocation fails.
     pub fn path_to(&self, alloc: Global, node: u32) -> Result<Option<Vec<u32>>, AllocError>
-        // The result is one of a search.
+        // This value is the result of a search.
         requires search { (edges : List GraphEdge) × (starts : List ℕ) × (barrier : List Bool) × IsSearch edges starts barrier self.now }
         // The path is the shortest one.
         ensures found { IfOk result (λ answer. IfSome answer (λ path. (edges : List GraphEdge) (starts : List ℕ) (barrier : List Bool) → IsSearch edges starts barrier self.now →

@@ -135,7 +135,11 @@ impl FileSystem for FakeFiles {
         self.step().is_ok() && path == TARGET
     }
 
-    fn open_new(&mut self, path: &str, _is_private: bool) -> Result<FakeFile, FileFault> {
+    fn open_or_create_locked(
+        &mut self,
+        path: &str,
+        _is_private: bool,
+    ) -> Result<FakeFile, FileFault> {
         self.step()?;
         if path != PARTIAL {
             return Err(FileFault::System);

@@ -12,7 +12,7 @@ use Rattle.glob.specs.declared.exclusion.PathGlob.{PathGlob}
 use Rattle.glob.specs.declared.exclusion.PathGlob.TheVariants.{Name, Path}
 use Rattle.glob.specs.declared.pattern.Glob.{Glob}
 
--- an element with what is before and after it
+-- an element with the elements before and after it
 around : (xs : List (List ℕ)) (x : List ℕ) → Contains xs x → (before after : List (List ℕ)) × (xs ≡ before ++ x ∷ after)
 around [] x (k, lt, e) = absurd (omega (arith, lt))
 around (y ∷ xs) x (zero, lt, e) = ([], xs, ap (λ (z : List ℕ). z ∷ xs) e)
@@ -20,7 +20,7 @@ around (y ∷ xs) x (suc k, lt, e) =
     let (before, after, f) = around xs x (k, omega (arith, lt), e) in
     (y ∷ before, after, ap (λ (z : List (List ℕ)). y ∷ z) f)
 
--- a pattern without a slash excludes the paths of which it matches a name
+-- a pattern without a slash excludes the paths one of whose names it matches
 pub by_name : (pattern path : List ℕ) (glob : Glob) → (HasSlash pattern → ⊥) → ((name : List ℕ) → Matches pattern name ↔ Fits glob name) → Excludes pattern path ↔ ExcludesBy (Name glob) (names_of path)
 by_name pattern path glob none same = (
   λ (names, rest, e, m). elim m [
@@ -35,7 +35,7 @@ by_name pattern path glob none same = (
       (before ++ name ∷ [], after, e ∙ sym (append_assoc before (name ∷ []) after), inr (none, (before, name, refl, (same name).1 fits)))),
 )
 
--- the names begin with ones that match exactly if each fits
+-- the names begin with names that match, exactly if each fits its pattern
 each : (patterns : List (List ℕ)) (globs : List Glob) (names : List (List ℕ)) → AreGlobs patterns globs →
     ((matching rest : List (List ℕ)) × (names ≡ matching ++ rest) × MatchEach patterns matching) ↔ FitEach globs names
 each [] [] names are = (λ found. tt, λ fits. ([], names, refl, tt))
@@ -59,7 +59,7 @@ each (p ∷ patterns) (g ∷ globs) (n ∷ names) are =
         let after : names ≡ matching ++ rest = cc in
         ((are.0 n).0 (subst (λ (z : List ℕ). Matches p z) (sym same) m.0), others (matching, rest, after, m.1))
 
--- a pattern with a slash excludes the paths that begin with names that match its own
+-- a pattern with a slash excludes the paths whose first names match its names
 pub by_path : (pattern path : List ℕ) (globs : Vec Glob Global) → HasSlash pattern → AreGlobs (names_of pattern) globs.items → Excludes pattern path ↔ ExcludesBy (Path globs) (names_of path)
 by_path pattern path globs slash are =
     let both = each (names_of pattern) globs.items (names_of path) are in (
@@ -70,7 +70,7 @@ by_path pattern path globs slash are =
       λ fits. (let (matching, rest, e, m) = both.1 fits in (matching, rest, e, inl (slash, m))),
     )
 
--- ---- one pattern more
+-- ---- one more pattern
 
 pub none_read : (globs : List PathGlob) → globs ≡ [] → AreRead [] globs
 none_read globs none path = (
@@ -141,7 +141,7 @@ none_more P xs i d lt none other name has fits =
       | inr new ↦ other (subst P (sym new) fits)
     ]
 
--- a name at its place that doesn't fit its pattern
+-- a name that doesn't fit the pattern of its index
 pub one_misses : (globs : List Glob) (names : List (Bor (List ℕ))) (i : ℕ) (g : Glob) (d : Bor (List ℕ)) → i < length globs → i < length names → (Fits (slice_index_or globs i g) (slice_index_or names i d).now → ⊥) →
     FitEach (drop i globs) (map (λ (n : Bor (List ℕ)). n.now) (drop i names)) → ⊥
 one_misses globs names i g d low within misses fits =

@@ -52,14 +52,14 @@ add_empty (p ∷ p2 ∷ inner) q ps t f =
 
 -- ---- the first occurrence
 
--- the piece occurs where the text is so
+-- the piece occurs at this index of the text
 occurs : (b p r : List ℕ) → OccursAt (b ++ (p ++ r)) p (length b)
 occurs b p r =
     OccursAt-from_part (b ++ (p ++ r)) p (length b)
     (let size = length-append b (p ++ r) in let more = length-append p r in omega (arith, size, more))
     (ap (λ (z : List ℕ). take (length p) z) (drop-append_seam b (p ++ r)) ∙ take-append_seam p r)
 
--- after the first occurrence of the first piece are the others
+-- the other pieces occur after the first occurrence of the first piece
 pub after_first : (hay p m : List ℕ) (ms : List (List ℕ)) (k : ℕ) → NoneBefore (OccursAt hay p) 0 (length hay + 1) k → OccursAt hay p k → Floats (p ∷ m ∷ ms) hay → Floats (m ∷ ms) (drop (k + length p) hay)
 after_first hay p m ms k none at f =
     let (b, r, e, g) = floats_step p m ms hay f in
@@ -96,7 +96,7 @@ too_long hay p m ms longer f =
 
 -- ---- pieces before the last one
 
--- there is a first of them
+-- there is a first piece
 tail : (qs : List (List ℕ)) (last : List ℕ) → (m : List ℕ) × (ms : List (List ℕ)) × (qs ++ last ∷ [] ≡ m ∷ ms)
 tail [] last = (last, [], refl)
 tail (q ∷ qs) last = (q, qs ++ last ∷ [], refl)
@@ -156,7 +156,7 @@ length_zero (x ∷ xs) e = absurd (omega (arith, e))
 
 -- ---- cutting a pattern
 
--- the pieces so far, before any that follow
+-- the pieces so far, followed by any others
 abbrev pub IsCut : List (Bor (List ℕ)) → List (Bor (List ℕ)) → List ℕ → Type 0
 IsCut yielded inner last =
     (more : List (List ℕ)) (q : List ℕ) (qs : List (List ℕ)) (t : List ℕ) → map (λ (p : Bor (List ℕ)). p.now) yielded ++ more ≡ q ∷ qs →
@@ -167,7 +167,7 @@ no_cut inner none more q qs t e =
     subst (λ (z : List (List ℕ)). Floats (q ∷ qs) t ↔ Floats z t) (ap (λ (z : List (Bor (List ℕ))). map (λ (p : Bor (List ℕ)). p.now) z ++ [] ∷ more) (sym none))
     (subst (λ (z : List (List ℕ)). Floats (q ∷ qs) t ↔ Floats ([] ∷ z) t) (sym e) (first_empty q qs t, empty_first q qs t))
 
--- one more at the end, before others
+-- one more piece at the end, before the others
 pushed : (xs : List (Bor (List ℕ))) (x : Bor (List ℕ)) (more : List (List ℕ)) → map (λ (p : Bor (List ℕ)). p.now) (xs ++ x ∷ []) ++ more ≡ map (λ (p : Bor (List ℕ)). p.now) xs ++ x.now ∷ more
 pushed xs x more = ap (λ (z : List (List ℕ)). z ++ more) (map_push (λ (p : Bor (List ℕ)). p.now) xs x) ∙ append_assoc (map (λ (p : Bor (List ℕ)). p.now) xs) (x.now ∷ []) more
 

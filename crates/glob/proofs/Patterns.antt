@@ -14,7 +14,7 @@ use Rattle.glob.specs.Globs.{is_star, pieces_of, Fits, FitsRest, Floats, Interle
 use Rattle.glob.specs.declared.pattern.Floating.{Floating}
 use Rattle.glob.specs.declared.pattern.Glob.{Glob}
 
--- a byte before the first piece of those
+-- the pieces, with a byte prepended to the first one
 abbrev longer_first : ℕ → List (List ℕ) → List (List ℕ)
 longer_first b [] = (b ∷ []) ∷ []
 longer_first b (p ∷ ps) = (b ∷ p) ∷ ps
@@ -47,7 +47,7 @@ first_star (b ∷ bytes) x e = elim (cases_Bool (eqb b 42)) [
       slice_split-cons_no is_star b bytes other ∙ ap (λ (z : List (List ℕ)). longer_first b z) (first_star bytes p.0 p.1) ∙ ap (λ (y : List ℕ × List ℕ). y.0 ∷ slice_split is_star y.1) p.2)
 ]
 
--- a pattern without a star is matched by itself alone
+-- a pattern without a star matches only itself
 pub fits_literal : (pattern : List ℕ) (glob : Glob) → cut_at 42 pattern ≡ None → glob.first.now ≡ pattern → glob.floating ≡ None → (name : List ℕ) → Matches pattern name ↔ Fits glob name
 fits_literal pattern glob cut first floating name =
     let pieces = no_star pattern cut in
@@ -57,7 +57,7 @@ fits_literal pattern glob cut first floating name =
     λ (rest, e, f). (let none : rest ≡ [] = subst (λ (o : Option Floating). FitsRest o rest) floating f in e ∙ ap (λ (z : List ℕ). glob.first.now ++ z) none ∙ append-nil glob.first.now ∙ first) in
     subst (λ (z : List (List ℕ)). Interleaves z name ↔ Fits glob name) (sym pieces) (to, from)
 
--- one with a star by what begins with its first piece, and has the others after it
+-- a pattern with a star matches what begins with its first piece and has the other pieces after it
 pub fits_pieces : (pattern : List ℕ) (x : List ℕ × List ℕ) (glob : Glob) (floating : Floating) → cut_at 42 pattern ≡ Some x → glob.first.now ≡ x.0 → glob.floating ≡ Some floating →
     ((text : List ℕ) → Floats (slice_split is_star x.1) text ↔ Floats (pieces_of floating) text) → (name : List ℕ) → Matches pattern name ↔ Fits glob name
 fits_pieces pattern x glob floating cut first is same name =
@@ -76,7 +76,7 @@ fits_pieces pattern x glob floating cut first is same name =
 
 -- ---- whether a name fits
 
--- what is after the first piece
+-- what follows the first piece
 after_first : (first name rest other : List ℕ) → name ≡ first ++ rest → name ≡ first ++ other → other ≡ rest
 after_first first name rest other e f =
     sym (drop-append_seam first other) ∙ ap (λ (z : List ℕ). drop (length first) z) (sym f ∙ e) ∙ drop-append_seam first rest

@@ -47,7 +47,7 @@ AreGlobs [] (glob ∷ globs) = ⊥
 AreGlobs (pattern ∷ patterns) [] = ⊥
 AreGlobs (pattern ∷ patterns) (glob ∷ globs) = ((name : List ℕ) → Matches pattern name ↔ Fits glob name) × AreGlobs patterns globs
 
--- there are as many names as patterns or more, and each of the first names fits the pattern of its index
+-- there are at least as many names as patterns, and the name at each pattern's index fits it
 abbrev pub FitEach : List Glob → List (List ℕ) → Type 0
 FitEach [] names = Unit {0}
 FitEach (glob ∷ globs) [] = ⊥

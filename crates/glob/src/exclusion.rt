@@ -10,21 +10,21 @@ use std::alloc::{AllocError, Global};
 /// A pattern of paths, split at its slashes.
 #[derive(Drop)]
 pub(crate) enum PathGlob<'a> {
-    /// Matches any single name of a path.
+    /// Matches a path if the pattern matches one of the path's names.
     Name(Glob<'a>),
-    /// Matches the first names of a path, one pattern for each.
+    /// Matches a path if each pattern matches the path's name of its index. The path may have more names.
     Path(Vec<Glob<'a>>),
 }
 
-/// The patterns of files and folders that are excluded. A pattern with a `/` is matched against a whole path, any other against the last
-/// name of a path.
+/// The patterns of files and folders that are excluded. A folder is excluded with all that it contains. So a pattern with a `/` excludes
+/// each path whose first names it matches, and any other pattern each path one of whose names it matches.
 #[derive(Drop)]
 pub struct Exclusion<'a> {
     pub(crate) globs: Vec<PathGlob<'a>>,
 }
 
 /// The names of a path, which slashes separate.
-fn names_in(alloc: Global, path: &[u8]) -> Result<Vec<&[u8]>, AllocError>
+fn split_path(alloc: Global, path: &[u8]) -> Result<Vec<&[u8]>, AllocError>
     ensures { IfOk result (λ names. map (λ n. n.now) names.items ≡ names_of path.now) }
 {
     let mut names = Vec::new(alloc);
@@ -35,7 +35,7 @@ fn names_in(alloc: Global, path: &[u8]) -> Result<Vec<&[u8]>, AllocError>
 }
 
 /// The patterns of names, parsed.
-fn globs_of<'a>(alloc: Global, patterns: &[&'a [u8]]) -> Result<Vec<Glob<'a>>, AllocError>
+fn parse_globs<'a>(alloc: Global, patterns: &[&'a [u8]]) -> Result<Vec<Glob<'a>>, AllocError>
     ensures { IfOk result (λ globs. AreGlobs (map (λ p. p.now) patterns.now) globs.items) }
 {
     let mut globs = Vec::new(alloc);
@@ -46,7 +46,7 @@ fn globs_of<'a>(alloc: Global, patterns: &[&'a [u8]]) -> Result<Vec<Glob<'a>>, A
 }
 
 /// Whether the pattern matches one of the names.
-fn has_match(glob: &Glob<'_>, names: &[&[u8]]) -> bool
+fn matches_any_name(glob: &Glob<'_>, names: &[&[u8]]) -> bool
     ensures { IsTrue result ↔ ExcludesBy (Name glob.now) (map (λ n. n.now) names.now) }
 {
     for name in names {
@@ -58,7 +58,7 @@ fn has_match(glob: &Glob<'_>, names: &[&[u8]]) -> bool
 }
 
 /// Whether there are as many names as patterns or more, and each pattern matches the name of its index.
-fn begins_with(globs: &[Glob<'_>], names: &[&[u8]]) -> bool
+fn matches_first_names(globs: &[Glob<'_>], names: &[&[u8]]) -> bool
     ensures { IsTrue result ↔ FitEach globs.now (map (λ n. n.now) names.now) }
 {
     if globs.len() > names.len() {
@@ -80,8 +80,8 @@ impl<'a> PathGlob<'a> {
         if !pattern.contains(&b'/') {
             return Ok(PathGlob::Name(Glob::new(alloc, pattern)?));
         }
-        let names = names_in(alloc, pattern)?;
-        Ok(PathGlob::Path(globs_of(alloc, names.as_slice())?))
+        let names = split_path(alloc, pattern)?;
+        Ok(PathGlob::Path(parse_globs(alloc, names.as_slice())?))
     }
 
     /// Whether the pattern excludes the path of these names.
@@ -89,14 +89,17 @@ impl<'a> PathGlob<'a> {
         ensures { IsTrue result ↔ ExcludesBy self.now (map (λ n. n.now) names.now) }
     {
         match self {
-            PathGlob::Name(glob) => has_match(glob, names),
-            PathGlob::Path(globs) => begins_with(globs.as_slice(), names),
+            PathGlob::Name(glob) => matches_any_name(glob, names),
+            PathGlob::Path(globs) => matches_first_names(globs.as_slice(), names),
         }
     }
 }
 
 /// The patterns of paths, parsed.
-fn path_globs_of<'a>(alloc: Global, patterns: &'a [String]) -> Result<Vec<PathGlob<'a>>, AllocError>
+fn parse_path_globs<'a>(
+    alloc: Global,
+    patterns: &'a [String],
+) -> Result<Vec<PathGlob<'a>>, AllocError>
     ensures { IfOk result (λ globs. AreRead (map string_bytes patterns.now) globs.items) }
 {
     let mut globs = Vec::new(alloc);
@@ -112,16 +115,16 @@ impl<'a> Exclusion<'a> {
         // It excludes exactly the paths that the patterns exclude.
         ensures { IfOk result (λ exclusion. AreRead (map string_bytes patterns.now) exclusion.globs.items) }
     {
-        let globs = path_globs_of(alloc, patterns)?;
+        let globs = parse_path_globs(alloc, patterns)?;
         Ok(Exclusion { globs })
     }
 
     /// Whether a pattern matches the path or a folder on it. Fails if an allocation does.
     pub fn excludes(&self, alloc: Global, path: &str) -> Result<bool, AllocError>
-        // Exactly if one of the patterns excludes it.
+        // The result is true exactly if one of the patterns excludes the path.
         ensures { IfOk result (λ excludes. IsTrue excludes ↔ IsExcludedBy self.now.globs.items (names_of path.now)) }
     {
-        let names = names_in(alloc, path.as_bytes())?;
+        let names = split_path(alloc, path.as_bytes())?;
         for glob in &self.globs {
             if glob.excludes(names.as_slice()) {
                 return Ok(true);

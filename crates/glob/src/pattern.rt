@@ -65,7 +65,7 @@ impl<'a> Floating<'a> {
 impl<'a> Glob<'a> {
     /// Splits a pattern at each `*`. Fails if an allocation does.
     pub fn new(alloc: Global, pattern: &'a [u8]) -> Result<Glob<'a>, AllocError>
-        // Exactly the names that match the pattern fit: `*` matches any bytes, also none, and every other byte itself.
+        // The parsed pattern fits exactly the names that match the pattern: `*` matches any bytes, also none, every other byte itself.
         ensures { IfOk result (λ glob. (name : List ℕ) → Matches pattern.now name ↔ Fits glob name) }
     {
         let Some((first, rest)) = cut_at_byte(pattern, b'*') else {
@@ -83,7 +83,7 @@ impl<'a> Glob<'a> {
 
     /// Whether the name matches the pattern. Takes time linear in the length of the name, however long the pattern is.
     pub fn matches(&self, name: &[u8]) -> bool
-        // True exactly if it fits.
+        // The result is true exactly if the name fits the parsed pattern.
         ensures { IsTrue result ↔ Fits self.now name.now }
     {
         let Some(rest) = name.strip_prefix(self.first) else {

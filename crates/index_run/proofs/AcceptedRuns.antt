@@ -3,11 +3,11 @@ use Rattle.std.proofs.Common.{◌≡◌, ℕ, List, Option, Some, Ok, subst}
 use Rattle.std.specs.String.{string_bytes}
 use Rattle.index_run.proofs.SameBytes.{hex_once, index_once, puts_same}
 use Rattle.index_run.specs.IndexRuns.{IsHexText, IsIndexingRun, IsIndexText, IsRunTo}
-use Rattle.oscip_job.specs.declared.job.Indexing.{Indexing}
+use Rattle.oscip_job.specs.declared.job.IndexRequest.{IndexRequest}
 use Rattle.oscip_job.specs.declared.job.Output.{Output}
 use Rattle.oscip_job.specs.declared.job.Output.TheVariants as outputs
 use Rattle.source_tree.proofs.OneParting.{one_accepted}
-use Rattle.source_tree.specs.OwnFaults.{ArePartitionedFiles}
+use Rattle.source_tree.specs.FileFaults.{ArePartitionedFiles}
 use Rattle.source_tree.specs.declared.source.Source.{Source}
 use Rattle.source_tree.specs.declared.tree_fault.TreeFault.{TreeFault}
 
@@ -18,7 +18,7 @@ runs_same (outputs.File path) sources package_name root before new other = puts_
 runs_same outputs.Hex sources package_name root before new other = puts_same (IsHexText sources package_name root) (hex_once sources package_name root) before new other
 
 -- and so do two that leave files out, which leave out the same ones
-pub accepted_same : (sources accepted others : List Source) (faults more : List TreeFault) (it : Indexing) (workers : ℕ) (before : List ℕ) (new other : Option (List ℕ))
+pub accepted_same : (sources accepted others : List Source) (faults more : List TreeFault) (it : IndexRequest) (workers : ℕ) (before : List ℕ) (new other : Option (List ℕ))
     → ArePartitionedFiles sources accepted faults → ArePartitionedFiles sources others more
     → IsIndexingRun accepted it (Some before) new (Ok tt) → IsIndexingRun others (record it { workers = workers }) (Some before) other (Ok tt) → new ≡ other
 accepted_same sources accepted others faults more it workers before new other a b run again =

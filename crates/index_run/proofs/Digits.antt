@@ -1,4 +1,4 @@
--- Hexadecimal digits of bytes, part by part.
+-- Hexadecimal digits of bytes, chunk by chunk.
 use Rattle.std.proofs.Common.{◌≡◌, ◌++◌, ◌-◌, ◌/◌, ◌%◌, ℕ, List, [], ◌∷◌, length, take, drop, slice_index, append_assoc, refl, sym, ap, ◌∙◌, arith}
 use Rattle.std.proofs.lemmas.List.{take-append-drop, take_all, length-drop}
 use Rattle.hex.specs.Hex.{encode_lower, encode_with, lower_digits}
@@ -8,7 +8,7 @@ unfolding encode_with
 digits_with table [] ys = refl
 digits_with table (b ∷ rest) ys = ap (λ (t : List ℕ). slice_index table (b / 16) ∷ slice_index table (b % 16) ∷ t) (digits_with table rest ys)
 
--- the digits of one list behind another
+-- the digits of one list after another
 pub digits_of_both : (xs ys : List ℕ) → encode_lower (xs ++ ys) ≡ encode_lower xs ++ encode_lower ys
 digits_of_both xs ys = digits_with lower_digits xs ys
 

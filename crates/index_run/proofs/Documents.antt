@@ -1,4 +1,4 @@
--- The written form of documents, one after the other, and a writer that was refused nothing.
+-- The written form of documents, one after another, by a writer that hasn't failed.
 use Rattle.std.proofs.Common.{◌≡◌, ◌++◌, ℕ, List, Option, Some, None, Ok, map, refl, ap, ◌∙◌}
 use Rattle.std.specs.Prelude.{option_map}
 use Rattle.byte_sink.specs.declared.sink.SinkFault.{SinkFault}

@@ -1,4 +1,4 @@
--- From what the lower crates promise to what a run that indexes a tree is.
+-- The contracts of lower crates imply the definition of a run that indexes a tree.
 use Rattle.std.proofs.Common.{◌≡◌, ◌++◌, ℕ, List, Option, Some, Err, codes, map, refl, sym, ◌∙◌, inr}
 use Rattle.std.specs.Global.{Vec}
 use Rattle.std.specs.List.{flat_map}

@@ -1,4 +1,4 @@
--- A package that a command line takes is one that a symbol may have.
+-- A package that the command line accepts is valid in a symbol.
 use Rattle.std.proofs.Common.{◌≡◌, ◌∷◌, [], ℕ, List, Some, false, refl, ap}
 use Rattle.std.proofs.lemmas.Bool.{ne_eqb}
 use Rattle.oscip_job.specs.Jobs.{IsPackage}

@@ -1,9 +1,9 @@
--- What runs put of a tree is one text.
+-- Two runs on a tree write equal bytes.
 use Rattle.std.proofs.Common.{◌≡◌, ℕ, List, ◌++◌, Option, Some, None, sym, ap, ◌∙◌}
 use Rattle.std.specs.Prelude.{codes}
 use Rattle.hex.specs.Hex.{encode_lower}
 use Rattle.ob_board.proofs.OneIndex.{one_index, one_unresolved}
-use Rattle.text_escape.specs.Places.{Style}
+use Rattle.texts.specs.Places.{Style}
 use Rattle.index_run.specs.IndexRuns.{unresolved_lines, IsHexText, IsIndexText, IsUnresolvedText, WritesText}
 use Rattle.source_tree.specs.declared.source.Source.{Source}
 use Rattle.scip_index.specs.Written.{written}

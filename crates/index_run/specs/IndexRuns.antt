@@ -7,7 +7,7 @@ use Rattle.byte_sink.specs.Sinks.{AppendsPrefix}
 use Rattle.hex.specs.Hex.{encode_lower}
 use Rattle.ob_board.specs.Indexes.{IsIndex}
 use Rattle.ob_board.specs.Unresolved.{AreUnresolved, UnresolvedModel}
-use Rattle.oscip_job.specs.declared.job.Indexing.{Indexing}
+use Rattle.oscip_job.specs.declared.job.IndexRequest.{IndexRequest}
 use Rattle.oscip_job.specs.declared.job.Output.{Output}
 use Rattle.oscip_job.specs.declared.job.Output.TheVariants as outputs
 use Rattle.oscip_run.specs.Runs.{IsRejectedTree}
@@ -16,7 +16,7 @@ use Rattle.oscip_run.specs.declared.fault.RunFault.TheVariants.{CannotRead, Cann
 use Rattle.source_tree.specs.declared.source.Source.{Source}
 use Rattle.scip_index.specs.Plain.{IndexModel}
 use Rattle.scip_index.specs.Written.{written}
-use Rattle.text_escape.specs.Places.{location_text, Style}
+use Rattle.texts.specs.Places.{location_text, Style}
 
 -- the bytes are the written form of the index of the tree, with this package and root
 pub record IsIndexText (sources : List Source) (package_name root text : List ℕ) : Type 0 where
@@ -52,7 +52,8 @@ WritesText IsText old new = (text : List ℕ) × IsText text × Appends old new 
 abbrev pub WritesTextPrefix : (List ℕ → Type 0) → Option (List ℕ) → Option (List ℕ) → Type 0
 WritesTextPrefix IsText old new = (text : List ℕ) × IsText text × AppendsPrefix old new text
 
--- a run that writes a text for which IsText holds: a rejected tree leaves the sink unchanged, and Device or Memory leave it with at most a prefix
+-- a run that writes a text for which IsText holds: a rejected tree leaves the sink unchanged, and Device or Memory leave it with at most a
+-- prefix
 abbrev pub IsTextRun : List Source → (List ℕ → Type 0) → Option (List ℕ) → Option (List ℕ) → Result (Unit {0}) RunFault → Type 0
 IsTextRun sources IsText old new (Ok _) = WritesText IsText old new
 IsTextRun sources IsText old new (Err (CannotRead path)) = ⊥
@@ -85,5 +86,5 @@ IsRunTo (outputs.File path) = IsIndexRun
 IsRunTo outputs.Hex = IsHexRun
 
 -- a run of a job that makes an index, with the job's own package, root and output
-abbrev pub IsIndexingRun : List Source → Indexing → Option (List ℕ) → Option (List ℕ) → Result (Unit {0}) RunFault → Type 0
+abbrev pub IsIndexingRun : List Source → IndexRequest → Option (List ℕ) → Option (List ℕ) → Result (Unit {0}) RunFault → Type 0
 IsIndexingRun sources it old new result = IsRunTo it.output sources (string_bytes it.package) (string_bytes it.root) old new result

@@ -12,7 +12,7 @@ use std::alloc::Global;
 const CHUNK: usize = 32768;
 
 /// Appends two hexadecimal digits for each of the bytes to the text, and writes the text if it is long.
-fn push_digits<S: Sink>(
+fn write_digits<S: Sink>(
     alloc: Global,
     text: &mut String,
     bytes: &[u8],
@@ -44,7 +44,7 @@ pub fn hex_line<S: Sink>(alloc: Global, bytes: &[u8], sink: &mut S) -> Result<()
     let mut rest = bytes;
     while !rest.is_empty() {
         let end = rest.len().min(CHUNK);
-        push_digits(alloc, &mut text, &rest[..end], sink)?;
+        write_digits(alloc, &mut text, &rest[..end], sink)?;
         rest = &rest[end..];
     }
     let Ok(()) = text.push_str("\n") else {

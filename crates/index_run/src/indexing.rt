@@ -8,28 +8,28 @@ ghost use Rattle.oscip_run.specs.Faults.{is_device};
 ghost use Rattle.index_run.specs.IndexRuns.{unresolved_line, unresolved_lines, IsHexRun, IsIndexingRun, IsIndexRun, IsUnresolvedRun};
 ghost use Rattle.source_tree.specs.Sources.{ArePathsInOrder};
 ghost use Rattle.scip_symbol.specs.Outcomes.{is_wrong_part};
-ghost use Rattle.text_escape.specs.Places.{style_of, writer_style};
+ghost use Rattle.texts.specs.Places.{style_of, writer_style};
 ghost use Rattle.byte_sink.specs.Pieces.{WritesAllBut};
 
-use crate::{hex_line, write_encoded};
+use crate::{hex_line, write_encoded_index};
 use byte_sink::{Sink, SinkFault, flush_if_full, write_fully};
 use ob_board::{
     BoardGate, EncodedIndex, IndexOptions, Unresolved, unresolved_in_tree, written_index,
 };
-use oscip_job::{Indexing, Output};
+use oscip_job::{IndexRequest, Output};
 use oscip_run::{READERS, RunFault};
-use scip_index::laws::in_parts;
+use scip_index::laws::written_form_has_parts;
 use source_tree::Source;
 use std::alloc::{AllocError, Global};
 use std::sync::Wait;
 use std::thread::Threads;
-use text_escape::{LocationStyle, LocationWriter};
+use texts::{LocationStyle, LocationWriter};
 
 /// A gate of the scheduler that never makes a worker wait.
 #[derive(Drop)]
-pub struct OpenBoard;
+pub struct OpenBoardGate;
 
-impl BoardGate for OpenBoard {
+impl BoardGate for OpenBoardGate {
     fn at(&self, _worker: u32, _turn: u64) {}
 }
 
@@ -58,14 +58,14 @@ pub fn index_to<R: Threads + Wait + Sync, G: BoardGate + Sync, S: Sink>(
     // The sink counts a failure if and only if the result is `Device`.
     ensures failures { S.failures sink.new ≡ failures_by is_device result (S.failures sink.old) }
 {
-    in_parts();
+    written_form_has_parts();
     let parts = written_index(rt, alloc, sources, options, workers, gate)?;
     let EncodedIndex {
         metadata,
         records,
         external_symbols,
     } = parts;
-    write_encoded(alloc, &metadata, records, external_symbols.as_slice(), sink)?;
+    write_encoded_index(alloc, &metadata, records, external_symbols.as_slice(), sink)?;
     Ok(())
 }
 
@@ -99,7 +99,7 @@ pub fn index_hex_to<R: Threads + Wait + Sync, G: BoardGate + Sync, S: Sink>(
 
 /// Copies of the package and the root of a job.
 #[tactic(auto, using(crate::proofs::Packages::not_wrong))]
-fn options_of(alloc: Global, indexing: &Indexing) -> Result<IndexOptions, AllocError>
+fn options_of(alloc: Global, indexing: &IndexRequest) -> Result<IndexOptions, AllocError>
     requires { IsPackage (string_bytes indexing.now.package) }
     ensures package { IfOk result (λ options. string_bytes options.package ≡ string_bytes indexing.now.package) }
     ensures root { IfOk result (λ options. string_bytes options.root ≡ string_bytes indexing.now.root) }
@@ -115,7 +115,7 @@ fn options_of(alloc: Global, indexing: &Indexing) -> Result<IndexOptions, AllocE
 pub fn answer_index<R: Threads + Wait + Sync, G: BoardGate + Sync, S: Sink>(
     rt: &R,
     alloc: Global,
-    indexing: &Indexing,
+    indexing: &IndexRequest,
     sources: &[Source],
     gate: &G,
     sink: &mut S,
@@ -139,7 +139,7 @@ pub fn answer_index<R: Threads + Wait + Sync, G: BoardGate + Sync, S: Sink>(
 }
 
 /// Appends the line of an unresolved identifier to the text.
-fn push_line<'a>(
+fn append_line<'a>(
     writer: &mut LocationWriter<'a>,
     text: &mut String,
     row: &'a Unresolved,
@@ -148,12 +148,12 @@ fn push_line<'a>(
     ensures style { writer_style writer.new ≡ writer_style writer.old }
 {
     let (at, name) = (row.at, &row.name);
-    writer.push_start(text, row.path.as_str(), at.line, at.column)?;
+    writer.append_location(text, row.path.as_str(), at.line, at.column)?;
     writeln!(text, " {name}")
 }
 
 /// Appends the line of an unresolved identifier to the text, and writes the text if it is long.
-fn gather_line<'a, S: Sink>(
+fn write_line<'a, S: Sink>(
     writer: &mut LocationWriter<'a>,
     text: &mut String,
     row: &'a Unresolved,
@@ -166,7 +166,7 @@ fn gather_line<'a, S: Sink>(
     ensures style { writer_style writer.new ≡ writer_style writer.old }
     ensures failures { S.failures sink.new ≡ failures_after result (S.failures sink.old) }
 {
-    push_line(writer, text, row).map_err(|_| SinkFault::Memory)?;
+    append_line(writer, text, row).map_err(|_| SinkFault::Memory)?;
     flush_if_full(text, sink)
 }
 
@@ -183,7 +183,7 @@ fn write_lines<S: Sink>(
     let mut writer = LocationWriter::new(style);
     let mut text = String::new(alloc);
     for row in rows {
-        gather_line(&mut writer, &mut text, row, sink)?;
+        write_line(&mut writer, &mut text, row, sink)?;
     }
     write_fully(sink, text.as_bytes())
 }

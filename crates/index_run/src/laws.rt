@@ -1,15 +1,15 @@
 //! Laws of runs that index, proved as contracts of functions with an empty body: the bytes written for a tree are unique.
 ghost use Rattle.std.specs.Prelude.{◌≡◌, ℕ, List, Ok, Option, Some};
 ghost use Rattle.index_run.specs.IndexRuns.{IsHexRun, IsIndexingRun, IsIndexRun, IsUnresolvedRun};
-ghost use Rattle.oscip_job.specs.declared.job.Indexing.{Indexing};
-ghost use Rattle.source_tree.specs.OwnFaults.{ArePartitionedFiles};
+ghost use Rattle.oscip_job.specs.declared.job.IndexRequest.{IndexRequest};
+ghost use Rattle.source_tree.specs.FileFaults.{ArePartitionedFiles};
 ghost use Rattle.source_tree.specs.declared.source.Source.{Source};
 ghost use Rattle.source_tree.specs.declared.tree_fault.TreeFault.{TreeFault};
-ghost use Rattle.text_escape.specs.Places.{Style};
+ghost use Rattle.texts.specs.Places.{Style};
 
 /// Two runs on one tree that succeed leave a sink of known bytes with the same bytes.
-/// The runs of `index_to`, `index_hex_to` and `unresolved_to` mention no workers, so this holds for every two numbers of workers and every
-/// schedule.
+/// The definitions of the runs of `index_to`, `index_hex_to` and `unresolved_to` don't mention workers. So this holds for every two
+/// numbers of workers and every schedule.
 pub fn equal_bytes()
     // Two runs of `index_to` with one package and root write the same bytes.
     ensures index { (sources : List Source) (package_name root before : List ℕ) (new other : Option (List ℕ)) →
@@ -27,7 +27,7 @@ pub fn equal_bytes()
 pub fn equal_accepted_bytes()
     // Two runs of `answer_index` on the files without faults of their own write the same bytes if their jobs differ only in the number of
     // workers.
-    ensures { (sources accepted others : List Source) (faults more : List TreeFault) (it : Indexing) (workers : ℕ) (before : List ℕ) (new other : Option (List ℕ)) →
+    ensures { (sources accepted others : List Source) (faults more : List TreeFault) (it : IndexRequest) (workers : ℕ) (before : List ℕ) (new other : Option (List ℕ)) →
         ArePartitionedFiles sources accepted faults → ArePartitionedFiles sources others more →
         IsIndexingRun accepted it (Some before) new (Ok tt) → IsIndexingRun others (record it { workers = workers }) (Some before) other (Ok tt) → new ≡ other }
 {}

@@ -13,7 +13,7 @@ mod records;
 mod writing;
 
 pub use hexadecimal::hex_line;
-pub use indexing::{OpenBoard, answer_index, index_hex_to, index_to, unresolved_to};
+pub use indexing::{OpenBoardGate, answer_index, index_hex_to, index_to, unresolved_to};
 pub use reading::run_unresolved;
-pub use records::write_encoded;
+pub use records::write_encoded_index;
 pub use writing::write_index;

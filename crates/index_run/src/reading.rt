@@ -3,10 +3,10 @@ ghost use Rattle.std.specs.Prelude.{◌≡◌, IfErr, IfOk};
 ghost use Rattle.byte_sink.specs.Sinks.{failures_by};
 ghost use Rattle.index_run.specs.FolderRuns.{IsUnresolvedRunOn};
 ghost use Rattle.index_run.specs.IndexRuns.{IsUnresolvedRun};
-ghost use Rattle.oscip_run.specs.JobRuns.{without_answer};
+ghost use Rattle.oscip_run.specs.JobRuns.{without_boolean};
 ghost use Rattle.oscip_run.specs.TreeQuestionRuns.{IsNeverFalse};
 ghost use Rattle.source_tree.specs.Sources.{ArePathsInOrder};
-ghost use Rattle.text_escape.specs.Places.{style_of};
+ghost use Rattle.texts.specs.Places.{style_of};
 ghost use Rattle.oscip_run.specs.Faults.{is_device};
 
 use crate::unresolved_to;
@@ -16,10 +16,10 @@ use oscip_run::{READERS, Reader, RunFault, TreeRun, style_of_tree, tree_files};
 use source_tree::{PartitionedFiles, Source};
 use std::alloc::Global;
 use std::thread::Threads;
-use text_escape::LocationStyle;
+use texts::LocationStyle;
 
 /// Lists the unresolved identifiers of these modules.
-fn ask_unresolved<R: Threads + Sync, S: Sink>(
+fn run_unresolved_list<R: Threads + Sync, S: Sink>(
     rt: &R,
     alloc: Global,
     sources: &[Source],
@@ -27,7 +27,7 @@ fn ask_unresolved<R: Threads + Sync, S: Sink>(
     sink: &mut S,
 ) -> Result<bool, RunFault>
     requires { ArePathsInOrder sources.now }
-    ensures run { IsUnresolvedRun (style_of style.entry) sources.now (S.taken sink.old) (S.taken sink.new) (without_answer result) }
+    ensures run { IsUnresolvedRun (style_of style.entry) sources.now (S.taken sink.old) (S.taken sink.new) (without_boolean result) }
     ensures answer { IsNeverFalse result }
     ensures failures { S.failures sink.new ≡ failures_by is_device result (S.failures sink.old) }
 {
@@ -53,6 +53,6 @@ pub fn run_unresolved<R: Threads + Sync, F: Reader, S: Sink>(
     ensures failed { IfErr result (λ _. S.failures sink.new ≡ S.failures sink.old) }
 {
     let PartitionedFiles { accepted, faults } = tree_files(rt, alloc, reader, tree, READERS)?;
-    let ended = ask_unresolved(rt, alloc, accepted.as_slice(), style_of_tree(tree), sink);
+    let ended = run_unresolved_list(rt, alloc, accepted.as_slice(), style_of_tree(tree), sink);
     Ok(TreeRun { faults, ended })
 }

@@ -62,7 +62,7 @@ fn write_externals<S: Sink>(
 /// Writes an index from its parts (scip.proto, `Index`): its metadata, the records of its documents, and its external symbols.
 /// Writes the records as they are, and drops each once it is written. Fails with the fault of the sink, `Device` or `Memory`; the sink then
 /// has a prefix of the index.
-pub fn write_encoded<S: Sink>(
+pub fn write_encoded_index<S: Sink>(
     alloc: Global,
     metadata: &Metadata,
     records: Vec<Vec<u8>>,

@@ -9,7 +9,7 @@ ghost use Rattle.index_run.specs.WriterFaults.{IsOfSink};
 
 use byte_sink::{Sink, SinkFault};
 use proto_wire::WireFault;
-use scip_index::laws::in_parts;
+use scip_index::laws::written_form_has_parts;
 use scip_index::{Document, Index, IndexWriter};
 use std::alloc::Global;
 
@@ -40,7 +40,7 @@ fn write_parts<S: Sink>(alloc: Global, index: Index, sink: &mut S) -> Result<(),
     ensures failures { S.failures sink.new ≡ failures_by is_failure result (S.failures sink.old) }
     ensures of_sink { IfErr result IsOfSink }
 {
-    in_parts();
+    written_form_has_parts();
     let mut writer = IndexWriter::new(alloc);
     match &index.metadata {
         None => unreachable!(),

@@ -1,4 +1,4 @@
--- The nearest of the rows is the nearest occurrence, and the places of the mentions are those of the occurrences.
+-- The nearest entry is the nearest occurrence, and the locations of the entries are those of the occurrences.
 use Rattle.std.proofs.Common.{◌≡◌, ◌⊎◌, ℕ, zero, suc, Bool, true, false, not, List, [], ◌∷◌, ◌++◌, map, fold, Option, Some, None, refl, sym, ap, ap₂, ◌∙◌, subst, arith, inl, inr, ⊎_elim}
 use Rattle.std.specs.Prelude.{◌&&◌, ◌||◌, All, Contains, filter, option_map, if◌then◌else◌}
 use Rattle.std.specs.List.{flat_map}
@@ -13,11 +13,11 @@ use Rattle.std.proofs.lemmas.Option.{none-some, same_Some}
 use Rattle.index_store.specs.declared.location.Position.{Position}
 use Rattle.index_store.specs.declared.row.PathEntry.{PathEntry}
 use Rattle.index_store.specs.declared.span.Span.{Span}
-use Rattle.index_store.specs.TableLookup.{covering_span, nearer, nearer_of, nearest, requested_location, wanted_locations}
+use Rattle.index_store.specs.TableLookup.{covering_span, nearer, nearer_of, nearest, requested_location, locations_by_role}
 use Rattle.index_store.specs.Queries.{Covers, PlacedOccurrence, HasPath, IsNearest, IsSymbolAt, NoneCovers, LocationModel, all_occurrences, is_definition, is_local, matches_lookup, location_at, location_of, locations_of}
-use Rattle.index_store.specs.Spans.{is_before, is_in, is_nearer, span_of}
+use Rattle.index_store.specs.Spans.{is_before, is_in_span, is_nearer, span_of}
 use Rattle.index_store.specs.Stores.{AreComplete, IsStoreOf, Tables, covering_in, coverings_under, mention_with_span, mention_of, mentions_under, covering_model, mention_model}
-use Rattle.index_store.specs.Tables.{text_number, rows_at, rows_under, text_at}
+use Rattle.index_store.specs.Tables.{text_index, rows_at, rows_under, text_at}
 use Rattle.index_store.proofs.TableLemmas.{bytes_same, same_bytes, text_among, under_number}
 
 -- ---- positions and spans in order
@@ -151,30 +151,30 @@ best_takes path at found (Some x) f span (g, n, is) covers = elim (cases_Bool (i
 
 -- what is kept of an occurrence under a path: nothing, where it covers nothing there, or its span and its symbol
 kept_of : (path : List ℕ) (at : Position) (f : PlacedOccurrence) → ((covering_in path f ≡ []) × ((span : Span) → Covers path at f span → ⊥))
-    ⊎ ((span : Span) × (covering_in path f ≡ (span, f.occurrence.symbol) ∷ []) × (is_in at span ≡ true → Covers path at f span) × (is_in at span ≡ false → (other : Span) → Covers path at f other → ⊥))
+    ⊎ ((span : Span) × (covering_in path f ≡ (span, f.occurrence.symbol) ∷ []) × (is_in_span at span ≡ true → Covers path at f span) × (is_in_span at span ≡ false → (other : Span) → Covers path at f other → ⊥))
 kept_of path at f = elim (cases_Bool (bytes_eq path f.path)) [
   | inr apart ↦ inl (rw apart refl, λ span covers. false≢true (sym apart ∙ bytes_same path f.path (sym covers.here)))
   | inl here ↦ spanned (span_of f.occurrence.range) refl here
 ]
   where
     symbolled : (span : Span) (symbol : List ℕ) → span_of f.occurrence.range ≡ Some span → f.occurrence.symbol ≡ symbol → bytes_eq path f.path ≡ true → ((covering_in path f ≡ []) × ((span : Span) → Covers path at f span → ⊥))
-        ⊎ ((span : Span) × (covering_in path f ≡ (span, f.occurrence.symbol) ∷ []) × (is_in at span ≡ true → Covers path at f span) × (is_in at span ≡ false → (other : Span) → Covers path at f other → ⊥))
+        ⊎ ((span : Span) × (covering_in path f ≡ (span, f.occurrence.symbol) ∷ []) × (is_in_span at span ≡ true → Covers path at f span) × (is_in_span at span ≡ false → (other : Span) → Covers path at f other → ⊥))
     symbolled span [] placed is here = inl (rw (here, placed, is) refl, λ other covers. covers.some is)
     symbolled span (b ∷ more) placed is here = inr (
       span,
       rw (here, placed, is) refl,
       λ inside. record { here = sym (same_bytes path f.path here); some = λ none. (let x = sym none ∙ is in absurd cc); placed = placed; inside = inside },
-      λ outside other covers. (let one : span ≡ other = same_Some span other (sym placed ∙ covers.placed) in false≢true (sym outside ∙ subst (λ (x : Span). is_in at x ≡ true) (sym one) covers.inside)),
+      λ outside other covers. (let one : span ≡ other = same_Some span other (sym placed ∙ covers.placed) in false≢true (sym outside ∙ subst (λ (x : Span). is_in_span at x ≡ true) (sym one) covers.inside)),
     )
 
     spanned : (o : Option Span) → span_of f.occurrence.range ≡ o → bytes_eq path f.path ≡ true → ((covering_in path f ≡ []) × ((span : Span) → Covers path at f span → ⊥))
-        ⊎ ((span : Span) × (covering_in path f ≡ (span, f.occurrence.symbol) ∷ []) × (is_in at span ≡ true → Covers path at f span) × (is_in at span ≡ false → (other : Span) → Covers path at f other → ⊥))
+        ⊎ ((span : Span) × (covering_in path f ≡ (span, f.occurrence.symbol) ∷ []) × (is_in_span at span ≡ true → Covers path at f span) × (is_in_span at span ≡ false → (other : Span) → Covers path at f other → ⊥))
     spanned None placed here = inl (rw (here, placed) refl, λ span covers. none-some span (sym placed ∙ covers.placed))
     spanned (Some span) placed here = symbolled span f.occurrence.symbol placed refl here
 
-best_more : (path : List ℕ) (at : Position) (done : List PlacedOccurrence) (best : Option (Span × List ℕ)) (f : PlacedOccurrence) (span : Span) → IsBest path at done best → (is_in at span ≡ true → Covers path at f span)
-    → (is_in at span ≡ false → (other : Span) → Covers path at f other → ⊥) → IsBest path at (done ++ f ∷ []) (nearer pair_span at best (span, f.occurrence.symbol))
-best_more path at done best f span h covers never = elim (cases_Bool (is_in at span)) [
+best_more : (path : List ℕ) (at : Position) (done : List PlacedOccurrence) (best : Option (Span × List ℕ)) (f : PlacedOccurrence) (span : Span) → IsBest path at done best → (is_in_span at span ≡ true → Covers path at f span)
+    → (is_in_span at span ≡ false → (other : Span) → Covers path at f other → ⊥) → IsBest path at (done ++ f ∷ []) (nearer pair_span at best (span, f.occurrence.symbol))
+best_more path at done best f span h covers never = elim (cases_Bool (is_in_span at span)) [
   | inl inside ↦ rw inside (best_takes path at done best f span h (covers inside))
   | inr outside ↦ rw outside (best_skips path at done best f h (never outside))
 ]
@@ -193,11 +193,11 @@ best_of_all path at done (f ∷ found) best h =
 -- ---- rows as what they say
 
 step_said : (symbols : List (List ℕ)) (at : Position) (best : Option PathEntry) (c : PathEntry) → option_map (covering_model symbols) (nearer covering_span at best c) ≡ nearer pair_span at (option_map (covering_model symbols) best) (covering_model symbols c)
-step_said symbols at None c = elim (cases_Bool (is_in at c.span)) [
+step_said symbols at None c = elim (cases_Bool (is_in_span at c.span)) [
   | inl inside ↦ rw inside refl
   | inr outside ↦ rw outside refl
 ]
-step_said symbols at (Some b) c = elim (cases_Bool (is_in at c.span)) [
+step_said symbols at (Some b) c = elim (cases_Bool (is_in_span at c.span)) [
   | inr outside ↦ rw outside refl
   | inl inside ↦ elim (cases_Bool (is_nearer c.span b.span)) [
     | inl symbol_span ↦ rw (inside, symbol_span) refl
@@ -238,7 +238,7 @@ nearest_symbol path at found symbols rows e =
 
 -- the nearest row is one of them
 nearer_is : (P : PathEntry → Type 0) (at : Position) (best : Option PathEntry) (row c : PathEntry) → ((b : PathEntry) → best ≡ Some b → P b) → P row → nearer covering_span at best row ≡ Some c → P c
-nearer_is P at best row c h r e = elim (cases_Bool (is_in at row.span)) [
+nearer_is P at best row c h r e = elim (cases_Bool (is_in_span at row.span)) [
   | inr outside ↦ h c (rw outside at e)
   | inl inside ↦ chosen best h (rw inside at e)
 ]
@@ -256,7 +256,7 @@ nearest_is P at best (r ∷ rows) c h all e =
     nearest_is P at (nearer covering_span at best r) rows c (λ b. nearer_is P at best r b h (all 0 r (omega arith))) (λ k d l. all (suc k) d (omega (arith, l))) e
 
 -- what a store of the index answers, where it has the path
-pub nearest_here : (index : IndexModel) (t : Tables) (path : List ℕ) (at : Position) (n : ℕ) (symbol_span : Option PathEntry) → AreComplete t → IsStoreOf index t → text_number t.paths path ≡ Some n → symbol_span ≡ nearest (rows_at t.coverings n) at
+pub nearest_here : (index : IndexModel) (t : Tables) (path : List ℕ) (at : Position) (n : ℕ) (symbol_span : Option PathEntry) → AreComplete t → IsStoreOf index t → text_index t.paths path ≡ Some n → symbol_span ≡ nearest (rows_at t.coverings n) at
     → HasPath index path × IsSymbolAt (all_occurrences index) path at (option_map (λ c. text_at t.symbols c.symbol) symbol_span)
 nearest_here index t path at n symbol_span whole store in_range is =
     let under : rows_under t.paths t.coverings path ≡ rows_at t.coverings n = under_number t.paths t.coverings path n whole.of_paths in_range in (
@@ -264,7 +264,7 @@ nearest_here index t path at n symbol_span whole store in_range is =
       rw (is, ← under) (nearest_symbol path at (all_occurrences index) t.symbols (coverings_under t path) (store.coverings path)),
     )
 
--- ---- places
+-- ---- locations
 
 eq_flip : (a b : List ℕ) → bytes_eq a b ≡ bytes_eq b a
 eq_flip a b = elim (cases_Bool (bytes_eq b a)) [
@@ -314,6 +314,6 @@ all_asked defines path symbol (f ∷ found) =
     ∙ sym (if_first (is_wanted defines path symbol f) f (filter (is_wanted defines path symbol) found))
 
 pub places_are : (defines : Bool) (index : IndexModel) (t : Tables) (path symbol : List ℕ) → IsStoreOf index t
-    → flat_map (requested_location defines (is_local symbol) path) (map (mention_model t.paths) (mentions_under t symbol)) ≡ wanted_locations defines index path symbol
+    → flat_map (requested_location defines (is_local symbol) path) (map (mention_model t.paths) (mentions_under t symbol)) ≡ locations_by_role defines index path symbol
 places_are true index t path symbol store = ap (flat_map (requested_location true (is_local symbol) path)) (store.mentions symbol) ∙ all_asked true path symbol (all_occurrences index)
 places_are false index t path symbol store = ap (flat_map (requested_location false (is_local symbol) path)) (store.mentions symbol) ∙ all_asked false path symbol (all_occurrences index)

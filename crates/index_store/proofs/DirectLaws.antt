@@ -1,4 +1,4 @@
--- What a walk over the records finds is what all occurrences of the index give.
+-- A walk over the records finds what the definitions state of all occurrences of the index.
 use Rattle.std.proofs.Common.{◌≡◌, ℕ, zero, suc, Bool, true, false, not, List, [], ◌∷◌, ◌++◌, length, take, map, fold, Option, None, Result, Ok, Err, refl, sym, ap, ap₂, ◌∙◌, arith, inl, inr}
 use Rattle.std.specs.Prelude.{◌||◌, ◌↔◌, Contains, IfOk, filter, option_map, if◌then◌else◌}
 use Rattle.std.specs.List.{AllByRecursion, flat_map}
@@ -18,7 +18,7 @@ use Rattle.scip_index.proofs.OutcomeLaws.{no_fault}
 use Rattle.scip_index.proofs.CheckedLaws.{paths_are_texts}
 use Rattle.index_store.specs.declared.location.Position.{Position}
 use Rattle.index_store.specs.declared.span.Span.{Span}
-use Rattle.index_store.specs.TableLookup.{nearer, wanted_locations}
+use Rattle.index_store.specs.TableLookup.{nearer, locations_by_role}
 use Rattle.index_store.specs.Direct.{covering_of, has_document, nearest_at, pair_span, location_of_symbol, locations_in_document, HaveTextPaths}
 use Rattle.index_store.specs.Queries.{PlacedOccurrence, HasPath, IsSymbolAt, LocationModel, all_occurrences, occurrence_at, occurrences_in, is_definition, is_local, location_of, locations_of}
 use Rattle.index_store.specs.Stores.{covering_in}
@@ -113,7 +113,7 @@ symbol_there bytes path at best index means e =
     let documents = map document_of (each_of 2 nested_records (payload_records 0 bytes).0) in
     rw (documents_said bytes index means, e, all_documents path at None documents) (found_symbol path at (flat_map occurrences_in documents))
 
--- ---- places
+-- ---- locations
 
 pub filter_append : (keep : PlacedOccurrence → Bool) (xs ys : List PlacedOccurrence) → filter keep (xs ++ ys) ≡ filter keep xs ++ filter keep ys
 filter_append keep [] ys = refl
@@ -122,7 +122,7 @@ filter_append keep (x ∷ xs) ys = elim (cases_Bool (keep x)) [
   | inr gone ↦ rw (gone, filter_append keep xs ys) refl
 ]
 
--- of a document that is looked at
+-- of a document that is inspected
 wanted_here : (defines : Bool) (path symbol here : List ℕ) (occurrences : List OccurrenceModel) → (not (is_local symbol) || bytes_eq here path) ≡ true
     → locations_of (filter (is_wanted defines path symbol) (map (occurrence_at here) occurrences)) ≡ flat_map (location_of_symbol defines symbol here) occurrences
 wanted_here defines path symbol here [] looked = refl
@@ -157,7 +157,7 @@ all_places defines path symbol (d ∷ documents) =
     ∙ ap locations_of (sym (filter_append (is_wanted defines path symbol) (occurrences_in d) (flat_map occurrences_in documents)))
 
 pub places_there : (defines : Bool) (bytes path symbol : List ℕ) (index : IndexModel) → Means bytes index
-    → flat_map (locations_in_document defines (is_local symbol) path symbol) (map document_of (each_of 2 nested_records (payload_records 0 bytes).0)) ≡ wanted_locations defines index path symbol
+    → flat_map (locations_in_document defines (is_local symbol) path symbol) (map document_of (each_of 2 nested_records (payload_records 0 bytes).0)) ≡ locations_by_role defines index path symbol
 places_there true bytes path symbol index means = rw (documents_said bytes index means) (all_places true path symbol (map document_of (each_of 2 nested_records (payload_records 0 bytes).0)))
 places_there false bytes path symbol index means = rw (documents_said bytes index means) (all_places false path symbol (map document_of (each_of 2 nested_records (payload_records 0 bytes).0)))
 
@@ -165,7 +165,7 @@ pub if_ok : {X E : Type 0} (result : Result X E) (P Q : X → Type 0) → IfOk r
 if_ok (Ok x) P Q h go = go x h
 if_ok (Err e) P Q h go = tt
 
--- the places of a document that has this path, where it is looked at
+-- the locations of a document that has this path, if it is inspected
 pub in_document : (defines local : Bool) (path symbol first : List ℕ) (d : DocumentModel) → bytes_eq d.relative_path first ≡ true → (not local || bytes_eq first path) ≡ true
     → flat_map (location_of_symbol defines symbol first) d.occurrences ≡ locations_in_document defines local path symbol d
 in_document defines local path symbol first d e looked = rw (same_bytes d.relative_path first e, looked) refl
@@ -179,7 +179,7 @@ pub not_not : (b : Bool) → not b ≡ false → b ≡ true
 not_not true e = refl
 not_not false e = absurd cc
 
--- a document is looked at where it has the path, or any has
+-- a document is inspected where it has the path, or any has
 pub looked_by_path : (local has : Bool) → has ≡ true → (not local || has) ≡ true
 looked_by_path true has e = e
 looked_by_path false has e = refl

@@ -1,4 +1,4 @@
--- Lines that are gathered and put piece by piece.
+-- Lines that are buffered and written in pieces.
 use Rattle.std.proofs.Common.{◌≡◌, ◌++◌, ◌+◌, ◌<◌, ℕ, List, [], ◌∷◌, Option, Result, Ok, Err, append_assoc, append-nil, ap, sym, ◌∙◌, length, take, drop, get_or, map, refl}
 use Rattle.std.specs.Io.KnownBytes.{Appends}
 use Rattle.std.proofs.KnownBytes.{Appends-trans}
@@ -6,12 +6,12 @@ use Rattle.std.proofs.lemmas.Grind.{flat_map-append}
 use Rattle.std.proofs.lemmas.List.{map_more, map-append, take-append-drop}
 use Rattle.byte_sink.specs.declared.sink.SinkFault.{SinkFault}
 use Rattle.byte_sink.specs.Sinks.{AppendsPrefix, Writes}
-use Rattle.text_escape.specs.Places.{Style}
+use Rattle.texts.specs.Places.{Style}
 use Rattle.index_store.specs.declared.location.Place.{Place}
 use Rattle.index_store.specs.Queries.{location_model}
 use Rattle.index_store.specs.Lines.{location_line, location_lines}
 
--- the lines of the places so far
+-- the lines of the locations so far
 abbrev pub lines_to : Style → List Place → ℕ → List ℕ
 lines_to style locations k = location_lines style (map location_model (take k locations))
 

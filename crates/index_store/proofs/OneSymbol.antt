@@ -25,7 +25,7 @@ module _ {X : Type 0} where
   among_rest : (xs ys : List X) (y : X) → Contains (xs ++ y ∷ ys) y
   among_rest xs ys y = Contains-append_right xs (y ∷ ys) y (first_in y y ys refl)
 
-  -- two elements of a list are at one place, or the one stands before the other
+  -- two elements of a list are at one index, or the one stands before the other
   locations : (xs ys ps qs : List X) (f g : X) → xs ++ f ∷ ps ≡ ys ++ g ∷ qs → (f ≡ g) ⊎ ((Contains ys f × Contains ps g) ⊎ (Contains xs g × Contains qs f))
   locations [] [] ps qs f g e = inl (ap (first_of f) e)
   locations [] (y ∷ ys) ps qs f g e = inr (inl (first_in f y ys (sym (ap (first_of f) e)), subst (λ (zs : List X). Contains zs g) (sym (ap rest_of e)) (among_rest ys qs g)))

@@ -1,4 +1,4 @@
--- From what the lower crates promise to what a run of a question is.
+-- The contracts of lower crates imply the definition of a query's run.
 use Rattle.std.proofs.Common.{◌≡◌, ℕ, List, Option, Ok, Err, refl, inl, inr}
 use Rattle.std.proofs.KnownBytes.{Keeps-refl}
 use Rattle.byte_sink.specs.declared.sink.SinkFault.{SinkFault}
@@ -7,7 +7,7 @@ use Rattle.byte_sink.specs.Sinks.{AppendsPrefix}
 use Rattle.proto_wire.specs.declared.fault.WireFault.{WireFault}
 use Rattle.proto_wire.specs.declared.fault.WireFault.TheVariants as wire
 use Rattle.proto_wire.specs.Faults.{UnlessMemory}
-use Rattle.text_escape.specs.Places.{Style}
+use Rattle.texts.specs.Places.{Style}
 use Rattle.scip_index.specs.Meaning.{index_fault, IsIndexOutcome, Means}
 use Rattle.scip_index.specs.Plain.{IndexModel}
 use Rattle.index_store.specs.declared.fault.StoreFault.{StoreFault}
@@ -45,7 +45,7 @@ pub refused_path : (style : Style) (bytes path : List ℕ) (at : Position) (whic
 refused_path style bytes path at which known index means store.NoDocument h = ((index, means, h), Keeps-refl known)
 refused_path style bytes path at which known index means store.Memory h = inl (Keeps-refl known)
 
--- the lines of the places that are told
+-- the lines of the locations that are printed
 pub answer : (style : Style) (bytes path : List ℕ) (at : Position) (which : Which) (index : IndexModel) (symbol : Option (List ℕ)) (locations : List LocationModel) → Means bytes index
     → IsSymbolLookup index path at (Ok symbol) → locations ≡ query_locations which index path symbol → IsResultText style bytes path at which (location_lines style locations)
 answer style bytes path at which index symbol locations means at_position told =

@@ -15,7 +15,7 @@ own_field : (k count : ℕ) (p : PayloadRecord) → p.wire.field ≡ k → p.wir
 unfolding if_field
 own_field k count p f v = rw (eq-eqb p.wire.field k f, v) refl
 
--- behind a range and a symbol nothing more of its field stands
+-- after a range and a symbol nothing more of its field stands
 pub symbol_second : (count : ℕ) (range symbol : PayloadRecord) (pieces behind end : List PayloadRecord) → pieces ≡ range ∷ behind → behind ≡ symbol ∷ end → range.wire.field ≡ 1 → symbol.wire.field ≡ 2 → symbol.wire.value ≡ Bytes count
     → each_of 2 bytes_in end ≡ [] → latest [] (each_of 2 bytes_in pieces) ≡ symbol.payload
 symbol_second count range symbol pieces behind end e g r s v none =

@@ -1,4 +1,4 @@
--- What the tables of a store keep: a path more, a symbol more, an occurrence more.
+-- The content of a store's tables after one more path, symbol or occurrence.
 use Rattle.std.proofs.Common.{◌≡◌, ℕ, suc, ◌+◌, ◌<◌, Bool, true, false, eqb, List, [], ◌∷◌, ◌++◌, length, length-append, get_or, set, map, take, Some, None, refl, sym, ap, ap₂, ◌∙◌, subst, arith, inl, inr, ⊎_elim}
 use Rattle.std.specs.Prelude.{◌↔◌, All, Contains, if◌then◌else◌}
 use Rattle.std.specs.List.{flat_map}
@@ -16,10 +16,10 @@ use Rattle.scip_index.specs.Plain.{DocumentModel, document_model, occurrence_mod
 use Rattle.index_store.specs.Queries.{PlacedOccurrence, occurrence_at, occurrences_in, is_definition}
 use Rattle.index_store.specs.Spans.{span_of}
 use Rattle.index_store.specs.Stores.{AreComplete, IsMentionOf, Keeps, MentionModel, Tables, span_with_symbol, covering_in, coverings_under, mention_of, mentions_under, paths_of, covering_model, mention_model}
-use Rattle.index_store.specs.Tables.{IsEntered, text_number, rows_at, rows_under, text_at}
+use Rattle.index_store.specs.Tables.{IsInserted, text_index, rows_at, rows_under, text_at}
 use Rattle.index_store.proofs.TableLemmas.{number_last, number_there, text_among, text_kept, under_added, under_pushed}
 
--- ---- a text more, behind which all numbers stay
+-- ---- a text more, after which all numbers stay
 
 said_kept : (symbols more : List (List ℕ)) (rows : List PathEntry) → All (λ c. c.symbol < length symbols) rows → map (covering_model (symbols ++ more)) rows ≡ map (covering_model symbols) rows
 said_kept symbols more [] h = refl
@@ -51,7 +51,7 @@ named_more texts paths path h p = (
   λ has. ⊎_elim (λ (old : Contains paths p). Contains-append_left texts (path ∷ []) p ((h p).1 old)) (λ (is : path ≡ p). subst (Contains (texts ++ path ∷ [])) is (Contains-push texts path)) (Contains-push_cases paths path p has),
 )
 
-pub path_entered : (paths : List (List ℕ)) (found : List PlacedOccurrence) (t : Tables) (path : List ℕ) (ps : List (List ℕ)) (cs : List (List PathEntry)) (n : ℕ) → AreComplete t → Keeps paths found t → IsEntered t.paths t.coverings path ps cs n
+pub path_entered : (paths : List (List ℕ)) (found : List PlacedOccurrence) (t : Tables) (path : List ℕ) (ps : List (List ℕ)) (cs : List (List PathEntry)) (n : ℕ) → AreComplete t → Keeps paths found t → IsInserted t.paths t.coverings path ps cs n
     → Keeps (paths ++ path ∷ []) found (record { paths = ps; coverings = cs; symbols = t.symbols; mentions = t.mentions })
 path_entered paths found t path ps cs n whole k (inl (at, same_texts, same_rows)) =
     rw (same_texts, same_rows) (record {
@@ -72,7 +72,7 @@ path_entered paths found t path ps cs n whole k (inr (new, one_text, one_row, la
 
 -- ---- a symbol more
 
-pub symbol_entered : (paths : List (List ℕ)) (found : List PlacedOccurrence) (t : Tables) (symbol : List ℕ) (ss : List (List ℕ)) (ms : List (List SymbolEntry)) (n : ℕ) → AreComplete t → Keeps paths found t → IsEntered t.symbols t.mentions symbol ss ms n
+pub symbol_entered : (paths : List (List ℕ)) (found : List PlacedOccurrence) (t : Tables) (symbol : List ℕ) (ss : List (List ℕ)) (ms : List (List SymbolEntry)) (n : ℕ) → AreComplete t → Keeps paths found t → IsInserted t.symbols t.mentions symbol ss ms n
     → Keeps paths found (record { paths = t.paths; coverings = t.coverings; symbols = ss; mentions = ms })
 symbol_entered paths found t symbol ss ms n whole k (inl (at, same_texts, same_rows)) =
     rw (same_texts, same_rows) (record { named = k.named; coverings = k.coverings; mentions = k.mentions; symbols_valid = k.symbols_valid; paths_valid = k.paths_valid })
@@ -87,7 +87,7 @@ symbol_entered paths found t symbol ss ms n whole k (inr (new, one_text, one_row
 
 -- ---- an occurrence more
 
--- what one more gives stands behind the others
+-- what one more gives follows the others
 more_rows : {A B : Type 0} (index_is : A → B) (gives : PlacedOccurrence → List B) (found : List PlacedOccurrence) (f : PlacedOccurrence) (old one new : List A) → new ≡ old ++ one → map index_is old ≡ flat_map gives found → map index_is one ≡ gives f → map index_is new ≡ flat_map gives (found ++ f ∷ [])
 more_rows index_is gives found f old one new e h g =
     ap (map index_is) e ∙ map-append index_is old one ∙ ap₂ (λ xs ys. xs ++ ys) h (g ∙ sym (append-nil (gives f))) ∙ sym (flat_map-append gives found (f ∷ []))
@@ -129,7 +129,7 @@ mention_none s f none = elim (cases_Bool (bytes_eq s f.occurrence.symbol)) [
   | inr apart ↦ rw apart refl
 ]
 
--- an occurrence that is no place
+-- an occurrence that is no location
 pub passed_over : (paths : List (List ℕ)) (found : List PlacedOccurrence) (t : Tables) (f : PlacedOccurrence) → Keeps paths found t → span_of f.occurrence.range ≡ None → Keeps paths (found ++ f ∷ []) t
 passed_over paths found t f k none = record {
   named = k.named;
@@ -145,7 +145,7 @@ mentions_with t n m = set t.mentions n (rows_at t.mentions n ++ m ∷ [])
 abbrev pub coverings_with : Tables → ℕ → PathEntry → List (List PathEntry)
 coverings_with t n c = set t.coverings n (rows_at t.coverings n ++ c ∷ [])
 
-module _ (paths : List (List ℕ)) (found : List PlacedOccurrence) (t : Tables) (f : PlacedOccurrence) (m : SymbolEntry) (symbol : ℕ) (whole : AreComplete t) (k : Keeps paths found t) (at_path : text_number t.paths f.path ≡ Some m.path) (at_symbol : text_number t.symbols f.occurrence.symbol ≡ Some symbol)
+module _ (paths : List (List ℕ)) (found : List PlacedOccurrence) (t : Tables) (f : PlacedOccurrence) (m : SymbolEntry) (symbol : ℕ) (whole : AreComplete t) (k : Keeps paths found t) (at_path : text_index t.paths f.path ≡ Some m.path) (at_symbol : text_index t.symbols f.occurrence.symbol ≡ Some symbol)
     (placed : span_of f.occurrence.range ≡ Some m.span) (defines : m.defines ≡ is_definition f.occurrence) where
   mentions_more : (s : List ℕ) → map (mention_model t.paths) (rows_under t.symbols (mentions_with t symbol m) s) ≡ flat_map (mention_of s) (found ++ f ∷ [])
   mentions_more s =
@@ -187,15 +187,15 @@ module _ (paths : List (List ℕ)) (found : List PlacedOccurrence) (t : Tables) 
 -- ---- what was entered
 
 module _ {A : Type 0} (texts : List (List ℕ)) (rows : List (List A)) (text : List ℕ) (more_texts : List (List ℕ)) (more_rows : List (List A)) (n : ℕ) (long : length texts ≡ length rows) where
-  pub entered_whole : IsEntered texts rows text more_texts more_rows n → length more_texts ≡ length more_rows
+  pub entered_whole : IsInserted texts rows text more_texts more_rows n → length more_texts ≡ length more_rows
   entered_whole (inl (at, t, r)) = rw (t, r) long
   entered_whole (inr (new, t, r, last)) = rw (t, r) (let e = length-append texts (text ∷ []) in let f = length-append rows ([] ∷ []) in omega (arith, e, f, long))
 
-  pub entered_number : IsEntered texts rows text more_texts more_rows n → text_number more_texts text ≡ Some n
+  pub entered_number : IsInserted texts rows text more_texts more_rows n → text_index more_texts text ≡ Some n
   entered_number (inl (at, t, r)) = rw t at
   entered_number (inr (new, t, r, last)) = rw (t, last) (number_last texts text new)
 
-  pub entered_within : IsEntered texts rows text more_texts more_rows n → n < length more_rows
+  pub entered_within : IsInserted texts rows text more_texts more_rows n → n < length more_rows
   entered_within h = let l = (number_there more_texts text n (entered_number h)).0 in let e = entered_whole h in omega (arith, l, e)
 
 pub whole_is : (text : List ℕ) → eqb (length text) 0 ≡ false → (b : ℕ) × (more : List ℕ) × (text ≡ b ∷ more)
@@ -207,7 +207,7 @@ empty_is [] e = refl
 empty_is (b ∷ more) e = absurd (let z = eqb-true (length (b ∷ more)) 0 e in omega (arith, z))
 
 -- the symbol is entered, and then a mention of it
-module _ (t : Tables) (symbol : List ℕ) (ss : List (List ℕ)) (ms : List (List SymbolEntry)) (n : ℕ) (m : SymbolEntry) (whole : AreComplete t) (entered : IsEntered t.symbols t.mentions symbol ss ms n) where
+module _ (t : Tables) (symbol : List ℕ) (ss : List (List ℕ)) (ms : List (List SymbolEntry)) (n : ℕ) (m : SymbolEntry) (whole : AreComplete t) (entered : IsInserted t.symbols t.mentions symbol ss ms n) where
   whole_more : AreComplete (record { paths = t.paths; coverings = t.coverings; symbols = ss; mentions = ms })
   whole_more = record { of_paths = whole.of_paths; of_symbols = entered_whole t.symbols t.mentions symbol ss ms n whole.of_symbols entered }
 
@@ -220,12 +220,12 @@ module _ (t : Tables) (symbol : List ℕ) (ss : List (List ℕ)) (ms : List (Lis
   pub covered_whole : (c : PathEntry) → AreComplete (record { paths = t.paths; coverings = set t.coverings m.path (rows_at t.coverings m.path ++ c ∷ []); symbols = ss; mentions = set ms n (rows_at ms n ++ m ∷ []) })
   covered_whole c = record { of_paths = whole.of_paths ∙ sym (length-set t.coverings m.path (rows_at t.coverings m.path ++ c ∷ [])); of_symbols = bare_whole.of_symbols }
 
-  module _ (paths : List (List ℕ)) (found : List PlacedOccurrence) (f : PlacedOccurrence) (k : Keeps paths found t) (at : text_number t.paths f.path ≡ Some m.path) (is : IsMentionOf f symbol m) where
+  module _ (paths : List (List ℕ)) (found : List PlacedOccurrence) (f : PlacedOccurrence) (k : Keeps paths found t) (at : text_index t.paths f.path ≡ Some m.path) (is : IsMentionOf f symbol m) where
     kept_entered : Keeps paths found (record { paths = t.paths; coverings = t.coverings; symbols = ss; mentions = ms })
     kept_entered = symbol_entered paths found t symbol ss ms n whole k entered
 
-    number_more : text_number ss f.occurrence.symbol ≡ Some n
-    number_more = ap (text_number ss) is.named ∙ entered_number t.symbols t.mentions symbol ss ms n whole.of_symbols entered
+    number_more : text_index ss f.occurrence.symbol ≡ Some n
+    number_more = ap (text_index ss) is.named ∙ entered_number t.symbols t.mentions symbol ss ms n whole.of_symbols entered
 
     pub bare_mentioned : eqb (length symbol) 0 ≡ true → Keeps paths (found ++ f ∷ []) (record { paths = t.paths; coverings = t.coverings; symbols = ss; mentions = set ms n (rows_at ms n ++ m ∷ []) })
     bare_mentioned e =

@@ -1,4 +1,4 @@
--- What a walk over the records lists is what all occurrences of the index give.
+-- A walk over the records lists the definitions among all occurrences of the index.
 use Rattle.std.proofs.Common.{◌≡◌, ℕ, Bool, true, false, not, List, [], ◌∷◌, ◌++◌, map, Option, Some, None, refl, sym, ap, ap₂, ◌∙◌, append_assoc, subst, inl, inr}
 use Rattle.std.specs.Prelude.{◌&&◌, ◌||◌, filter, option_map, if◌then◌else◌}
 use Rattle.std.specs.List.{AllByRecursion, flat_map}
@@ -13,7 +13,7 @@ use Rattle.scip_index.specs.Meaning.{document_of, occurrence_of, Means}
 use Rattle.scip_index.specs.Plain.{DocumentModel, IndexModel, OccurrenceModel}
 use Rattle.scip_index.proofs.OutcomeLaws.{no_fault}
 use Rattle.scip_index.proofs.CheckedLaws.{all_append, paths_are_texts, symbols_are_texts, HasPathText, HaveSymbolTexts}
-use Rattle.text_escape.specs.Places.{Style}
+use Rattle.texts.specs.Places.{Style}
 use Rattle.index_store.specs.declared.span.Span.{Span}
 use Rattle.index_store.specs.Direct.{covering_of}
 use Rattle.index_store.specs.Queries.{PlacedOccurrence, IsSymbolAt, all_occurrences, occurrence_at, occurrences_in, is_definition, is_local, location_at}

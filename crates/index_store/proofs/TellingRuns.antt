@@ -1,4 +1,4 @@
--- From what the lower crates promise to what a run that tells a text is.
+-- The contracts of lower crates imply the definition of a run that writes a text.
 use Rattle.std.proofs.Common.{◌≡◌, ℕ, List, Option, Err, inl, inr}
 use Rattle.std.proofs.KnownBytes.{Keeps-refl}
 use Rattle.byte_sink.specs.declared.sink.SinkFault.{SinkFault}

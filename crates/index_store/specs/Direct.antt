@@ -19,7 +19,8 @@ use Rattle.index_store.specs.Stores.{span_with_symbol}
 
 -- ---- the symbol at a position
 
--- the result of a lookup of the symbol at a position: the symbol or none, `NoDocument` if no document has the path, or `Memory`, of which nothing is claimed
+-- the result of a lookup of the symbol at a position: the symbol or none, `NoDocument` if no document has the path, or `Memory`, of which
+-- nothing is claimed
 abbrev pub IsSymbolLookup : IndexModel → List ℕ → Position → Result (Option (List ℕ)) StoreFault → Type 0
 IsSymbolLookup index path at (Ok symbol) = HasPath index path × IsSymbolAt (all_occurrences index) path at symbol
 IsSymbolLookup index path at (Err faults.NoDocument) = HasPath index path → ⊥

@@ -1,7 +1,7 @@
 -- The lines of locations.
 use Rattle.std.specs.Prelude.{ℕ, List, ◌++◌, codes}
 use Rattle.std.specs.List.{flat_map}
-use Rattle.text_escape.specs.Places.{location_text, position_text, Style}
+use Rattle.texts.specs.Places.{location_text, position_text, Style}
 use Rattle.index_store.specs.Queries.{LocationModel}
 
 -- a location as PATH:LINE:COL-LINE:COL in this style, from its start to its end

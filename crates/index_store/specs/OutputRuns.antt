@@ -3,8 +3,8 @@ use Rattle.std.specs.Prelude.{◌≡◌, ◌⊎◌, ℕ, List, [], ◌++◌, cod
 use Rattle.std.specs.Io.KnownBytes.{Appends, Keeps}
 use Rattle.byte_sink.specs.Sinks.{AppendsPrefix}
 use Rattle.proto_wire.specs.Messages.{IsFirstFault}
-use Rattle.text_escape.specs.Escapes.{escaped}
-use Rattle.text_escape.specs.Places.{Style}
+use Rattle.texts.specs.Escapes.{escaped}
+use Rattle.texts.specs.Places.{Style}
 use Rattle.scip_index.specs.Meaning.{index_fault, Means}
 use Rattle.scip_index.specs.Plain.{IndexModel}
 use Rattle.index_store.specs.declared.query_runs.Which.{Which}
@@ -29,14 +29,14 @@ pub record IsOutput (Has : IndexModel → Type 0) (IsText : IndexModel → List 
   pub text_is : IsText index text
 
 -- the bytes encode an index that doesn't have what is requested
-abbrev pub IsLacking : (IndexModel → Type 0) → List ℕ → Type 0
-IsLacking Has bytes = (index : IndexModel) × Means bytes index × (Has index → ⊥)
+abbrev pub LacksRequested : (IndexModel → Type 0) → List ℕ → Type 0
+LacksRequested Has bytes = (index : IndexModel) × Means bytes index × (Has index → ⊥)
 
 -- what a run writes: with `Ok` the whole output, with `Device` or `Memory` at most a prefix of it, with another error nothing
 abbrev pub IsOutputRun : (IndexModel → Type 0) → (IndexModel → List ℕ → Type 0) → List ℕ → Option (List ℕ) → Option (List ℕ) → Result (Unit {0}) QueryFault → Type 0
 IsOutputRun Has IsText bytes old new (Ok _) = (text : List ℕ) × IsOutput Has IsText bytes text × Appends old new text
 IsOutputRun Has IsText bytes old new (Err (Wire fault)) = IsFirstFault index_fault 0 bytes fault × Keeps old new
-IsOutputRun Has IsText bytes old new (Err NoDocument) = IsLacking Has bytes × Keeps old new
+IsOutputRun Has IsText bytes old new (Err NoDocument) = LacksRequested Has bytes × Keeps old new
 IsOutputRun Has IsText bytes old new (Err Device) = (text : List ℕ) × IsOutput Has IsText bytes text × AppendsPrefix old new text
 IsOutputRun Has IsText bytes old new (Err Memory) = Keeps old new ⊎ ((text : List ℕ) × IsOutput Has IsText bytes text × AppendsPrefix old new text)
 
@@ -67,7 +67,8 @@ IsSymbolRun bytes path at old new result = IsOutputRun (λ index. HasPath index 
 
 -- ---- the locations of a symbol by its string
 
--- the locations of a symbol by its string: of a local symbol in the documents of the given path, and without a path none; of any other in all documents
+-- the locations of a symbol by its string: of a local symbol in the documents of the given path, and without a path none; of any other in
+-- all documents
 abbrev pub named_locations : Which → IndexModel → Option (List ℕ) → List ℕ → List LocationModel
 named_locations which index (Some path) symbol = requested_locations which index path symbol
 named_locations which index None symbol = if is_local symbol then [] else requested_locations which index [] symbol

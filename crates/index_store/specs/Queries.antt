@@ -9,7 +9,7 @@ use Rattle.index_store.specs.declared.fault.StoreFault.TheVariants as faults
 use Rattle.index_store.specs.declared.location.Place.{Place}
 use Rattle.index_store.specs.declared.location.Position.{Position}
 use Rattle.index_store.specs.declared.span.Span.{Span}
-use Rattle.index_store.specs.Spans.{is_in, is_nearer, span_of}
+use Rattle.index_store.specs.Spans.{is_in_span, is_nearer, span_of}
 
 -- an occurrence with its document's path
 pub record PlacedOccurrence : Type 0 where
@@ -44,7 +44,7 @@ pub record Covers (path : List ℕ) (at : Position) (f : PlacedOccurrence) (span
   pub here : f.path ≡ path
   pub some : f.occurrence.symbol ≢ []
   pub placed : span_of f.occurrence.range ≡ Some span
-  pub inside : is_in at span ≡ true
+  pub inside : is_in_span at span ≡ true
 
 -- the nearest occurrence that covers the position: no other covering one is nearer, and none before it is equally near
 pub record IsNearest (found : List PlacedOccurrence) (path : List ℕ) (at : Position) (f : PlacedOccurrence) (span : Span) : Type 0 where
@@ -118,7 +118,8 @@ definitions index path symbol = locations_of (filter (λ f. matches_lookup path 
 abbrev pub references : IndexModel → List ℕ → List ℕ → List LocationModel
 references index path symbol = locations_of (filter (λ f. matches_lookup path symbol f && not (is_definition f.occurrence)) (all_occurrences index))
 
--- the result of a store's lookup of a symbol: these locations, `NoDocument` if no document has the path, or `Memory`, of which nothing is claimed
+-- the result of a store's lookup of a symbol: these locations, `NoDocument` if no document has the path, or `Memory`, of which nothing is
+-- claimed
 abbrev pub AreLocationsResult : IndexModel → List ℕ → List LocationModel → Result (List LocationModel) StoreFault → Type 0
 AreLocationsResult index path wanted (Ok locations) = HasPath index path × (locations ≡ wanted)
 AreLocationsResult index path wanted (Err faults.NoDocument) = HasPath index path → ⊥

@@ -3,7 +3,7 @@ use Rattle.std.specs.Prelude.{◌≡◌, ◌⊎◌, ℕ, List, [], Option, Some,
 use Rattle.std.specs.Io.KnownBytes.{Appends, Keeps}
 use Rattle.byte_sink.specs.Sinks.{AppendsPrefix}
 use Rattle.proto_wire.specs.Messages.{IsFirstFault}
-use Rattle.text_escape.specs.Places.{Style}
+use Rattle.texts.specs.Places.{Style}
 use Rattle.scip_index.specs.Meaning.{index_fault, Means}
 use Rattle.scip_index.specs.Plain.{IndexModel}
 use Rattle.index_store.specs.declared.location.Position.{Position}
@@ -24,7 +24,8 @@ abbrev pub query_locations : Which → IndexModel → List ℕ → Option (List 
 query_locations which index path None = []
 query_locations which index path (Some symbol) = requested_locations which index path symbol
 
--- the text is the output of a query at a position of a document of the index: the lines of the definitions or references of the symbol there
+-- the text is the output of a query at a position of a document of the index: the lines of the definitions or references of the symbol
+-- there
 pub record IsResultText (style : Style) (bytes path : List ℕ) (at : Position) (which : Which) (text : List ℕ) : Type 0 where
   pub index : IndexModel
   pub means : Means bytes index

@@ -31,8 +31,8 @@ span_of (line ∷ start ∷ last ∷ end ∷ []) = span_between (natural line) (
 span_of (a ∷ b ∷ c ∷ d ∷ e ∷ more) = None
 
 -- the span contains the position: it starts at or before the position and ends after it
-abbrev pub is_in : Position → Span → Bool
-is_in at span = not (is_before at span.start) && is_before at span.end
+abbrev pub is_in_span : Position → Span → Bool
+is_in_span at span = not (is_before at span.start) && is_before at span.end
 
 -- the first span is nearer than the second: it starts later, or starts at the same position and ends earlier
 abbrev pub is_nearer : Span → Span → Bool

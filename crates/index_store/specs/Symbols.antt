@@ -3,8 +3,8 @@ use Rattle.std.specs.Prelude.{◌&&◌, ◌||◌, not, ℕ, Bool, true, List, []
 use Rattle.std.specs.List.{AllByRecursion, flat_map}
 use Rattle.std.specs.Option.{is_some}
 use Rattle.std.specs.Str.{IsUtf8, bytes_eq}
-use Rattle.text_escape.specs.Escapes.{escaped}
-use Rattle.text_escape.specs.Places.{Style}
+use Rattle.texts.specs.Escapes.{escaped}
+use Rattle.texts.specs.Places.{Style}
 use Rattle.scip_index.specs.Plain.{DocumentModel, IndexModel, OccurrenceModel}
 use Rattle.index_store.specs.declared.span.Span.{Span}
 use Rattle.index_store.specs.Direct.{covering_of}
@@ -15,7 +15,8 @@ use Rattle.index_store.specs.Queries.{PlacedOccurrence, LocationModel, all_occur
 abbrev pub defines_symbol : OccurrenceModel → Bool
 defines_symbol o = is_definition o && not (bytes_eq o.symbol [])
 
--- the occurrence is listed: without a path every definition of a symbol that isn't local, with a path every definition in the documents of that path
+-- the occurrence is listed: without a path every definition of a symbol that isn't local, with a path every definition in the documents of
+-- that path
 abbrev pub is_listed : Option (List ℕ) → PlacedOccurrence → Bool
 is_listed None f = defines_symbol f.occurrence && not (is_local f.occurrence.symbol)
 is_listed (Some path) f = defines_symbol f.occurrence && bytes_eq f.path path

@@ -6,7 +6,7 @@ use Rattle.index_store.specs.declared.location.Position.{Position}
 use Rattle.index_store.specs.declared.row.PathEntry.{PathEntry}
 use Rattle.index_store.specs.declared.span.Span.{Span}
 use Rattle.index_store.specs.Queries.{LocationModel, definitions, references}
-use Rattle.index_store.specs.Spans.{is_in, is_nearer}
+use Rattle.index_store.specs.Spans.{is_in_span, is_nearer}
 use Rattle.index_store.specs.Stores.{MentionModel}
 
 -- the nearer of two elements that cover a position; of two equally near ones the first
@@ -14,9 +14,9 @@ abbrev pub nearer_of : {A : Type 0} → (A → Span) → Option A → A → A
 nearer_of span None row = row
 nearer_of span (Some other) row = if is_nearer (span row) (span other) then row else other
 
--- the nearest element so far, or the next element if it covers the position and is nearer
+-- the nearest covering element of those so far and the next element; of two equally near ones the first
 abbrev pub nearer : {A : Type 0} → (A → Span) → Position → Option A → A → Option A
-nearer span at best row = if is_in at (span row) then Some (nearer_of span best row) else best
+nearer span at best row = if is_in_span at (span row) then Some (nearer_of span best row) else best
 
 -- the span of an entry of a path
 abbrev pub covering_span : PathEntry → Span
@@ -35,6 +35,6 @@ abbrev pub requested_location : Bool → Bool → List ℕ → MentionModel → 
 requested_location defines local path m = if is_requested defines local path m then record { path = m.path; span = m.span } ∷ [] else []
 
 -- the definitions of a symbol, or else its references
-abbrev pub wanted_locations : Bool → IndexModel → List ℕ → List ℕ → List LocationModel
-wanted_locations true index path symbol = definitions index path symbol
-wanted_locations false index path symbol = references index path symbol
+abbrev pub locations_by_role : Bool → IndexModel → List ℕ → List ℕ → List LocationModel
+locations_by_role true index path symbol = definitions index path symbol
+locations_by_role false index path symbol = references index path symbol

@@ -8,7 +8,7 @@ ghost use Rattle.scip_index.specs.Streaming.{given};
 ghost use Rattle.scip_index.specs.Plain.{document_model, occurrence_model};
 ghost use Rattle.index_store.specs.Queries.{PlacedOccurrence, occurrence_at, occurrences_in, is_definition};
 ghost use Rattle.index_store.specs.Stores.{paths_of, tables_of, AreComplete, IsMentionOf, IsStoreOfBytes, Keeps};
-ghost use Rattle.index_store.specs.Tables.{text_number, texts_in};
+ghost use Rattle.index_store.specs.Tables.{text_index, texts_in};
 
 use crate::row::{PathEntry, SymbolEntry};
 use crate::span::span_of;
@@ -44,7 +44,7 @@ impl StoreBuilder {
     }
 
     /// Adds an occurrence to the entries of its symbol, and to those of its path unless its symbol is empty.
-    fn add_mention(
+    fn add_symbol_entry(
         &mut self,
         alloc: Global,
         symbol: &str,
@@ -54,9 +54,9 @@ impl StoreBuilder {
         requires within { mention.path < length (texts_in self.old.by_path) }
         ensures whole { OnOk result (AreComplete (tables_of self.new)) }
         ensures paths { texts_in self.new.by_path ≡ texts_in self.old.by_path }
-        ensures retained { (paths : List (List ℕ)) (found : List PlacedOccurrence) (f : PlacedOccurrence) → Keeps paths found (tables_of self.old) → text_number (texts_in self.old.by_path) f.path ≡ Some mention.path → IsMentionOf f symbol.now mention → OnOk result (Keeps paths (found ++ f ∷ []) (tables_of self.new)) }
+        ensures retained { (paths : List (List ℕ)) (found : List PlacedOccurrence) (f : PlacedOccurrence) → Keeps paths found (tables_of self.old) → text_index (texts_in self.old.by_path) f.path ≡ Some mention.path → IsMentionOf f symbol.now mention → OnOk result (Keeps paths (found ++ f ∷ []) (tables_of self.new)) }
     {
-        let number = self.by_symbol.enter(alloc, symbol)?;
+        let number = self.by_symbol.find_or_insert(alloc, symbol)?;
         self.by_symbol.push(number, mention)?;
         if !symbol.is_empty() {
             let covering = PathEntry {
@@ -74,7 +74,7 @@ impl StoreBuilder {
         requires within { path < length (texts_in self.old.by_path) }
         ensures whole { OnOk result (AreComplete (tables_of self.new)) }
         ensures paths { texts_in self.new.by_path ≡ texts_in self.old.by_path }
-        ensures retained { (paths : List (List ℕ)) (found : List PlacedOccurrence) (name : List ℕ) → Keeps paths found (tables_of self.old) → text_number (texts_in self.old.by_path) name ≡ Some path → OnOk result (Keeps paths (found ++ occurrence_at name (occurrence_model occurrence.now) ∷ []) (tables_of self.new)) }
+        ensures retained { (paths : List (List ℕ)) (found : List PlacedOccurrence) (name : List ℕ) → Keeps paths found (tables_of self.old) → text_index (texts_in self.old.by_path) name ≡ Some path → OnOk result (Keeps paths (found ++ occurrence_at name (occurrence_model occurrence.now) ∷ []) (tables_of self.new)) }
     {
         match span_of(occurrence.range.as_slice()) {
             None => Ok(()),
@@ -84,7 +84,7 @@ impl StoreBuilder {
                     span,
                     defines: is_definition(occurrence),
                 };
-                self.add_mention(alloc, occurrence.symbol.as_str(), mention)
+                self.add_symbol_entry(alloc, occurrence.symbol.as_str(), mention)
             }
         }
     }
@@ -95,7 +95,9 @@ impl StoreBuilder {
         ensures whole { OnOk result (AreComplete (tables_of self.new)) }
         ensures retained { (paths : List (List ℕ)) (found : List PlacedOccurrence) → Keeps paths found (tables_of self.old) → OnOk result (Keeps (paths ++ (document_model document.now).relative_path ∷ []) (found ++ occurrences_in (document_model document.now)) (tables_of self.new)) }
     {
-        let path = self.by_path.enter(alloc, document.relative_path.as_str())?;
+        let path = self
+            .by_path
+            .find_or_insert(alloc, document.relative_path.as_str())?;
         for occurrence in &document.occurrences {
             self.add(alloc, path, occurrence)?;
         }
@@ -120,7 +122,7 @@ impl StoreBuilder {
     }
 
     /// Adds the paths and the occurrences of the documents that a reader reads to empty tables. It holds one document at a time.
-    pub(crate) fn add_read(
+    pub(crate) fn read_documents(
         &mut self,
         alloc: Global,
         reader: &mut IndexReader<'_>,

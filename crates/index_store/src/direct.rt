@@ -7,16 +7,16 @@ ghost use Rattle.proto_wire.specs.MessageBytes.{records_of};
 ghost use Rattle.proto_wire.specs.Messages.{bytes_in, each_of, latest};
 ghost use Rattle.scip_index.specs.Meaning.{document_of, occurrence_of, Means};
 ghost use Rattle.scip_index.specs.Plain.{IndexModel};
-ghost use Rattle.index_store.specs.TableLookup.{nearer, wanted_locations};
+ghost use Rattle.index_store.specs.TableLookup.{nearer, locations_by_role};
 ghost use Rattle.index_store.specs.Direct.{covering_of, documents_of, has_document, is_match, nearest_at, nearest_of, pair_span, location_of_symbol, locations_in_document, symbol_span_model, HaveTextPaths, IsSymbolLookup};
 ghost use Rattle.index_store.specs.Queries.{answered, definitions, is_definition, is_local, location_model, references};
 ghost use Rattle.index_store.specs.Spans.{span_of};
 
-use crate::span::{Span, is_in, is_nearer, span_of};
+use crate::span::{Span, is_in_span, is_nearer, span_of};
 use crate::{Place, Position, StoreFault};
 use proto_wire::{
-    MessageBytes, WireValue, field_numbers, last_bytes, last_bytes_and_number,
-    last_bytes_and_numbers, last_number, next_compact, next_message, next_message_with_bytes,
+    MessageBytes, WireValue, last_bytes, last_bytes_and_number, last_bytes_and_numbers,
+    last_number, next_compact_record, next_message, next_message_with_bytes, read_field_numbers,
 };
 use std::alloc::{AllocError, Global};
 
@@ -32,7 +32,7 @@ fn span_in(occurrence: MessageBytes<'_>, numbers: &mut Vec<i32>) -> Result<Optio
     requires { occurrence.start + length occurrence.bytes.now < 2 ^ 64 }
     ensures { IfOk result (λ s. s ≡ span_of (occurrence_of (records_of occurrence.entry)).range) }
 {
-    field_numbers(1, occurrence, numbers)?;
+    read_field_numbers(1, occurrence, numbers)?;
     Ok(span_of(numbers.as_slice()))
 }
 
@@ -62,7 +62,7 @@ fn nearer_of_two<'a>(
 ) -> Option<SymbolSpan<'a>>
     ensures { option_map symbol_span_model result ≡ nearer pair_span at (option_map symbol_span_model best.entry) (symbol_span_model row.entry) }
 {
-    if !is_in(at, row.span) {
+    if !is_in_span(at, row.span) {
         return best;
     }
     match best {
@@ -72,7 +72,7 @@ fn nearer_of_two<'a>(
 }
 
 /// The nearest of `best` and the occurrences of a document, with the document's path, in one pass.
-fn nearest_and_path<'a>(
+fn nearest_with_path<'a>(
     document: MessageBytes<'a>,
     at: Position,
     best: Option<SymbolSpan<'a>>,
@@ -98,7 +98,7 @@ fn nearest_and_path<'a>(
 }
 
 /// Whether the string field with this number is `text`. Of several records the last one counts, and without a record the field is empty.
-fn string_field_is(field: u32, message: MessageBytes<'_>, text: &[u8]) -> bool
+fn has_string_field(field: u32, message: MessageBytes<'_>, text: &[u8]) -> bool
     requires { message.start + length message.bytes.now < 2 ^ 64 }
     ensures { result ≡ bytes_eq (latest [] (each_of field bytes_in (records_of message.entry))) text.now }
 {
@@ -112,7 +112,7 @@ pub(crate) fn has_document(index: MessageBytes<'_>, path: &[u8]) -> bool
 {
     let mut rest = index;
     while let Some(document) = next_message(2, &mut rest) {
-        if string_field_is(1, document, path) {
+        if has_string_field(1, document, path) {
             return true;
         }
     }
@@ -133,14 +133,14 @@ fn first_path<'a>(document: MessageBytes<'a>) -> Option<&'a [u8]>
     requires { document.start + length document.bytes.now < 2 ^ 64 }
 {
     let mut rest = document;
-    match next_compact(&mut rest) {
+    match next_compact_record(&mut rest) {
         Some((wire, text)) if wire.field == 1 => Some(text),
         _ => None,
     }
 }
 
 /// Whether `first_path` returns this path for a document.
-fn first_path_is(document: MessageBytes<'_>, path: &[u8]) -> bool
+fn has_first_path(document: MessageBytes<'_>, path: &[u8]) -> bool
     requires { document.start + length document.bytes.now < 2 ^ 64 }
 {
     match first_path(document) {
@@ -162,10 +162,10 @@ fn search_document<'a>(
     ensures has { IfOk result (λ s. s.has_path ≡ (found.entry.has_path || bytes_eq (document_of (records_of document.entry)).relative_path path.now)) }
     ensures nearest { IfOk result (λ s. option_map symbol_span_model s.best ≡ nearest_at path.now at (option_map symbol_span_model found.entry.best) (document_of (records_of document.entry))) }
 {
-    if !first_path_is(document, path) && !string_field_is(1, document, path) {
+    if !has_first_path(document, path) && !has_string_field(1, document, path) {
         return Ok(found);
     }
-    let (best, last) = nearest_and_path(document, at, found.best, numbers)?;
+    let (best, last) = nearest_with_path(document, at, found.best, numbers)?;
     if last != path {
         return Ok(found);
     }
@@ -254,7 +254,7 @@ const MAX_EXTRA: usize = 4;
 
 /// Whether the rest of an occurrence is fewer than `MAX_EXTRA` records, each with a key and a number or length of one byte, and none a
 /// symbol. With `false` the rest may still have no symbol.
-fn lacks_symbol(left: MessageBytes<'_>) -> bool
+fn has_no_symbol(left: MessageBytes<'_>) -> bool
     requires { left.start + length left.bytes.now < 2 ^ 64 }
     ensures { result ≡ true → each_of 2 bytes_in (records_of left.entry) ≡ [] }
 {
@@ -263,7 +263,7 @@ fn lacks_symbol(left: MessageBytes<'_>) -> bool
         if rest.bytes.is_empty() {
             return true;
         }
-        match next_compact(&mut rest) {
+        match next_compact_record(&mut rest) {
             Some((wire, _)) if wire.field != 2 => {}
             _ => return false,
         }
@@ -279,10 +279,10 @@ fn compact_symbol<'a>(occurrence: MessageBytes<'a>) -> Option<&'a [u8]>
     ensures { IfSome result (λ symbol. latest [] (each_of 2 bytes_in (records_of occurrence.entry)) ≡ symbol.now) }
 {
     let mut rest = occurrence;
-    let (range, _) = next_compact(&mut rest)?;
-    let (symbol, text) = next_compact(&mut rest)?;
+    let (range, _) = next_compact_record(&mut rest)?;
+    let (symbol, text) = next_compact_record(&mut rest)?;
     match symbol.value {
-        WireValue::Bytes(_) if range.field == 1 && symbol.field == 2 && lacks_symbol(rest) => {
+        WireValue::Bytes(_) if range.field == 1 && symbol.field == 2 && has_no_symbol(rest) => {
             Some(text)
         }
         _ => None,
@@ -298,7 +298,8 @@ fn matches_any_form(occurrence: MessageBytes<'_>, lookup: Lookup<'_>) -> bool
     symbol == lookup.symbol && (roles.cast_unsigned() % 2 == 1) == lookup.defines
 }
 
-/// Whether an occurrence has the symbol and the requested role. `compact_symbol` saves the general pass over the records of most occurrences.
+/// Whether an occurrence has the symbol and the requested role. `compact_symbol` saves the general pass over the records of most
+/// occurrences.
 fn matches_lookup(occurrence: MessageBytes<'_>, lookup: Lookup<'_>) -> bool
     requires { occurrence.start + length occurrence.bytes.now < 2 ^ 64 }
     ensures { result ≡ is_match lookup.entry.defines lookup.entry.symbol.now (occurrence_of (records_of occurrence.entry)) }
@@ -436,7 +437,7 @@ fn locations_in_bytes<'a>(
     symbol: &[u8],
     defines: bool,
 ) -> Result<Vec<Place<'a>>, AllocError>
-    ensures { (index : IndexModel) → Means bytes.now index → IfOk result (λ locations. map location_model locations.items ≡ wanted_locations defines index path.now symbol.now) }
+    ensures { (index : IndexModel) → Means bytes.now index → IfOk result (λ locations. map location_model locations.items ≡ locations_by_role defines index path.now symbol.now) }
 {
     let lookup = Lookup {
         symbol,

@@ -1,6 +1,6 @@
 //! Queries on a SCIP index: the symbol at a position, the definitions and references of a symbol, and all definitions (scip.proto).
 //! Calls on the bytes of an index walk its records and build nothing; a `Store` is built once, for many queries.
-//! Depends on `scip_index` and `proto_wire` for the format, on `text_escape` and `byte_sink` for lines of output.
+//! Depends on `scip_index` and `proto_wire` for the format, on `texts` and `byte_sink` for lines of output.
 //! It also depends on `indexmap` for the tables of a store and on `thiserror` for errors.
 //! The main call is `query`. With success the sink takes exactly the lines of the locations that the index's occurrences determine.
 //! Otherwise it fails with the first fault of the bytes, or with `NoDocument` if no document has the path.

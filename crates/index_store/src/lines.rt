@@ -5,15 +5,15 @@ ghost use Rattle.byte_sink.specs.declared.sink.SinkFault.TheVariants.{Memory};
 ghost use Rattle.byte_sink.specs.Sinks.{failures_after, Writes};
 ghost use Rattle.index_store.specs.Queries.{location_model};
 ghost use Rattle.index_store.specs.Lines.{location_line, location_lines, range_text};
-ghost use Rattle.text_escape.specs.Places.{style_of, writer_style};
+ghost use Rattle.texts.specs.Places.{style_of, writer_style};
 
 use crate::Place;
 use byte_sink::{Sink, SinkFault, flush_if_full, write_fully};
 use std::alloc::{AllocError, Global};
-use text_escape::{LocationStyle, LocationWriter};
+use texts::{LocationStyle, LocationWriter};
 
 /// Appends a location as `PATH:LINE:COL-LINE:COL`.
-pub(crate) fn push_location<'a>(
+pub(crate) fn append_location<'a>(
     writer: &mut LocationWriter<'a>,
     text: &mut String,
     location: &Place<'a>,
@@ -22,13 +22,13 @@ pub(crate) fn push_location<'a>(
     ensures style { writer_style writer.new ≡ writer_style writer.old }
 {
     let (start, end) = (location.start, location.end);
-    writer.push_start(text, location.path, start.line, start.column)?;
+    writer.append_location(text, location.path, start.line, start.column)?;
     text.push('-')?;
-    writer.push_position(text, end.line, end.column)
+    writer.append_position(text, end.line, end.column)
 }
 
 /// Appends the line of a location.
-fn push_line<'a>(
+fn append_line<'a>(
     writer: &mut LocationWriter<'a>,
     text: &mut String,
     location: &Place<'a>,
@@ -37,7 +37,7 @@ fn push_line<'a>(
     ensures style { writer_style writer.new ≡ writer_style writer.old }
     ensures memory { IfErr result (λ fault. fault ≡ Memory) }
 {
-    push_location(writer, text, location).map_err(|_| SinkFault::Memory)?;
+    append_location(writer, text, location).map_err(|_| SinkFault::Memory)?;
     text.push('\n').map_err(|_| SinkFault::Memory)
 }
 
@@ -58,7 +58,7 @@ pub fn write_lines<S: Sink>(
     let mut text = String::new(alloc);
     for location in locations {
         flush_if_full(&mut text, sink)?;
-        push_line(&mut writer, &mut text, location)?;
+        append_line(&mut writer, &mut text, location)?;
     }
     write_fully(sink, text.as_bytes())
 }

@@ -4,13 +4,13 @@ ghost use Rattle.index_store.specs.TableLookup.{covering_span, nearer, nearest};
 
 use crate::Position;
 use crate::row::PathEntry;
-use crate::span::{is_in, is_nearer};
+use crate::span::{is_in_span, is_nearer};
 
 /// `row` if it covers the position and is nearer than `best`, and otherwise `best`.
 fn nearer(at: Position, best: Option<PathEntry>, row: PathEntry) -> Option<PathEntry>
     ensures { result ≡ nearer covering_span at best row }
 {
-    if !is_in(at, row.span) {
+    if !is_in_span(at, row.span) {
         return best;
     }
     match best {

@@ -5,8 +5,8 @@ ghost use Rattle.std.specs.Str.{IsUtf8};
 ghost use Rattle.byte_sink.specs.Sinks.{failures_by};
 ghost use Rattle.scip_index.specs.Meaning.{Means};
 ghost use Rattle.scip_index.specs.Plain.{IndexModel};
-ghost use Rattle.text_escape.specs.Escapes.{escaped};
-ghost use Rattle.text_escape.specs.Places.{style_of};
+ghost use Rattle.texts.specs.Escapes.{escaped};
+ghost use Rattle.texts.specs.Places.{style_of};
 ghost use Rattle.index_store.specs.declared.query_fault.QueryFault.TheVariants.{NoDocument};
 ghost use Rattle.index_store.specs.Queries.{location_model, HasPath};
 ghost use Rattle.index_store.specs.QueryRuns.{requested_locations, IsQueryRun, IsRejectedIndex};
@@ -23,7 +23,7 @@ use byte_sink::{Sink, write_fully};
 use proto_wire::MessageBytes;
 use scip_index::check;
 use std::alloc::{AllocError, Global};
-use text_escape::{LocationStyle, escaped};
+use texts::{LocationStyle, escaped};
 
 /// Which occurrences of a symbol a query returns.
 #[derive(Clone, Copy, Debug, PartialEq, Eq)]
@@ -132,7 +132,7 @@ fn check_path(bytes: &[u8], path: Option<&str>) -> Result<(), QueryFault>
 }
 
 /// Writes the lines of the definitions in bytes that encode an index.
-fn write_listed<S: Sink>(
+fn write_definition_lines<S: Sink>(
     alloc: Global,
     bytes: &[u8],
     path: Option<&str>,
@@ -170,7 +170,7 @@ pub fn list_symbols<S: Sink>(
     ensures failures { S.failures sink.new ≡ failures_by is_device result (S.failures sink.old) }
 {
     check_index(alloc, index)?;
-    write_listed(alloc, index, path, style, sink)
+    write_definition_lines(alloc, index, path, style, sink)
 }
 
 /// The line of a symbol string, with its control characters escaped.
@@ -250,7 +250,7 @@ fn named_locations<'a>(
 }
 
 /// Writes the lines of the definitions or references of a symbol by its string, in bytes that encode an index.
-fn write_named<S: Sink>(
+fn write_symbol_locations<S: Sink>(
     alloc: Global,
     bytes: &[u8],
     path: Option<&str>,
@@ -294,5 +294,5 @@ pub fn query_symbol<S: Sink>(
     ensures failures { S.failures sink.new ≡ failures_by is_device result (S.failures sink.old) }
 {
     check_index(alloc, index)?;
-    write_named(alloc, index, path, symbol, which, style, sink)
+    write_symbol_locations(alloc, index, path, symbol, which, style, sink)
 }

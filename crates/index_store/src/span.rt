@@ -1,6 +1,6 @@
 //! Spans of documents, and which of two spans is nearer.
 ghost use Rattle.std.specs.Prelude.{◌≡◌};
-ghost use Rattle.index_store.specs.Spans.{is_in, is_before, is_nearer, natural, span_between, span_of};
+ghost use Rattle.index_store.specs.Spans.{is_in_span, is_before, is_nearer, natural, span_between, span_of};
 
 use crate::Position;
 
@@ -65,8 +65,8 @@ fn is_before(a: Position, b: Position) -> bool
     a.line < b.line || (a.line == b.line && a.column < b.column)
 }
 
-pub(crate) fn is_in(at: Position, span: Span) -> bool
-    ensures { result ≡ is_in at span }
+pub(crate) fn is_in_span(at: Position, span: Span) -> bool
+    ensures { result ≡ is_in_span at span }
 {
     !is_before(at, span.start) && is_before(at, span.end)
 }

@@ -7,7 +7,7 @@ ghost use Rattle.scip_index.specs.Meaning.{index_fault};
 ghost use Rattle.scip_index.specs.Streaming.{given};
 ghost use Rattle.scip_index.specs.Plain.{document_model, index_model, IndexModel};
 ghost use Rattle.index_store.specs.declared.fault.StoreFault.TheVariants.{Memory};
-ghost use Rattle.index_store.specs.TableLookup.{requested_location, wanted_locations};
+ghost use Rattle.index_store.specs.TableLookup.{requested_location, locations_by_role};
 ghost use Rattle.index_store.specs.Queries.{answered, definitions, occurrences_in, is_local, location_model, references, AreLocationsResult, IsSymbolResult};
 ghost use Rattle.index_store.specs.Stores.{mentions_under, paths_of, mention_model, IsStoreOf, IsStoreOfBytes, Keeps};
 
@@ -87,7 +87,7 @@ impl Store {
         ensures fault { IfErr result (λ e. UnlessMemory e (IsFirstFault index_fault 0 reader.old.bytes e)) }
     {
         let mut builder = StoreBuilder::new(alloc);
-        builder.add_read(alloc, reader)?;
+        builder.read_documents(alloc, reader)?;
         Ok(Store {
             by_path: builder.by_path,
             by_symbol: builder.by_symbol,
@@ -105,7 +105,7 @@ impl Store {
         // the path.
         ensures exact { (index : IndexModel) → IsStoreOf index self.now → IsSymbolResult index path.now at (answered (option_map (λ symbol. symbol.now)) result) }
     {
-        match self.by_path.text_number(path) {
+        match self.by_path.text_index(path) {
             None => Err(StoreFault::NoDocument),
             Some(number) => match nearest(self.by_path.rows(number), at) {
                 None => Ok(None),
@@ -128,7 +128,7 @@ impl Store {
             path,
         };
         let alloc = self.by_symbol.allocator();
-        match self.by_symbol.text_number(symbol) {
+        match self.by_symbol.text_index(symbol) {
             None => Ok(Vec::new(alloc)),
             Some(number) => {
                 requested_locations(alloc, requested, &self.by_path, self.by_symbol.rows(number))
@@ -142,9 +142,9 @@ impl Store {
         symbol: &str,
         defines: bool,
     ) -> Result<Vec<Place<'a>>, StoreFault>
-        ensures exact { (index : IndexModel) → IsStoreOf index self.now → AreLocationsResult index path.now (wanted_locations defines index path.now symbol.now) (answered (λ locations. map location_model locations.items) result) }
+        ensures exact { (index : IndexModel) → IsStoreOf index self.now → AreLocationsResult index path.now (locations_by_role defines index path.now symbol.now) (answered (λ locations. map location_model locations.items) result) }
     {
-        match self.by_path.text_number(path) {
+        match self.by_path.text_index(path) {
             None => Err(StoreFault::NoDocument),
             Some(_) => Ok(self.locations_of(path, symbol, defines)?),
         }

@@ -9,17 +9,17 @@ ghost use Rattle.byte_sink.specs.Pieces.{WritesAllBut};
 ghost use Rattle.proto_wire.specs.MessageBytes.{records_of};
 ghost use Rattle.scip_index.specs.Meaning.{document_of, occurrence_of, Means};
 ghost use Rattle.scip_index.specs.Plain.{IndexModel};
-ghost use Rattle.text_escape.specs.Places.{style_of, writer_style};
+ghost use Rattle.texts.specs.Places.{style_of, writer_style};
 ghost use Rattle.index_store.specs.Direct.{documents_of, symbol_span_model};
 ghost use Rattle.index_store.specs.Symbols.{definition_lines, definitions_listed, is_requested, line_at, lines_in, lines_of_document, lines_of_occurrence, spans_listed, AreTextDocuments, HaveTextSymbols, IsTextDocument};
 
 use crate::Place;
 use crate::direct::{SymbolSpan, is_local, symbol_span_in};
-use crate::lines::push_location;
+use crate::lines::append_location;
 use byte_sink::{Sink, SinkFault, flush_if_full, write_fully};
 use proto_wire::{MessageBytes, last_bytes, last_bytes_and_number, next_message};
 use std::alloc::{AllocError, Global};
-use text_escape::{EscapingWriter, LocationStyle, LocationWriter};
+use texts::{EscapingWriter, LocationStyle, LocationWriter};
 
 /// State of the output: the writers of locations and of symbol strings, scratch space for the numbers of a range, and lines that aren't
 /// written yet.
@@ -76,14 +76,14 @@ impl<'a> Lines<'a> {
         ensures appended { OnOk result (string_bytes self.new.text ≡ string_bytes self.old.text ++ line_at (writer_style self.old.locations) location.now.path.now (record { start = location.now.start; end = location.now.end }, symbol.now)) }
         ensures style { writer_style self.new.locations ≡ writer_style self.old.locations }
     {
-        push_location(&mut self.locations, &mut self.text, location)?;
+        append_location(&mut self.locations, &mut self.text, location)?;
         self.text.push(' ')?;
         self.symbols.push(&mut self.text, symbol)?;
         self.text.push('\n')
     }
 
     /// Appends the line of a definition in a document of this path to `text`.
-    fn push_symbol_span(
+    fn append_symbol_span(
         &mut self,
         path: &'a str,
         symbol_span: SymbolSpan<'a>,
@@ -104,7 +104,7 @@ impl<'a> Lines<'a> {
     }
 
     /// Appends the line of an occurrence to `text`, if the occurrence is listed.
-    fn push_listed(
+    fn append_listed(
         &mut self,
         occurrence: MessageBytes<'a>,
         path: &'a str,
@@ -117,7 +117,7 @@ impl<'a> Lines<'a> {
     {
         match definition_in(occurrence, with_local, &mut self.numbers)? {
             None => Ok(()),
-            Some(symbol_span) => self.push_symbol_span(path, symbol_span),
+            Some(symbol_span) => self.append_symbol_span(path, symbol_span),
         }
     }
 
@@ -136,7 +136,7 @@ impl<'a> Lines<'a> {
         ensures style { writer_style self.new.locations ≡ writer_style self.old.locations }
         ensures failures { S.failures sink.new ≡ failures_after result (S.failures sink.old) }
     {
-        self.push_listed(occurrence, path, with_local)
+        self.append_listed(occurrence, path, with_local)
             .map_err(|_| SinkFault::Memory)?;
         flush_if_full(&mut self.text, sink)
     }

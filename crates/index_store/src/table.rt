@@ -1,7 +1,7 @@
 //! Tables from strings to lists of entries.
 ghost use Rattle.std.specs.Prelude.{◌≡◌, ◌<◌, ◌++◌, [], ◌∷◌, length, map, slice_set, IfOk, OnOk, None};
 ghost use Rattle.std.specs.String.{string_bytes};
-ghost use Rattle.index_store.specs.Tables.{text_number, rows_at, rows_in, text_at, texts_in, IsEntered};
+ghost use Rattle.index_store.specs.Tables.{text_index, rows_at, rows_in, text_at, texts_in, IsInserted};
 
 use indexmap::IndexSet;
 use std::alloc::{AllocError, Global};
@@ -15,7 +15,7 @@ pub(crate) struct StringTable<T: Drop> {
 
 /// Inserts a string that isn't in the set.
 fn add_text(texts: &mut IndexSet<String>, alloc: Global, text: &str) -> Result<(), AllocError>
-    requires { text_number (map string_bytes texts.old.keys) text.now ≡ None }
+    requires { text_index (map string_bytes texts.old.keys) text.now ≡ None }
     ensures { OnOk result (map string_bytes texts.new.keys ≡ map string_bytes texts.old.keys ++ text.now ∷ []) }
 {
     let text = String::from_str(alloc, text)?;
@@ -39,14 +39,14 @@ impl<T: Drop> StringTable<T> {
         *self.rows.allocator()
     }
 
-    pub(crate) fn text_number(&self, text: &str) -> Option<usize>
-        ensures { result ≡ text_number (texts_in self.now) text.now }
+    pub(crate) fn text_index(&self, text: &str) -> Option<usize>
+        ensures { result ≡ text_index (texts_in self.now) text.now }
     {
         self.texts.get_index_of(text)
     }
 
     fn add(&mut self, alloc: Global, text: &str) -> Result<usize, AllocError>
-        requires new { text_number (texts_in self.old) text.now ≡ None }
+        requires new { text_index (texts_in self.old) text.now ≡ None }
         requires as_many { length (texts_in self.old) ≡ length (rows_in self.old) }
         ensures texts { OnOk result (texts_in self.new ≡ texts_in self.old ++ text.now ∷ []) }
         ensures rows { OnOk result (rows_in self.new ≡ rows_in self.old ++ [] ∷ []) }
@@ -59,11 +59,11 @@ impl<T: Drop> StringTable<T> {
     }
 
     /// The index of the string. A string that isn't in the table is inserted after the others, with no entries.
-    pub(crate) fn enter(&mut self, alloc: Global, text: &str) -> Result<usize, AllocError>
+    pub(crate) fn find_or_insert(&mut self, alloc: Global, text: &str) -> Result<usize, AllocError>
         requires as_many { length (texts_in self.old) ≡ length (rows_in self.old) }
-        ensures { IfOk result (IsEntered (texts_in self.old) (rows_in self.old) text.now (texts_in self.new) (rows_in self.new)) }
+        ensures { IfOk result (IsInserted (texts_in self.old) (rows_in self.old) text.now (texts_in self.new) (rows_in self.new)) }
     {
-        match self.text_number(text) {
+        match self.text_index(text) {
             Some(number) => Ok(number),
             None => self.add(alloc, text),
         }

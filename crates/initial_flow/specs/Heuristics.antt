@@ -5,7 +5,7 @@ use Rattle.residual_graph.specs.Flows.{DifferInFlowOnly}
 use Rattle.residual_graph.specs.Graphs.{Graph}
 
 -- the graphs differ only in the flow of their arcs
-pub record DiffersInFlow (old new : Graph) : Type 0 where
+pub record DiffersOnlyInFlow (old new : Graph) : Type 0 where
   pub nodes : new.nodes ≡ old.nodes
   pub same : DifferInFlowOnly old.arcs new.arcs
 

@@ -1,4 +1,5 @@
-//! Distances to the sink in the residual graph, by breadth-first search. Proved is only that the numbers are nodes.
+//! Distances to the sink in the residual graph, by breadth-first search. The distances aren't proved, only that the listed numbers are
+//! those of nodes.
 ghost use Rattle.std.specs.Prelude.{◌≡◌, ◌<◌, All, IfOk, OnOk, not, vec_len};
 ghost use Rattle.residual_graph.specs.Graphs.{HasArc};
 
@@ -24,7 +25,7 @@ pub(crate) fn opposite(step: ResidualArc) -> ResidualArc
 }
 
 /// Labels the unlabelled nodes that have a residual arc to this node, and appends them to the reached ones.
-fn spread(
+fn label_predecessors(
     graph: &ResidualGraph,
     node: u32,
     labels: &mut Vec<u32>,
@@ -49,7 +50,7 @@ fn spread(
 }
 
 /// The distances to the sink.
-pub(crate) fn distances_to(
+pub(crate) fn sink_distances(
     alloc: Global,
     graph: &ResidualGraph,
     end: u32,
@@ -68,7 +69,7 @@ pub(crate) fn distances_to(
             return Ok(Distances { labels, reached });
         }
         let node = reached[place];
-        spread(graph, node, &mut labels, &mut reached)?;
+        label_predecessors(graph, node, &mut labels, &mut reached)?;
     }
     Ok(Distances { labels, reached })
 }

@@ -5,18 +5,20 @@
 //! highest label (Cheriyan and Maheshwari 1989).
 ghost use Rattle.std.specs.Prelude.{◌≡◌, ◌<◌, ◌≤◌, ◌^◌, ℕ, All, IfOk, IfSome, OnOk, length, vec_len};
 ghost use Rattle.residual_graph.specs.OutArcs.{IsOutOf, out_at};
-ghost use Rattle.initial_flow.specs.Heuristics.{label_at, DiffersInFlow, IsAdmissible};
+ghost use Rattle.initial_flow.specs.Heuristics.{label_at, DiffersOnlyInFlow, IsAdmissible};
 
 use crate::buckets::LabelBuckets;
-use crate::distances::distances_to;
+use crate::distances::sink_distances;
 use residual_graph::{CurrentArcs, OutArc, ResidualGraph, topological_order};
 use std::alloc::{AllocError, Global};
 use std::marker::Model;
 
-/// The number of discharges in first-in first-out order in a round, for each node. Networks that aren't adversarial need at most seven.
-const FIFO_ROUNDS: usize = 16;
+/// The limit on discharges in first-in first-out order in a round, as a multiple of the number of nodes. Networks that aren't adversarial
+/// need at most seven.
+const FIFO_DISCHARGES_PER_NODE: usize = 16;
 
-/// A graph with its flow, and for each node its excess, its label and its current arc; the active nodes have excess.
+/// A graph with its flow, and for each node its excess, its label and its current arc. `waiting` is the queue of active nodes; in
+/// first-in first-out order the discharged ones stay in it until the order changes or the round ends.
 #[derive(Drop)]
 struct MaxFlowHeuristic {
     graph: ResidualGraph,
@@ -87,7 +89,7 @@ fn least_label(outs: &[OutArc], labels: &[u32], count: usize) -> u32
 }
 
 /// The nodes with excess, without the sink, in reverse order.
-fn with_excess(
+fn nodes_with_excess(
     alloc: Global,
     nodes: &[u32],
     excesses: &[u64],
@@ -132,7 +134,7 @@ impl MaxFlowHeuristic {
     fn send(&mut self, node: u32, out: OutArc, most: u64) -> Result<(), AllocError>
         requires node { node < self.old.nodes }
         requires out { IsOutOf self.old node out }
-        ensures { OnOk result (DiffersInFlow self.old self.new) }
+        ensures { OnOk result (DiffersOnlyInFlow self.old self.new) }
     {
         let amount = out.residual.min(most);
         self.graph.send(out.step, amount);
@@ -151,7 +153,7 @@ impl MaxFlowHeuristic {
     fn push(&mut self, node: u32, out: OutArc) -> Result<u32, AllocError>
         requires node { node < self.old.nodes }
         requires out { IsOutOf self.old node out }
-        ensures { OnOk result (DiffersInFlow self.old self.new) }
+        ensures { OnOk result (DiffersOnlyInFlow self.old self.new) }
     {
         if out.residual == 0 {
             return Ok(u32::MAX);
@@ -168,7 +170,7 @@ impl MaxFlowHeuristic {
     }
 
     /// The smallest label at the heads of the skipped residual arcs of a node. Then resets its current arc.
-    fn least_passed(&mut self, node: u32) -> u32
+    fn least_skipped_label(&mut self, node: u32) -> u32
         requires { node < self.old.nodes }
         ensures { self.new ≡ self.old }
     {
@@ -176,7 +178,7 @@ impl MaxFlowHeuristic {
         if passed == 0 {
             return u32::MAX;
         }
-        self.current.pass(node, 0);
+        self.current.set_current(node, 0);
         least_label(self.graph.residual_arcs(node), &self.labels, passed)
     }
 
@@ -184,13 +186,13 @@ impl MaxFlowHeuristic {
     /// relabelled. If excess is left, returns the smallest label at the heads of the other arcs with residual capacity.
     fn push_all(&mut self, node: u32) -> Result<u32, AllocError>
         requires { node < self.old.nodes }
-        ensures { OnOk result (DiffersInFlow self.old self.new) }
+        ensures { OnOk result (DiffersOnlyInFlow self.old self.new) }
     {
         let mut least = u32::MAX;
         let mut next = self.current.passed(node);
         for _ in 0..self.graph.residual_arcs(node).len() {
             if self.excesses[node as usize] == 0 {
-                self.current.pass(node, next);
+                self.current.set_current(node, next);
                 return Ok(least);
             }
             let down = self.admissible_from(node, next);
@@ -213,13 +215,13 @@ impl MaxFlowHeuristic {
     /// whether it was relabelled.
     fn discharge(&mut self, node: u32) -> Result<bool, AllocError>
         requires { node < self.old.nodes }
-        ensures { OnOk result (DiffersInFlow self.old self.new) }
+        ensures { OnOk result (DiffersOnlyInFlow self.old self.new) }
     {
         let least = self.push_all(node)?;
         if self.excesses[node as usize] == 0 {
             return Ok(false);
         }
-        let label = least.min(self.least_passed(node)).saturating_add(1);
+        let label = least.min(self.least_skipped_label(node)).saturating_add(1);
         self.labels[node as usize] = label;
         if label < self.graph.nodes() {
             self.waiting.push(node)?;
@@ -228,9 +230,14 @@ impl MaxFlowHeuristic {
     }
 
     /// Discharges a node other than the sink, and counts a relabelling.
-    fn take(&mut self, node: u32, end: u32, raised: &mut u32) -> Result<(), AllocError>
+    fn discharge_unless_sink(
+        &mut self,
+        node: u32,
+        end: u32,
+        raised: &mut u32,
+    ) -> Result<(), AllocError>
         requires { node < self.old.nodes }
-        ensures { OnOk result (DiffersInFlow self.old self.new) }
+        ensures { OnOk result (DiffersOnlyInFlow self.old self.new) }
     {
         if node != end && self.discharge(node)? {
             *raised = raised.saturating_add(1);
@@ -246,14 +253,14 @@ impl MaxFlowHeuristic {
         most: usize,
         raised: &mut u32,
     ) -> Result<usize, AllocError>
-        ensures { OnOk result (DiffersInFlow self.old self.new) }
+        ensures { OnOk result (DiffersOnlyInFlow self.old self.new) }
     {
         for place in 0..most {
             if place >= self.waiting.len() || *raised >= self.graph.nodes() {
                 return Ok(place);
             }
             let node = self.waiting[place];
-            self.take(node, end, raised)?;
+            self.discharge_unless_sink(node, end, raised)?;
         }
         Ok(most)
     }
@@ -278,7 +285,7 @@ impl MaxFlowHeuristic {
         raised: &mut u32,
     ) -> Result<(), AllocError>
         requires { vec_len buckets.old.nexts ≡ self.old.nodes }
-        ensures { OnOk result (DiffersInFlow self.old self.new) }
+        ensures { OnOk result (DiffersOnlyInFlow self.old self.new) }
     {
         for _ in 0..u64::MAX {
             if *raised >= self.graph.nodes() {
@@ -287,7 +294,7 @@ impl MaxFlowHeuristic {
             let Some(node) = buckets.take_highest() else {
                 return Ok(());
             };
-            self.take(node, end, raised)?;
+            self.discharge_unless_sink(node, end, raised)?;
             self.fill_buckets(buckets, 0);
         }
         Ok(())
@@ -297,11 +304,11 @@ impl MaxFlowHeuristic {
     /// to a limit, then by highest label. The next round begins with first-in first-out order again, since highest-label order may find
     /// dead ends one by one, each in a round of its own.
     fn discharge_all(&mut self, alloc: Global, end: u32) -> Result<(), AllocError>
-        ensures { OnOk result (DiffersInFlow self.old self.new) }
+        ensures { OnOk result (DiffersOnlyInFlow self.old self.new) }
     {
         let mut raised = 0u32;
         let nodes = self.graph.nodes();
-        let most = (nodes as usize).saturating_mul(FIFO_ROUNDS);
+        let most = (nodes as usize).saturating_mul(FIFO_DISCHARGES_PER_NODE);
         let taken = self.discharge_fifo(end, most, &mut raised)?;
         if taken < most {
             return Ok(());
@@ -313,21 +320,21 @@ impl MaxFlowHeuristic {
 
     /// Labels all nodes by their distances to the sink, activates those with excess and a path to the sink, and returns whether there is
     /// one.
-    fn label_all(&mut self, alloc: Global, end: u32) -> Result<bool, AllocError>
+    fn global_relabel(&mut self, alloc: Global, end: u32) -> Result<bool, AllocError>
         requires { end < self.old.nodes }
         ensures { OnOk result (self.new ≡ self.old) }
     {
-        let distances = distances_to(alloc, &self.graph, end)?;
-        self.waiting = with_excess(alloc, &distances.reached, &self.excesses, end)?;
+        let distances = sink_distances(alloc, &self.graph, end)?;
+        self.waiting = nodes_with_excess(alloc, &distances.reached, &self.excesses, end)?;
         self.labels = distances.labels;
-        self.current.pass_none();
+        self.current.reset_all();
         Ok(!self.waiting.is_empty())
     }
 
     /// Saturates the arcs that leave the source.
     fn saturate_source(&mut self, start: u32) -> Result<(), AllocError>
         requires { start < self.old.nodes }
-        ensures { OnOk result (DiffersInFlow self.old self.new) }
+        ensures { OnOk result (DiffersOnlyInFlow self.old self.new) }
     {
         for place in 0..self.graph.residual_arcs(start).len() {
             let Some(out) = self.out_at(start, place) else {
@@ -343,7 +350,7 @@ impl MaxFlowHeuristic {
     /// Returns the excess of a node over the arcs that lead to it.
     fn return_excess(&mut self, node: u32) -> Result<(), AllocError>
         requires { node < self.old.nodes }
-        ensures { OnOk result (DiffersInFlow self.old self.new) }
+        ensures { OnOk result (DiffersOnlyInFlow self.old self.new) }
     {
         for place in 0..self.graph.residual_arcs(node).len() {
             let Some(out) = self.out_at(node, place) else {
@@ -361,9 +368,9 @@ impl MaxFlowHeuristic {
     }
 
     /// Returns all remaining excess, from the last node of the order to the first.
-    fn return_all(&mut self, order: &[u32], end: u32) -> Result<(), AllocError>
+    fn return_all_excess(&mut self, order: &[u32], end: u32) -> Result<(), AllocError>
         requires { All (λ n. n < self.old.nodes) order.now }
-        ensures { OnOk result (DiffersInFlow self.old self.new) }
+        ensures { OnOk result (DiffersOnlyInFlow self.old self.new) }
     {
         for back in 0..order.len() {
             let node = order[order.len() - 1 - back];
@@ -375,12 +382,12 @@ impl MaxFlowHeuristic {
     }
 
     /// Runs rounds until no excess can reach the sink.
-    fn run(&mut self, alloc: Global, end: u32) -> Result<(), AllocError>
+    fn run_rounds(&mut self, alloc: Global, end: u32) -> Result<(), AllocError>
         requires { end < self.old.nodes }
-        ensures { OnOk result (DiffersInFlow self.old self.new) }
+        ensures { OnOk result (DiffersOnlyInFlow self.old self.new) }
     {
         for _ in 0..u64::MAX {
-            if !self.label_all(alloc, end)? {
+            if !self.global_relabel(alloc, end)? {
                 return Ok(());
             }
             self.discharge_all(alloc, end)?;
@@ -399,11 +406,11 @@ impl MaxFlowHeuristic {
         requires order { All (λ n. n < self.old.nodes) order.now }
         requires start { start < self.old.nodes }
         requires end { end < self.old.nodes }
-        ensures { OnOk result (DiffersInFlow self.old self.new) }
+        ensures { OnOk result (DiffersOnlyInFlow self.old self.new) }
     {
         self.saturate_source(start)?;
-        self.run(alloc, end)?;
-        self.return_all(order, end)
+        self.run_rounds(alloc, end)?;
+        self.return_all_excess(order, end)
     }
 }
 
@@ -420,7 +427,7 @@ pub fn find_initial_flow(
     // `end` is a node.
     requires end { end < graph.nodes }
     // The graph is unchanged but for its flow, which is within the capacities.
-    ensures { IfOk result (DiffersInFlow graph) }
+    ensures { IfOk result (DiffersOnlyInFlow graph) }
 {
     let nodes = graph.nodes();
     let order = topological_order(alloc, &graph)?;

@@ -1,3 +1,4 @@
+pub mod Elements
 pub mod Groups
 pub mod SearchResult
 pub mod Steps

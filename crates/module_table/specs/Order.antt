@@ -30,7 +30,7 @@ pub record IsIndexBy {X : Type 0} (n : X → ℕ) (xs : List X) (k i : ℕ) : Ty
 abbrev pub HasNoneBy : {X : Type 0} → (X → ℕ) → List X → ℕ → Type 0
 HasNoneBy {X} n xs k = (i : ℕ) (x : X) → slice_get xs i ≡ Some x → n x ≡ k → ⊥
 
--- each list is sorted by token number; the components of one type expression are adjacent, and the selectors of one designator are
+-- each list is sorted by token number; the components of one type expression are adjacent, and so are the selectors of one designator
 pub record AreRowsSorted (r : Rows) : Type 0 where
   pub decl_groups : IsIncreasingBy (λ (x : DeclGroup). x.first) r.decl_groups
   pub declared : IsIncreasingBy (λ (x : Declared). x.number) r.declared

@@ -66,7 +66,7 @@ pub struct TableBuilder {
 
 /// Appends an entry, or records that the allocation failed. Then the list, which is meaningless from then on, is cleared: later entries
 /// use its capacity and don't each try to allocate again.
-fn add_row<T: Drop>(rows: &mut Vec<T>, row: T, failed: &mut bool)
+fn append_row<T: Drop>(rows: &mut Vec<T>, row: T, failed: &mut bool)
     ensures { failed.new ≡ false → (failed.old ≡ false) × (rows.new.items ≡ rows.old.items ++ row ∷ []) }
 {
     if rows.push(row).is_err() {
@@ -99,7 +99,7 @@ impl TableBuilder {
         // No token is consumed.
         ensures number { self.new.number ≡ self.old.number }
     {
-        add_row(&mut self.declared, row, &mut self.failed);
+        append_row(&mut self.declared, row, &mut self.failed);
     }
 
     /// Appends an identifier that the scope rule looks up.
@@ -110,7 +110,7 @@ impl TableBuilder {
         // No token is consumed.
         ensures number { self.new.number ≡ self.old.number }
     {
-        add_row(&mut self.uses, row, &mut self.failed);
+        append_row(&mut self.uses, row, &mut self.failed);
     }
 
     /// Appends a block that begins with the next token.
@@ -121,7 +121,7 @@ impl TableBuilder {
         // No token is consumed.
         ensures number { self.new.number ≡ self.old.number }
     {
-        add_row(&mut self.blocks, row, &mut self.failed);
+        append_row(&mut self.blocks, row, &mut self.failed);
     }
 
     /// Appends an import item.
@@ -132,7 +132,7 @@ impl TableBuilder {
         // No token is consumed.
         ensures number { self.new.number ≡ self.old.number }
     {
-        add_row(&mut self.imports, row, &mut self.failed);
+        append_row(&mut self.imports, row, &mut self.failed);
     }
 
     /// Appends a component of a type expression.
@@ -143,7 +143,7 @@ impl TableBuilder {
         // No token is consumed.
         ensures number { self.new.number ≡ self.old.number }
     {
-        add_row(&mut self.parts, row, &mut self.failed);
+        append_row(&mut self.parts, row, &mut self.failed);
     }
 
     /// Appends a record.
@@ -154,7 +154,7 @@ impl TableBuilder {
         // No token is consumed.
         ensures number { self.new.number ≡ self.old.number }
     {
-        add_row(&mut self.records, row, &mut self.failed);
+        append_row(&mut self.records, row, &mut self.failed);
     }
 
     /// Appends a designator.
@@ -165,7 +165,7 @@ impl TableBuilder {
         // No token is consumed.
         ensures number { self.new.number ≡ self.old.number }
     {
-        add_row(&mut self.designators, row, &mut self.failed);
+        append_row(&mut self.designators, row, &mut self.failed);
     }
 
     /// Appends a selector.
@@ -176,7 +176,7 @@ impl TableBuilder {
         // No token is consumed.
         ensures number { self.new.number ≡ self.old.number }
     {
-        add_row(&mut self.selectors, row, &mut self.failed);
+        append_row(&mut self.selectors, row, &mut self.failed);
     }
 
     /// Appends a name after END.
@@ -187,7 +187,7 @@ impl TableBuilder {
         // No token is consumed.
         ensures number { self.new.number ≡ self.old.number }
     {
-        add_row(&mut self.ends, row, &mut self.failed);
+        append_row(&mut self.ends, row, &mut self.failed);
     }
 
     /// Replaces the selector at this index. An index out of bounds, which only a failed allocation can cause, is ignored.
@@ -207,7 +207,7 @@ impl TableBuilder {
 
     /// Begins a declaration group, whose last token isn't known yet. Returns its index.
     #[tactic(auto, using(crate::proofs::Steps::growing), unfolding(crate::specs::TableStages::stage_of, crate::specs::TableStages::advanced, crate::specs::TableStages::added, crate::specs::TableStages::closed, crate::specs::Parts::joined))]
-    pub fn open(&mut self, row: DeclGroup) -> usize
+    pub fn open_decl_group(&mut self, row: DeclGroup) -> usize
         // The entry is appended, unless an allocation fails.
         ensures stage { PerformsStep (added (one_decl_group row)) self.old self.new }
         // No token is consumed.
@@ -216,13 +216,13 @@ impl TableBuilder {
         ensures slot { result ≡ length self.old.decl_groups.items }
     {
         let at = self.decl_groups.len();
-        add_row(&mut self.decl_groups, row, &mut self.failed);
+        append_row(&mut self.decl_groups, row, &mut self.failed);
         at
     }
 
     /// Ends the declaration group at this index: the token before the next one is its last.
     #[tactic(auto, using(crate::proofs::Steps::growing), unfolding(crate::specs::TableStages::stage_of, crate::specs::TableStages::advanced, crate::specs::TableStages::added, crate::specs::TableStages::closed, crate::specs::Parts::joined))]
-    pub fn close(&mut self, at: usize, row: DeclGroup)
+    pub fn close_decl_group(&mut self, at: usize, row: DeclGroup)
         // The last token is set.
         ensures stage { PerformsStep (closed at row) self.old self.new }
         // No token is consumed.
@@ -241,7 +241,7 @@ impl TableBuilder {
 
 /// The entry of a declaration group of this kind in this context that begins with the token `first`; its last token is unknown and set to
 /// 0.
-pub fn decl_group_at(decl_kind: DeclKind, context: Context, first: u32) -> DeclGroup
+pub fn new_decl_group(decl_kind: DeclKind, context: Context, first: u32) -> DeclGroup
     ensures { result ≡ decl_group decl_kind context first 0 }
 {
     let of_record = match decl_kind {
@@ -263,7 +263,7 @@ pub fn decl_group_at(decl_kind: DeclKind, context: Context, first: u32) -> DeclG
 }
 
 /// The context inside a declaration group that begins with the token `first`.
-pub fn declaring_from(context: Context, first: u32) -> Context
+pub fn decl_group_context(context: Context, first: u32) -> Context
     ensures { result ≡ declaring_at context first }
 {
     Context {
@@ -274,7 +274,7 @@ pub fn declaring_from(context: Context, first: u32) -> Context
 }
 
 /// The context inside a block that begins with the token `first`.
-pub fn block_from(context: Context, first: u32) -> Context
+pub fn block_context(context: Context, first: u32) -> Context
     ensures { result ≡ in_block context first }
 {
     Context {
@@ -287,7 +287,7 @@ pub fn block_from(context: Context, first: u32) -> Context
 const MAX_TOKENS: usize = 16_777_216;
 
 /// A list with capacity for this number of entries. If the allocation fails the list has no capacity and grows entry by entry.
-fn with_room<T: Drop>(alloc: Global, rows: usize) -> Vec<T>
+fn list_with_capacity<T: Drop>(alloc: Global, rows: usize) -> Vec<T>
     ensures { result.items ≡ [] }
 {
     match Vec::with_capacity(alloc, rows) {
@@ -307,15 +307,15 @@ impl TableBuilder {
         TableBuilder {
             number: 0,
             failed: false,
-            decl_groups: with_room(alloc, tokens / 16),
-            declared: with_room(alloc, tokens / 10),
-            uses: with_room(alloc, tokens / 4),
+            decl_groups: list_with_capacity(alloc, tokens / 16),
+            declared: list_with_capacity(alloc, tokens / 10),
+            uses: list_with_capacity(alloc, tokens / 4),
             blocks: Vec::new(alloc),
             imports: Vec::new(alloc),
-            parts: with_room(alloc, tokens / 16),
+            parts: list_with_capacity(alloc, tokens / 16),
             records: Vec::new(alloc),
-            designators: with_room(alloc, tokens / 4),
-            selectors: with_room(alloc, tokens / 8),
+            designators: list_with_capacity(alloc, tokens / 4),
+            selectors: list_with_capacity(alloc, tokens / 8),
             ends: Vec::new(alloc),
         }
     }

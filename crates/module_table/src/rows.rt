@@ -60,7 +60,7 @@ pub struct Block {
     pub outer: u32,
 }
 
-/// An import item: the token of the alias that it declares, and that of the imported module's own name.
+/// An import item: the token of the alias that it declares, and the token of the imported module's own name.
 #[derive(Clone, Copy, Debug, Drop)]
 pub struct Import {
     pub alias: u32,
@@ -115,7 +115,7 @@ pub struct Designator {
     pub head: u32,
     /// The first token of the innermost block around it.
     pub block: u32,
-    /// Whether it is the left side of an assignment. Designators in its indexes and arguments aren't.
+    /// Whether it is the left side of an assignment or the variable of a FOR. Designators in its indexes and arguments aren't.
     pub is_written: bool,
 }
 
@@ -128,8 +128,7 @@ pub enum Step {
     Elements(u32),
     /// `^`
     Target,
-    /// `(` and `)`. If the only argument is a designator that may be a type's name, the selector may be a type guard; then that name is
-    /// given.
+    /// `(` and `)`. If its only argument has the form of a type's name, the selector may be a type guard, and it has this name.
     Arguments(Option<TypeName>),
 }
 
@@ -145,6 +144,6 @@ pub struct Selector {
 #[derive(Clone, Copy, Debug, Drop)]
 pub struct End {
     pub number: u32,
-    /// The identifier that the procedure declares; `None` at the end of the module.
+    /// The token of the procedure's name, if it ends a procedure; `None` if it ends the module.
     pub of: Option<u32>,
 }

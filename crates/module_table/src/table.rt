@@ -139,9 +139,9 @@ impl Table {
     pub fn decl_group(&self, first: u32) -> Option<&DeclGroup>
         // The returned entry is in the table.
         ensures found { IfSome result (λ row. Contains self.now.decl_groups.items row.now) }
-        // The returned entry has this token number.
+        // The returned entry begins with this token.
         ensures number { IfSome result (λ row. row.now.first ≡ first) }
-        // `None` is returned only if no entry has this token number.
+        // `None` is returned only if no entry begins with this token.
         ensures none { IfNone result ((row : DeclGroup) → Contains self.now.decl_groups.items row → row.first ≡ first → ⊥) }
     {
         find_row(self.decl_groups.as_slice(), first)

@@ -1,5 +1,5 @@
 //! The test cases, and the results as text.
-use crate::scopes::{describe_by_tree, describe_scopes};
+use crate::module_scopes::{describe_by_tree, describe_scopes};
 use crate::tables::{describe_names, describe_steps, describe_token, describe_type_exprs};
 use crate::tokens::{describe_location, describe_token_list};
 use crate::trees::describe_value;

@@ -1,10 +1,10 @@
 //! The readers of trees and tables.
 ghost use Rattle.std.specs.Prelude.{◌<◌, ◌^◌, length, IfOk, Ok};
-ghost use Rattle.ob_parse.specs.Parsed.{IsTheTree};
+ghost use Rattle.ob_grammar.specs.Parsed.{IsTheTree};
 ghost use Rattle.module_table.specs.Tables.{rows_in};
 ghost use Rattle.module_table.specs.Trees.{AreTreeRows};
 ghost use Rattle.ob_scan.specs.Spelling.{IsOutcome};
-ghost use Rattle.ob_scope.specs.Identified.{IsIdentifier};
+ghost use Rattle.scopes.specs.IdentifierNames.{IsIdentifier};
 ghost use Rattle.ob_tree.specs.Derives.{spelling};
 
 use module_table::Table;

@@ -2,8 +2,8 @@
 
 use crate::asked::Asked::Meanings;
 use crate::asked::{Row, check_rows};
+use crate::module_scopes::{describe_by_tree, describe_scopes};
 use crate::readings::table_by_tokens;
-use crate::scopes::{describe_by_tree, describe_scopes};
 use ob_scan::laws::tokens_in_text;
 use ob_scan::scan;
 use ob_scope::scopes_from;

@@ -1,4 +1,4 @@
--- What a module of a tree imports, by rows of numbers.
+-- The imports of a module of the tree, as lists of module numbers.
 use Rattle.std.proofs.Common.{◌≡◌, ◌<◌, ◌≤◌, ℕ, Bool, List, [], length, refl, sym, ap, subst, arith, inl, inr}
 use Rattle.std.specs.Prelude.{Contains, nat_lt, ◌==◌}
 use Rattle.std.specs.List.{filter}
@@ -12,7 +12,7 @@ use Rattle.digraph.specs.Edges.{Leads}
 use Rattle.digraph.proofs.Members.{from_map, in_filter, in_map, no_member, of_filter}
 use Rattle.ob_imports.specs.Graphs.{imported, ImportGraph, IsGraph as IsImportGraph}
 use Rattle.work_board.specs.Graphs.{list_at, IsGraph, RowLeads}
-use Rattle.ob_board.specs.Boards.{modules_of, rows_below, tree_imports}
+use Rattle.ob_board.specs.BoardGraphs.{modules_of, rows_below, tree_imports}
 
 row_leads : (ps : List Edge) (v w : ℕ) → Contains (imported ps v) w → Leads ps v w
 row_leads ps v w there =
@@ -34,7 +34,7 @@ module _ (g : ImportGraph) where
   row_past : (v : ℕ) → g.modules ≤ v → list_at (rows_below g g.modules) v ≡ []
   row_past v le = let l = length-map-range_with_len (tree_imports g) 0 g.modules in get_or_past (rows_below g g.modules) v [] (omega arith)
 
-  -- an import of a row leads between modules of the tree
+  -- an import in such a list leads from a module of the tree to one
   pub leads_on : (v w : ℕ) → RowLeads (rows_below g g.modules) v w → (v < g.modules) × (w < g.modules) × Leads g.pairs v w
   leads_on v w h =
       elim (cases_lt v g.modules) [

@@ -1,4 +1,4 @@
--- Lists whose names ascend, and how they come about.
+-- Lists of modules with increasing names, and how they are made.
 use Rattle.std.proofs.Common.{◌≡◌, ℕ, ◌+◌, false, List, get_or, map, sym, ap, ◌∙◌, arith}
 use Rattle.std.specs.Prelude.{AllPairs, Contains}
 use Rattle.std.specs.Cmp.Lexicographic.{slice_cmp, nat_list_cmp_total}
@@ -17,7 +17,7 @@ use Rattle.ob_interface.specs.Interfaces.{ModuleInterface}
 use Rattle.ob_types.specs.ModuleNumbers.{AreByName}
 use Rattle.ob_types.proofs.Ascending.{less}
 
--- what is sorted by names that are apart ascends
+-- sorting by distinct names gives strictly increasing names
 pub apart_pairs : {X : Type 0} (name : X → List ℕ) (xs : List X) → IsSortedBy (λ a b. is_lt (slice_cmp nat_cmp (name a) (name b))) xs → IsDistinct bytes_eq (map name xs)
     → AllPairs (λ a b. slice_cmp nat_cmp (name a) (name b) ≡ Less) xs
 apart_pairs name xs sorted once i j d lt l =
@@ -44,7 +44,7 @@ one_way a b p q =
     let bad : Less ≡ Greater = sym p ∙ turned ∙ ap ordering_reverse q in
     cc
 
--- two such lists of the same modules are one
+-- two sorted lists with the same modules are equal
 pub one_by_name : (modules others : List ModuleInterface) → AreByName modules → AreByName others → ((m : ModuleInterface) → Contains modules m → Contains others m)
     → ((m : ModuleInterface) → Contains others m → Contains modules m) → modules ≡ others
 one_by_name modules others a b to from = same_members IsBefore one_way modules others (pairs_by modules a) (pairs_by others b) to from

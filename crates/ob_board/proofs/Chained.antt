@@ -1,4 +1,4 @@
--- Chains of imports by numbers and by names.
+-- Paths of imports by numbers and by names.
 use Rattle.std.proofs.Common.{◌≡◌, ◌<◌, ◌≤◌, ◌+◌, ℕ, List, [], ◌∷◌, length, get_or, Some, refl, sym, ap, ◌∙◌, subst, arith, length-append}
 use Rattle.std.specs.Prelude.{Contains, ◌↔◌, slice_get, option_map}
 use Rattle.std.proofs.lemmas.List.{get_or_append_left, length-map}
@@ -12,11 +12,11 @@ use Rattle.ob_imports.specs.Numbering.{index_or_len}
 use Rattle.ob_imports.specs.Outcomes.{AreFilesOfGraph}
 use Rattle.ob_imports.proofs.Places.{name_at, place_within}
 use Rattle.work_board.specs.Graphs.{IsAcyclic, IsChain, RowLeads, Reaches}
-use Rattle.ob_board.specs.Boards.{rows_below}
+use Rattle.ob_board.specs.BoardGraphs.{rows_below}
 use Rattle.ob_board.specs.Reached.{file_of, files_of, names, HasSameReach, ReachesName, FileModel}
 use Rattle.ob_board.proofs.BoardRows.{leads_in, leads_on}
 
--- a chain on the board is one by what its imports keep
+-- a path in the scheduler's graph is a path of imports
 module _ {N : Type 0} (rows : List (List ℕ)) (H : N → N → Type 0) (to : ℕ → N) (invariants : (v w : ℕ) → RowLeads rows v w → H (to v) (to w)) where
   chain_to : (v : ℕ) (more : List ℕ) (b : ℕ) → IsChain rows v more b → (list : List N) × IsChainBy H (to v) list (to b)
   chain_to v [] b leads = (to b ∷ [], (invariants v b leads, refl))
@@ -26,7 +26,7 @@ module _ {N : Type 0} (rows : List (List ℕ)) (H : N → N → Type 0) (to : �
   reaches_to v b ([], leads) = (to b, invariants v b leads, ([], refl))
   reaches_to v b (w ∷ more, chain) = (to w, invariants v w chain.0, chain_to w more b chain.1)
 
--- no chain of imports of each other comes back
+-- the scheduler's graph is acyclic
 pub acyclic_board : (g : ImportGraph) → IsAcyclicBy (Leads g.pairs) → IsAcyclic (rows_below g g.modules)
 acyclic_board g none v back =
     let (n, leads, chain) = reaches_to (rows_below g g.modules) (Leads g.pairs) (λ (x : ℕ). x) (λ x y h. (leads_on g x y h).2) v v back in
@@ -79,7 +79,7 @@ module _ (files : List FileModel) (g : ImportGraph) (kept : AreFilesOfGraph (fil
   pub reaches_names : (v b : ℕ) → Reaches (rows_below g g.modules) v b → ReachesName files (name v) (name b)
   reaches_names v b reach = reaches_to (rows_below g g.modules) (Imports (files_of files)) name (λ x y h. imports_by x y (leads_on g x y h).2) v b reach
 
-  -- what imports something is a module of the tree
+  -- a module that imports another is a module of the tree
   number : (m n : List ℕ) → Imports (files_of files) m n → (v : ℕ) × (v < g.modules) × (slice_get g.names v ≡ Some m)
   number m n (f, has, is, imports) =
       let there : Contains of_files m = subst (Contains of_files) is (in_map (λ (x : File). x.name) (files_of files) f has) in
@@ -88,7 +88,7 @@ module _ (files : List FileModel) (g : ImportGraph) (kept : AreFilesOfGraph (fil
       let l = count in
       (index_or_len of_files m, omega arith, at_front (index_or_len of_files m) m (name_at of_files m there))
 
-  -- by names between modules of the tree it is so by numbers
+  -- a path by names between modules of the tree is a path by numbers
   reaches_back : (end : ℕ) (last : List ℕ) → end < g.modules → slice_get g.names end ≡ Some last → (more : List (List ℕ)) (v : ℕ) (m w : List ℕ) → v < g.modules → slice_get g.names v ≡ Some m
       → Imports (files_of files) m w → IsChainBy (Imports (files_of files)) w more last → Reaches (rows_below g g.modules) v end
   reaches_back end last below at_end [] v m w lt at imports same =

@@ -23,9 +23,9 @@ use Rattle.source_tree.specs.Trees.{ModuleFile}
 use Rattle.scip_index.specs.Plain.{DocumentModel, IndexModel}
 use Rattle.ob_board.specs.declared.entry.Entry.{Entry}
 use Rattle.board_workers.specs.Parts.{AreEntries as AreAtBoard}
-use Rattle.ob_board.specs.Boards.{modules_of}
+use Rattle.ob_board.specs.BoardGraphs.{modules_of}
 use Rattle.ob_board.specs.Reached.{interface_in, names, file_model, AreReachedInterfaces, FileModel}
-use Rattle.ob_board.specs.Seen.{file_models, file_model_in, AreSourcesRead, IsSourceRead}
+use Rattle.ob_board.specs.SourceParts.{file_models, file_model_in, AreSourcesRead, IsSourceRead}
 use Rattle.ob_board.proofs.Chained.{as_many, modules_within}
 use Rattle.ob_board.proofs.SeenFiles.{seen_are}
 use Rattle.ob_board.proofs.Shared.{same_file}
@@ -34,7 +34,7 @@ use Rattle.ob_board.specs.UnresolvedEntry.{IsModuleInput}
 use Rattle.ob_board.specs.Indexes.{AreTreeEntries, IsIndex, IsBuiltFrom}
 use Rattle.ob_board.proofs.Handing.{name_at}
 
--- what is said of the parts of all sources is said of their files
+-- the parts of all sources are the parts of their files
 seen_all : (P : FileModel → Type 0) (sources : List Source) (modules : List (Box ModuleParts Global)) →
     ((k : ℕ) (s : Source) (m : Box ModuleParts Global) → slice_get sources k ≡ Some s → slice_get modules k ≡ Some m → P (file_model_in s m.value)) →
     (file : FileModel) → Contains (file_models sources modules) file → P file
@@ -72,7 +72,7 @@ module _ (sources : List Source) (modules : List (Box ModuleParts Global)) (g : 
             subst (λ (x : FileModel). IsEntry files package_name x e) same (subst (IsEntry files package_name found.file) here found.entry);
       }
 
--- the entry of a module, of what is written of it
+-- the entry of a module, from its document
 pub made_entry : (files : List FileModel) (package_name : List ℕ) (s : Source) (parts : ModuleParts) (reached : List ModuleInterface) (e : EntryModel) → IsModuleInput files s parts reached →
     IsWritten s parts reached package_name e.document e.externals → e.name ≡ names (file_model_in s parts) 1 → e.interface ≡ arc_value parts.interface → IsEntryOf files package_name e.name e
 made_entry files package_name s parts reached e hand w named shared = record {
@@ -88,7 +88,7 @@ made_entry files package_name s parts reached e hand w named shared = record {
   };
 }
 
--- entries of the parts of a tree are the tree's
+-- the entries of the parts of a tree are the entries of the tree
 pub entries_told : (sources : List Source) (package_name : List ℕ) (files : List ModuleFile) (tree : TreeParts) (entries : List EntryModel) → ArePartsOfTree sources files tree →
     AreEntriesOf (file_models sources tree.modules.items) package_name entries → AreTreeEntries sources package_name entries
 entries_told sources package_name files tree entries output_is of = record {
@@ -97,7 +97,7 @@ entries_told sources package_name files tree entries output_is of = record {
   are_entries = subst (λ (fs : List FileModel). AreEntriesOf fs package_name entries) (seen_are sources files tree.modules.items output_is.all) of;
 }
 
--- the external symbols of all entries are such
+-- the external symbols of all entries satisfy `AreExternalRows`
 external_rows : (entries : List EntryModel) → ((k : ℕ) (e : EntryModel) → slice_get entries k ≡ Some e → AreExternalRows e.externals) → AreExternalRows (flat_map (λ (e : EntryModel). e.externals) entries)
 external_rows [] each x (k, l, e) = absurd (omega arith)
 external_rows (y ∷ ys) each x has = elim (Contains-append_cases y.externals (flat_map (λ (e : EntryModel). e.externals) ys) x has) [
@@ -129,7 +129,7 @@ pub same_documents : (es : List Entry) → map (λ (e : Entry). (entry_model e).
 same_documents [] = refl
 same_documents (e ∷ es) = ap (λ (ds : List DocumentModel). (entry_model e).document ∷ ds) (same_documents es)
 
--- an index of the entries of a tree is the tree's
+-- an index of the entries of a tree is the index of the tree
 pub index_told : (sources : List Source) (package_name root : List ℕ) (entries : List EntryModel) (index : IndexModel) → AreTreeEntries sources package_name entries → IsBuiltFrom entries root index →
     IsIndex sources package_name root index
 index_told sources package_name root entries index output_is built = record { files = output_is.files; is_tree = output_is.is_tree; is_index = record { entries = entries; are_entries = output_is.are_entries; built = built } }

@@ -1,4 +1,4 @@
--- The entries of a board at which each module has one.
+-- The entries of a scheduler at which each module is completed.
 use Rattle.std.proofs.Common.{◌≡◌, ℕ, List, [], ◌∷◌, length, map, Some, refl, sym, ap, ◌∙◌, subst}
 use Rattle.std.specs.Prelude.{Option, count_by, is_none, Box}
 use Rattle.std.specs.List.{flat_map}
@@ -14,16 +14,16 @@ use Rattle.scip_index.specs.Plain.{IndexModel}
 use Rattle.work_board.specs.Cores.{AreOf}
 use Rattle.board_workers.proofs.Wholes.{entries_from}
 use Rattle.ob_board.specs.declared.entry.Entry.{Entry}
-use Rattle.ob_board.specs.Boards.{modules_of}
+use Rattle.ob_board.specs.BoardGraphs.{modules_of}
 use Rattle.ob_board.specs.Reached.{FileModel}
-use Rattle.ob_board.specs.Seen.{file_models, AreSourcesRead}
+use Rattle.ob_board.specs.SourceParts.{file_models, AreSourcesRead}
 use Rattle.ob_board.specs.Entries.{entry_model, AreEntriesOf, IsEntryOf, EntryModel}
 use Rattle.ob_board.specs.Indexes.{IsIndex, IsIndexOf}
 use Rattle.ob_board.proofs.EntryHanding.{entries_all, externals_of_files, same_externals}
 use Rattle.ob_board.proofs.Handing.{in_own}
 use Rattle.ob_board.proofs.SeenFiles.{seen_are}
 
--- no entry is missing where each is there
+-- if each module has an entry, none is missing
 pub none_missing : {X E : Type 0} (f : X → E) (xs : List X) → count_by is_none (map (λ (x : X). Some (f x)) xs) ≡ 0
 none_missing f [] = refl
 none_missing f (x ∷ xs) = none_missing f xs

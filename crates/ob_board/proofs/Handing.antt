@@ -1,4 +1,4 @@
--- A job of a worker, its module's files, and what is found of all.
+-- The input of a worker, the files of modules, and the results of all modules.
 use Rattle.std.proofs.Common.{◌≡◌, ℕ, zero, suc, ◌<◌, List, [], ◌∷◌, length, get_or, map, None, Some, refl, sym, ap, ◌∙◌, subst, arith}
 use Rattle.std.specs.Prelude.{slice_get, option_map, Box}
 use Rattle.std.specs.List.{flat_map}
@@ -9,12 +9,12 @@ use Rattle.std.proofs.lemmas.Option.{get_or_from_slice_get, slice_get-get_or, sl
 use Rattle.ob_imports.specs.Graphs.{ImportGraph}
 use Rattle.source_tree.specs.declared.parts.ModuleParts.{ModuleParts}
 use Rattle.source_tree.specs.declared.source.Source.{Source}
-use Rattle.ob_scope.proofs.Elements.{some_one}
+use Rattle.module_table.proofs.Elements.{some_one}
 use Rattle.work_board.specs.Graphs.{list_at, Modules}
 use Rattle.board_workers.specs.Parts.{AreEntries}
-use Rattle.ob_board.specs.Boards.{modules_of}
+use Rattle.ob_board.specs.BoardGraphs.{modules_of}
 use Rattle.ob_board.specs.Reached.{names, FileModel}
-use Rattle.ob_board.specs.Seen.{file_models, file_model_in, AreSourcesRead}
+use Rattle.ob_board.specs.SourceParts.{file_models, file_model_in, AreSourcesRead}
 use Rattle.ob_board.proofs.Chained.{as_many, modules_within, name_of_file}
 use Rattle.ob_board.proofs.Shared.{same_file}
 use Rattle.ob_board.specs.UnresolvedEntry.{IsUnresolvedEntryOf, UnresolvedEntryModel}

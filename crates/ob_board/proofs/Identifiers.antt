@@ -1,4 +1,4 @@
--- What stands for nothing is an identifier, and identifiers are texts.
+-- An unresolved token is an identifier, and identifiers are valid UTF-8.
 use Rattle.std.proofs.Common.{◌≡◌, ℕ, zero, suc, ◌+◌, ◌<◌, true, false, List, [], ◌∷◌, map, length, refl, sym, ◌∙◌, subst, arith, inl, inr}
 use Rattle.std.specs.Prelude.{Contains}
 use Rattle.std.specs.List.{enumerate_from, filter, filter_map}
@@ -39,11 +39,11 @@ ident_from (t ∷ ts) a k h = elim (cases_Bool (is_identifier t.kind)) [
       (suc r.0, omega arith, omega arith, r.3)
 ]
 
--- names are texts
+-- names are valid UTF-8
 name_is_text : (bytes : List ℕ) → is_name bytes ≡ true → IsUtf8 bytes
 name_is_text bytes e = names.name_is_text bytes (sym (same_test bytes) ∙ e)
 
--- what stands for nothing has a text
+-- the text of an unresolved token is valid UTF-8
 pub texts_of : (bytes : List ℕ) (ts : List Token) (refs : List Reference) → Spells bytes ts → map (λ (r : Reference). r.number) refs ≡ identifiers ts → (k : ℕ) → Contains (unresolved refs) k → IsUtf8 (text_at bytes ts k)
 texts_of bytes ts refs spells same k has =
     let (r, among, is) = from_map (λ (r : Reference). r.number) (filter (λ (r : Reference). is_unresolved r.target) refs) k has in

@@ -1,4 +1,4 @@
--- A tree has one list of entries, one index, and one list of identifiers that stand for nothing.
+-- A tree has one list of entries, one index, and one list of unresolved identifiers.
 use Rattle.std.proofs.Common.{◌≡◌, ℕ, List, [], ◌∷◌, map, refl, sym, ap, ap₂, ◌∙◌, subst, arith}
 use Rattle.std.specs.List.{flat_map}
 use Rattle.std.proofs.lemmas.Option.{slice_get_within}
@@ -19,7 +19,7 @@ use Rattle.ob_board.specs.Reached.{names, file_model, FileModel}
 use Rattle.ob_board.specs.Entries.{AreEntriesOf, IsEntry, EntryModel}
 use Rattle.ob_board.specs.Indexes.{AreTreeEntries, IsIndex, IsIndexOf, IsBuiltFrom}
 use Rattle.ob_board.specs.Resolved.{AreResolved}
-use Rattle.ob_board.specs.Unresolved.{AreUnresolvedRows, AreUnresolved, IsRow, IsUnresolvedIn, IsUnresolvedOf, UnresolvedModel}
+use Rattle.ob_board.specs.Unresolved.{AreUnresolvedRows, AreUnresolved, IsUnresolvedAt, IsUnresolvedIn, IsUnresolvedOf, UnresolvedModel}
 use Rattle.ob_board.proofs.OneExternals.{one_externals}
 use Rattle.ob_board.proofs.OneTree.{one_reached, one_tree}
 
@@ -80,9 +80,9 @@ module _ (sources : List Source) where
       let files = one_tree sources a.files b.files a.is_tree.accepted b.is_tree.accepted in
       one_index_of (map file_model a.files) package_name root index other a.is_index (subst (λ (fs : List FileModel). IsIndexOf fs package_name root other) (sym files) b.is_index)
 
--- ---- identifiers that stand for nothing
+---- unresolved identifiers
 
-one_row : (path bytes : List ℕ) (tokens : List Token) (k : ℕ) (row other : UnresolvedModel) → IsRow path bytes tokens k row → IsRow path bytes tokens k other → row ≡ other
+one_row : (path bytes : List ℕ) (tokens : List Token) (k : ℕ) (row other : UnresolvedModel) → IsUnresolvedAt path bytes tokens k row → IsUnresolvedAt path bytes tokens k other → row ≡ other
 one_row path bytes tokens k row other a b =
     let at = (token_at tokens k).start in
     let lines : row.line ≡ other.line = a.position.line_is ∙ sym b.position.line_is in

@@ -1,4 +1,4 @@
--- Two readings of a tree are seen as one, and what a module of it reaches is one list.
+-- Two readings of a tree give equal files, and the interfaces that a module reaches are one list.
 use Rattle.std.proofs.Common.{◌≡◌, ℕ, List, map, sym, ◌∙◌, subst, arith}
 use Rattle.std.proofs.lemmas.Option.{slice_get_within}
 use Rattle.ob_interface.specs.Interfaces.{ModuleInterface}

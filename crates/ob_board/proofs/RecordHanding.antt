@@ -10,7 +10,7 @@ use Rattle.ob_emit.specs.Documents.{document_of}
 use Rattle.ob_emit.specs.Externals.{AreExternalRows, AreExternals}
 use Rattle.module_table.specs.Tables.{rows_in}
 use Rattle.ob_imports.specs.Graphs.{ImportGraph}
-use Rattle.ob_scope.proofs.Elements.{some_one}
+use Rattle.module_table.proofs.Elements.{some_one}
 use Rattle.ob_interface.specs.Interfaces.{ModuleInterface}
 use Rattle.ob_types.specs.World.{world}
 use Rattle.std.specs.Arc.{arc_value}
@@ -24,9 +24,9 @@ use Rattle.scip_index.specs.Plain.{metadata_model, symbol_model, DocumentModel, 
 use Rattle.scip_index.specs.Written.{document_part}
 use Rattle.work_board.specs.Graphs.{list_at}
 use Rattle.board_workers.specs.Parts.{AreEntries as AreAtBoard}
-use Rattle.ob_board.specs.Boards.{modules_of}
+use Rattle.ob_board.specs.BoardGraphs.{modules_of}
 use Rattle.ob_board.specs.Reached.{names, FileModel}
-use Rattle.ob_board.specs.Seen.{file_models, file_model_in, AreSourcesRead}
+use Rattle.ob_board.specs.SourceParts.{file_models, file_model_in, AreSourcesRead}
 use Rattle.ob_board.specs.Entries.{IsEntryOf, EntryModel}
 use Rattle.ob_board.specs.UnresolvedEntry.{IsModuleInput}
 use Rattle.ob_board.specs.Records.{documents_in, with_document, AreRecordsOf, AreTreeRecords, IsEncoded, IsEncodedEntryOf, EncodedEntryModel}
@@ -35,7 +35,7 @@ use Rattle.ob_board.specs.declared.writing.EncodedIndex.{EncodedIndex}
 use Rattle.ob_board.specs.Indexes.{tool_metadata}
 use Rattle.ob_board.proofs.EntryHanding.{entries_all, entries_told, externals_of_tree, index_told, made_entry}
 
--- the entry of a module, of the record of its document
+-- the encoded entry of a module, from the record of its document
 pub made_recorded : (all : List FileModel) (package_name : List ℕ) (s : Source) (parts : ModuleParts) (reached : List ModuleInterface) (r : EncodedEntryModel) → IsModuleInput all s parts reached →
     IsEncoded s parts reached package_name r.bytes r.externals → r.name ≡ names (file_model_in s parts) 1 → r.interface ≡ arc_value parts.interface → IsEncodedEntryOf all package_name r.name r
 made_recorded all package_name s parts reached r hand w named shared =
@@ -74,7 +74,7 @@ with_records [] d output_is = refl
 with_records (r ∷ all) d output_is =
     ap₂ (λ (a : List ℕ) (b : List (List ℕ)). a ∷ b) (sym (output_is zero r refl)) (with_records all (λ k x at. d (suc k) x at) (λ k x at. output_is (suc k) x at))
 
--- an entry is that of the bytes at its place
+-- an entry has the bytes at its index
 with_at : (all : List EncodedEntryModel) (d : AreDocuments all) (k : ℕ) (e : EntryModel) → slice_get (entries_with all d) k ≡ Some e →
     (r : EncodedEntryModel) × (at : slice_get all k ≡ Some r) × (with_document r (d k r at) ≡ e)
 unfolding entries_with
@@ -107,14 +107,14 @@ module _ (sources : List Source) (modules : List (Box ModuleParts Global)) (g : 
         externals_are = with_externals all d;
       }
 
--- what is gathered of them
+-- the records and the external symbols that are gathered
 pub gathered : {T E : Type 0} (all : List FileModel) (package_name : List ℕ) (records : List (List ℕ)) (rows : List SymbolModel) (result : Result T E) (records_of : T → List (List ℕ)) (rows_of : T → List SymbolModel) →
     IfOk result (λ t. records_of t ≡ records) → IfOk result (λ t. rows_of t ≡ rows) → AreRecordsOf all package_name records rows →
     IfOk result (λ t. AreRecordsOf all package_name (records_of t) (rows_of t))
 gathered all package_name records rows (Ok t) records_of rows_of e f output_is = rw (e, f) output_is
 gathered all package_name records rows (Err fault) records_of rows_of e f output_is = tt
 
--- those of the parts of a tree are the tree's
+-- the records of the parts of a tree are the records of the tree
 pub records_told : (sources : List Source) (package_name : List ℕ) (modules : List ModuleFile) (tree : TreeParts) (records : List (List ℕ)) (rows : List SymbolModel) → ArePartsOfTree sources modules tree →
     AreRecordsOf (file_models sources tree.modules.items) package_name records rows → AreTreeRecords sources package_name records rows
 records_told sources package_name modules tree records rows output_is of = record {
@@ -127,7 +127,7 @@ records_told sources package_name modules tree records rows output_is of = recor
 pub externals_gathered : (sources : List Source) (package_name : List ℕ) (records : List (List ℕ)) (rows : List SymbolModel) → AreTreeRecords sources package_name records rows → AreExternalRows rows
 externals_gathered sources package_name records rows of = subst AreExternalRows of.externals_are (externals_of_tree sources package_name of.entries of.are_entries)
 
--- the parts of an index of what is gathered of a tree are those of the tree's
+-- the parts of an index that are gathered from a tree are those of the tree's index
 pub written_told : (sources : List Source) (package_name root : List ℕ) (w : EncodedIndex) (records : List (Vec ℕ)) (rows : List SymbolModel) →
     AreTreeRecords sources package_name (map (λ (row : Vec ℕ). row.items) records) rows →
     metadata_model w.metadata ≡ tool_metadata root → w.records.items ≡ records → AreExternals rows (map symbol_model w.external_symbols.items) → IsWrittenIndex sources package_name root w

@@ -9,19 +9,19 @@ use Rattle.ob_imports.specs.Graphs.{ImportGraph}
 use Rattle.ob_imports.specs.Outcomes.{AreFilesOfGraph}
 use Rattle.ob_interface.specs.Interfaces.{interface_of}
 use Rattle.ob_scan.specs.Spelling.{IsOutcome}
-use Rattle.ob_scope.specs.Scoped.{AreScopes}
+use Rattle.scopes.specs.Scoped.{AreScopes}
 use Rattle.source_tree.specs.Trees.{files_of as files_told, file_of as file_told, IsAccepted, ModuleFile}
 use Rattle.source_tree.specs.Parts.{ArePartsOf, AreAllParts}
 use Rattle.source_tree.specs.declared.parts.ModuleParts.{ModuleParts}
 use Rattle.source_tree.specs.declared.source.Source.{Source}
 use Rattle.source_tree.proofs.TreeFiles.{there}
 use Rattle.ob_board.specs.Reached.{files_of, file_model, FileModel}
-use Rattle.ob_board.specs.Seen.{file_models, file_model_in, AreSourcesRead}
+use Rattle.ob_board.specs.SourceParts.{file_models, file_model_in, AreSourcesRead}
 
 is_read : (s : Source) (file : ModuleFile) (parts : ModuleParts) → IsAccepted s file → ArePartsOf file parts → file_model_in s parts ≡ file_model file
 is_read s file parts accepted output_is = λ k. record { path = sym accepted.path_is k; bytes = sym accepted.bytes_are k; tokens = output_is.tokens_are k; rows = output_is.table_is k }
 
--- what the parts are of is what was read
+-- the files that the parts describe are the files that were read
 seen_files : (sources : List Source) (modules : List (Box ModuleParts Global)) (files : List ModuleFile) → length files ≡ length sources → length modules ≡ length files
     → ((k : ℕ) (s : Source) (file : ModuleFile) (m : Box ModuleParts Global) → slice_get sources k ≡ Some s → slice_get files k ≡ Some file → slice_get modules k ≡ Some m → file_model_in s m.value ≡ file_model file)
     → file_models sources modules ≡ map file_model files

@@ -22,12 +22,12 @@ use Rattle.ob_imports.specs.Numbering.{index_or_len}
 use Rattle.ob_imports.specs.Outcomes.{AreFilesOfGraph}
 use Rattle.ob_imports.proofs.Places.{place_is}
 use Rattle.ob_interface.specs.Interfaces.{ModuleInterface}
-use Rattle.ob_scope.proofs.Elements.{contains_slice, slice_contains, slice_there, some_one}
+use Rattle.module_table.proofs.Elements.{contains_slice, slice_contains, slice_there, some_one}
 use Rattle.work_board.proofs.Ordering.{order_has}
 use Rattle.work_board.specs.Cores.{entry_at, share_at, shared_part, AreOf, AreShares, Core}
 use Rattle.work_board.specs.Graphs.{list_at, IsNameOrder, Reaches}
 use Rattle.board_workers.specs.Parts.{IsJob}
-use Rattle.ob_board.specs.Boards.{modules_of}
+use Rattle.ob_board.specs.BoardGraphs.{modules_of}
 use Rattle.ob_board.specs.Reached.{file_of, files_of, interface_in, names, AreReachedInterfaces, IsReachedInterface, HasSameReach, FileModel}
 use Rattle.ob_board.proofs.ByName.{apart_pairs, by_pairs, IsBefore}
 use Rattle.ob_board.proofs.Chained.{as_many, modules_within, name_of_file}
@@ -80,7 +80,7 @@ module _ {E : Type 0} (shared_of : E → ModuleInterface) (flags : List Bool) (e
       let long : length (shares (v ∷ order)) ≡ length (share_at shared_of flags entries v) + length (shares order) = length-append (share_at shared_of flags entries v) (shares order) in
       omega (arith, here, rest, long)
 
-  -- they ascend by name as the numbers do
+  -- the reached modules are sorted by name as their numbers are
   module _ (name : ℕ → List ℕ) (named : (v : ℕ) (e : E) → entry_at entries v ≡ Some e → (shared_of e).name ≡ name v) where
     abbrev Ascend : List ℕ → Type 0
     Ascend order = AllPairs (λ v w. slice_cmp nat_cmp (name v) (name w) ≡ Less) order
@@ -111,7 +111,7 @@ module _ {E : Type 0} (shared_of : E → ModuleInterface) (flags : List Bool) (e
 
 -- ---- the names of a tree by number
 
--- in the order of the names these are apart
+-- in the order of names, names are distinct
 order_apart : (of : List (List ℕ)) (order : List ℕ) → IsDistinct bytes_eq of → IsNameOrder of order → IsDistinct bytes_eq (map (list_at of) order)
 order_apart of order once is =
     let count = length of in

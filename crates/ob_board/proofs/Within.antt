@@ -1,4 +1,4 @@
--- What a module of a tree reaches stands among all modules of the tree, with all that it imports of them.
+-- The modules that a module of a tree reaches are among all modules of the tree, with all that they import of them.
 use Rattle.std.proofs.Common.{◌≡◌, ◌+◌, ℕ, zero, suc, Bool, true, false, List, [], ◌∷◌, ◌++◌, length, map, None, Some, Ordering, refl, sym, ap, ◌∙◌, subst, arith, inl, inr}
 use Rattle.std.specs.Prelude.{Box, Contains, IsPermutation, find, position, slice_get}
 use Rattle.std.specs.declared.alloc.Global.{Global}
@@ -34,17 +34,17 @@ use Rattle.ob_types.specs.ModuleNumbers.{module_number_in}
 use Rattle.ob_types.specs.Within.{AreWithin}
 use Rattle.ob_types.proofs.Ascending.{found}
 use Rattle.ob_types.proofs.Within.{placed}
-use Rattle.ob_scope.proofs.Elements.{contains_slice, some_one}
-use Rattle.ob_board.specs.PrecomputedChains.{AreAllByName, AreLinksOf, ServesModule}
+use Rattle.module_table.proofs.Elements.{contains_slice, some_one}
+use Rattle.ob_board.specs.PrecomputedChains.{AreAllByName, AreChainsOf, ServesModule}
 use Rattle.ob_board.specs.declared.precomputed_chains.PrecomputedChains.{PrecomputedChains}
 use Rattle.ob_board.specs.Entries.{interfaces_of}
-use Rattle.ob_board.specs.Seen.{file_models, file_model_in, AreSourcesRead, IsSourceRead}
+use Rattle.ob_board.specs.SourceParts.{file_models, file_model_in, AreSourcesRead, IsSourceRead}
 use Rattle.ob_board.specs.Reached.{file_of, files_of, interface_in, names, AreReachedInterfaces, ReachesName, FileModel}
 use Rattle.ob_board.proofs.ByName.{apart_pairs, by_pairs}
 
--- ---- places of modules by their names
+-- ---- indices of modules by their names
 
--- the name of each module leads somewhere
+-- each module is found by its name
 leads : (modules : List ModuleInterface) (m : ModuleInterface) → Contains modules m → module_number_in modules m.name ≡ None → ⊥
 leads modules m (k, lt, is) none =
     let test : ModuleInterface → Bool = λ x. bytes_eq x.name m.name in
@@ -56,7 +56,7 @@ leads modules m (k, lt, is) none =
 
 -- ---- imports
 
--- what an alias stands for is imported
+-- a module imports the module that its alias denotes
 named_import : (bytes : List ℕ) (ts : List Token) (alias name : List ℕ) (is : List Import)
     → option_map (λ (i : Imported). i.module_name) (find (λ (i : Imported). bytes_eq i.alias alias) (map (imported_of bytes ts) is)) ≡ Some name → Contains (map (λ (i : Import). text_at bytes ts i.imported) is) name
 named_import bytes ts alias name [] e = absurd (none-some name e)
@@ -79,13 +79,13 @@ equal_to_itself name = at (slice_cmp nat_cmp name name) (nat_list_cmp_total.anti
     at Greater e = absurd (let bad : Greater ≡ Less = e in cc)
 
 module _ (files : List FileModel) (all : List ModuleInterface) (tree : AreAllByName (map interface_in files) all) where
-  -- the name of each module leads to itself
+  -- the name of each module is found at the module's index
   home_is : (k : ℕ) (m : ModuleInterface) → slice_get all k ≡ Some m → module_number_in all m.name ≡ Some k
   home_is k m at =
       found (λ (x : ModuleInterface). x.name) all m.name k tree.by_name (slice_get_within all k m at)
       (λ d. ap (λ (x : ModuleInterface). slice_cmp nat_cmp x.name m.name) (get_or_from_slice_get all k m d at) ∙ equal_to_itself m.name)
 
-  -- what a module reaches reaches what it imports
+  -- a module reaches the imports of the modules that it reaches
   reaches_more : (own m n : List ℕ) → ReachesName files own m → Imports (files_of files) m n → ReachesName files own n
   reaches_more own m n (w, first, (more, chain)) imports = (w, first, (more ++ n ∷ [], chain_more (Imports (files_of files)) w more m n chain imports))
 
@@ -124,9 +124,9 @@ same_interfaces (s ∷ sources) (m ∷ modules) many each =
     let later = same_interfaces sources modules (omega (arith, many)) (λ k a b p q. each (suc k) a b p q) in
     ap (λ (i : ModuleInterface). i ∷ interfaces_of modules) here ∙ ap (λ (is : List ModuleInterface). interface_in (file_model_in s m.value) ∷ is) later
 
--- what is known ahead of all modules serves one that reaches these
+-- the precomputed results for all modules serve a module that reaches these
 pub serves_among : (sources : List Source) (modules : List (Box ModuleParts Global)) (g : ImportGraph) → AreSourcesRead sources modules g → (own : List ℕ) (reached : List ModuleInterface)
-    → AreReachedInterfaces (file_models sources modules) own reached → (precomputed_chains : PrecomputedChains) → AreLinksOf (interfaces_of modules) precomputed_chains → ServesModule reached precomputed_chains
+    → AreReachedInterfaces (file_models sources modules) own reached → (precomputed_chains : PrecomputedChains) → AreChainsOf (interfaces_of modules) precomputed_chains → ServesModule reached precomputed_chains
 serves_among sources modules g seen own reached output_is precomputed_chains is = record {
   by_name = output_is.by_name;
   within = IfSome_then precomputed_chains.precomputed is.precomputed (λ s all.

@@ -28,7 +28,7 @@ abbrev pub entry_model : Entry → EntryModel
 entry_model e = record { name = string_bytes e.name; document = document_model e.document; interface = arc_value e.interface; externals = map symbol_model e.externals.items }
 
 -- the document and the external symbols are those of a module with these references, in a file at this path
-pub record AreOf (path package_name : List ℕ) (w : World) (refs : List Reference) (document : DocumentModel) (externals : List SymbolModel) : Type 0 where
+pub record AreOutputsOf (path package_name : List ℕ) (w : World) (refs : List Reference) (document : DocumentModel) (externals : List SymbolModel) : Type 0 where
   pub document_is : document ≡ document_of w path package_name refs
   pub externals_are : AreExternals (externals_in w refs) externals
   pub rows : AreExternalRows externals
@@ -39,7 +39,7 @@ pub record IsEntry (files : List FileModel) (package_name : List ℕ) (file : Fi
   pub interface_is : e.interface ≡ interface_in file
   pub refs : List Reference
   pub resolved : AreResolved files file refs
-  pub output_is : AreOf file.path package_name (world file.bytes file.tokens file.rows resolved.scopes resolved.reached) refs e.document e.externals
+  pub output_is : AreOutputsOf file.path package_name (world file.bytes file.tokens file.rows resolved.scopes resolved.reached) refs e.document e.externals
 
 -- the entry is that of the module of this name
 pub record IsEntryOf (files : List FileModel) (package_name name : List ℕ) (e : EntryModel) : Type 0 where
@@ -59,7 +59,7 @@ pub record AreEntriesOf (files : List FileModel) (package_name : List ℕ) (entr
 pub record IsDocumentBy (w : World) (path package_name : List ℕ) (document : DocumentModel) (externals : List SymbolModel) : Type 0 where
   pub refs : List Reference
   pub references : AreReferences w refs
-  pub output_is : AreOf path package_name w refs document externals
+  pub output_is : AreOutputsOf path package_name w refs document externals
 
 -- the document and the external symbols are those of a module with these parts, which reaches modules with these interfaces
 abbrev pub IsWritten : Source → ModuleParts → List ModuleInterface → List ℕ → DocumentModel → List SymbolModel → Type 0

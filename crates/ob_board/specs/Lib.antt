@@ -1,6 +1,6 @@
-pub mod Boards
+pub mod BoardGraphs
 pub mod Reached
-pub mod Seen
+pub mod SourceParts
 pub mod Resolved
 pub mod Unresolved
 pub mod UnresolvedEntry

@@ -11,7 +11,7 @@ pub record AreAllByName (all ordered : List ModuleInterface) : Type 0 where
   pub by_name : AreByName ordered
 
 -- the precomputed chains, if there are any, are those of these modules
-pub record AreLinksOf (all : List ModuleInterface) (precomputed_chains : PrecomputedChains) : Type 0 where
+pub record AreChainsOf (all : List ModuleInterface) (precomputed_chains : PrecomputedChains) : Type 0 where
   pub precomputed : IfSome precomputed_chains.precomputed (λ s. AreAllByName all s.value)
 
 -- the precomputed chains serve a module that reaches these modules, which are sorted by name

@@ -11,7 +11,7 @@ use Rattle.ob_scan.specs.Texts.{text_at}
 use Rattle.ob_types.specs.ModuleNumbers.{AreByName}
 use Rattle.source_tree.specs.Trees.{rows, ModuleFile}
 use Rattle.work_board.specs.Graphs.{Reaches}
-use Rattle.ob_board.specs.Boards.{modules_of}
+use Rattle.ob_board.specs.BoardGraphs.{modules_of}
 
 -- a file: its path, its bytes and tokens, and its module table
 pub record FileModel : Type 0 where

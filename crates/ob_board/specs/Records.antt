@@ -50,7 +50,7 @@ IsEncoded s parts reached = IsEncodedBy (world s.bytes.items parts.tokens (rows_
 abbrev pub documents_in : List EntryModel → List DocumentModel
 documents_in entries = map (λ (e : EntryModel). e.document) entries
 
--- the records are those of all files' documents, in the order of the files, and the external symbols are theirs, concatenated
+-- the records of the documents of all files, in the order of the files, and the external symbols of all files, concatenated
 pub record AreRecordsOf (files : List FileModel) (package_name : List ℕ) (records : List (List ℕ)) (externals : List SymbolModel) : Type 0 where
   pub entries : List EntryModel
   pub are_entries : AreEntriesOf files package_name entries

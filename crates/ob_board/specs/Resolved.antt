@@ -1,7 +1,7 @@
 -- What the identifiers of a tree's modules denote.
 use Rattle.std.specs.Prelude.{List}
 use Rattle.ob_interface.specs.Interfaces.{ModuleInterface}
-use Rattle.ob_scope.specs.Scoped.{AreScopes, ModuleScopes}
+use Rattle.scopes.specs.Scoped.{AreScopes, ModuleScopes}
 use Rattle.ob_targets.specs.declared.target.Reference.{Reference}
 use Rattle.ob_targets.specs.Refers.{AreReferences}
 use Rattle.ob_types.specs.World.{world}

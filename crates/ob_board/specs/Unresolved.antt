@@ -25,7 +25,7 @@ abbrev pub unresolved_model : Unresolved → UnresolvedModel
 unresolved_model u = record { path = string_bytes (arc_value u.path); line = u.at.line; column = u.at.column; name = string_bytes u.name }
 
 -- the element is the location and the name of the token with this number
-pub record IsRow (path bytes : List ℕ) (tokens : List Token) (k : ℕ) (row : UnresolvedModel) : Type 0 where
+pub record IsUnresolvedAt (path bytes : List ℕ) (tokens : List Token) (k : ℕ) (row : UnresolvedModel) : Type 0 where
   pub path_is : row.path ≡ path
   pub position : IsPosition bytes (token_at tokens k).start row.line row.column
   pub name_is : row.name ≡ text_at bytes tokens k
@@ -35,7 +35,7 @@ abbrev pub AreUnresolvedRows : List ℕ → List ℕ → List Token → List ℕ
 AreUnresolvedRows path bytes tokens [] [] = Unit {0}
 AreUnresolvedRows path bytes tokens [] (row ∷ rows) = ⊥
 AreUnresolvedRows path bytes tokens (k ∷ ks) [] = ⊥
-AreUnresolvedRows path bytes tokens (k ∷ ks) (row ∷ rows) = IsRow path bytes tokens k row × AreUnresolvedRows path bytes tokens ks rows
+AreUnresolvedRows path bytes tokens (k ∷ ks) (row ∷ rows) = IsUnresolvedAt path bytes tokens k row × AreUnresolvedRows path bytes tokens ks rows
 
 -- the list has the unresolved identifiers of a file of the tree, without the predeclared ones, in order
 pub record IsUnresolvedIn (files : List FileModel) (file : FileModel) (rows : List UnresolvedModel) : Type 0 where

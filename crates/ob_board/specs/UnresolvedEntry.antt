@@ -4,7 +4,7 @@ use Rattle.ob_interface.specs.Interfaces.{ModuleInterface}
 use Rattle.source_tree.specs.declared.parts.ModuleParts.{ModuleParts}
 use Rattle.source_tree.specs.declared.source.Source.{Source}
 use Rattle.ob_board.specs.Reached.{interface_in, names, AreReachedInterfaces, FileModel}
-use Rattle.ob_board.specs.Seen.{file_model_in, IsSourceRead}
+use Rattle.ob_board.specs.SourceParts.{file_model_in, IsSourceRead}
 use Rattle.ob_board.specs.Unresolved.{IsUnresolvedIn, UnresolvedModel}
 
 pub record UnresolvedEntryModel : Type 0 where

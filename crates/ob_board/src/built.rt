@@ -3,8 +3,8 @@ ghost use Rattle.std.specs.Prelude.{◌≡◌, false, map, IfOk};
 ghost use Rattle.std.specs.Arc.{arc_value};
 ghost use Rattle.ob_scan.specs.Texts.{text_at};
 ghost use Rattle.scip_symbol.specs.Outcomes.{is_wrong_part};
-ghost use Rattle.ob_board.specs.PrecomputedChains.{AreLinksOf, ServesModule};
-ghost use Rattle.ob_board.specs.Seen.{file_models, AreSourcesRead};
+ghost use Rattle.ob_board.specs.PrecomputedChains.{AreChainsOf, ServesModule};
+ghost use Rattle.ob_board.specs.SourceParts.{file_models, AreSourcesRead};
 ghost use Rattle.ob_board.specs.Entries.{interfaces_of, entry_model, AreAllNamed, IsEntryOf};
 ghost use Rattle.ob_board.specs.UnresolvedEntry.{IsModuleInput};
 
@@ -12,7 +12,7 @@ use crate::Entry;
 use crate::laws::reached_by_names;
 use crate::named_index::NamedIndex;
 use crate::precomputed_chains::PrecomputedChains;
-use crate::written::{Written, write_module};
+use crate::written::{EmittedDocument, emit_module};
 use board_workers::Work;
 use ob_imports::Graph;
 use ob_interface::Interface;
@@ -22,7 +22,7 @@ use std::marker::{Model, PhantomData};
 use std::sync::Arc;
 use work_board::WorkEntry;
 
-/// The entry of a module of the tree, in the package, that the type names.
+/// The entry of a module. The type parameter `F` identifies the tree and the package.
 #[derive(Drop)]
 pub struct IndexEntry<F: NamedIndex> {
     entry: Entry,
@@ -95,10 +95,10 @@ fn build_entry<F: NamedIndex>(
     requires right { is_wrong_part F.package_name ≡ false }
     ensures { IfOk result (λ m. m.name ≡ text_at source.now.bytes.items parts.now.tokens 1) }
 {
-    let Written {
+    let EmittedDocument {
         document,
         externals,
-    } = write_module(
+    } = emit_module(
         alloc,
         source,
         parts,
@@ -120,7 +120,7 @@ fn build_entry<F: NamedIndex>(
     })
 }
 
-/// Makes the entries of a tree's modules. The type names the tree. Contracts describe it by the graph of imports.
+/// Makes the entries of a tree's modules. The type parameter `F` identifies the tree. The value in contracts is the graph of imports.
 #[derive(Drop)]
 pub struct EntryBuilder<'a, F: NamedIndex, E> {
     pub(crate) alloc: Global,
@@ -138,8 +138,8 @@ impl<'a, F: NamedIndex, E> Model for EntryBuilder<'a, F, E> {
     ghost use Rattle.std.specs.Prelude.{◌≡◌, false};
     ghost use Rattle.ob_imports.specs.Graphs.{ImportGraph};
     ghost use Rattle.scip_symbol.specs.Outcomes.{is_wrong_part};
-    ghost use Rattle.ob_board.specs.PrecomputedChains.{AreLinksOf};
-    ghost use Rattle.ob_board.specs.Seen.{file_models, AreSourcesRead};
+    ghost use Rattle.ob_board.specs.PrecomputedChains.{AreChainsOf};
+    ghost use Rattle.ob_board.specs.SourceParts.{file_models, AreSourcesRead};
     ghost use Rattle.ob_board.specs.Entries.{interfaces_of};
 
     ghost Value = { ImportGraph };
@@ -147,7 +147,7 @@ impl<'a, F: NamedIndex, E> Model for EntryBuilder<'a, F, E> {
     ghost view = { λ w. w.graph.now };
 
     ghost invariant = { λ w. (F.files ≡ file_models w.sources.now w.modules.now) × AreSourcesRead w.sources.now w.modules.now w.graph.now × (w.package_name.now ≡ F.package_name)
-        × (is_wrong_part F.package_name ≡ false) × AreLinksOf (interfaces_of w.modules.now) w.precomputed_chains × (F.graph ≡ w.graph.now) };
+        × (is_wrong_part F.package_name ≡ false) × AreChainsOf (interfaces_of w.modules.now) w.precomputed_chains × (F.graph ≡ w.graph.now) };
 }
 
 impl<'a, F: NamedIndex, E> EntryBuilder<'a, F, E> {
@@ -165,7 +165,7 @@ impl<'a, F: NamedIndex, E> EntryBuilder<'a, F, E> {
         requires graph { F.graph ≡ graph.now }
         requires package { package_name.now ≡ F.package_name }
         requires right { is_wrong_part F.package_name ≡ false }
-        requires precomputed_chains { AreLinksOf (interfaces_of modules.now) precomputed_chains }
+        requires precomputed_chains { AreChainsOf (interfaces_of modules.now) precomputed_chains }
         ensures { result ≡ graph.now }
     {
         EntryBuilder {
@@ -190,7 +190,7 @@ impl<'a, F: NamedIndex, E> EntryBuilder<'a, F, E> {
 }
 
 impl<F: NamedIndex> Work for EntryBuilder<'_, F, IndexEntry<F>> {
-    ghost use Rattle.ob_board.specs.Boards.{modules_of};
+    ghost use Rattle.ob_board.specs.BoardGraphs.{modules_of};
 
     type Entry = IndexEntry<F>;
 

@@ -13,7 +13,7 @@ use crate::built::EntryBuilder;
 use crate::laws::reached_by_names;
 use crate::named_index::NamedIndex;
 use crate::precomputed_chains::PrecomputedChains;
-use crate::written::{EncodedDocument, record_module};
+use crate::written::{EncodedDocument, encode_module};
 use board_workers::Work;
 use ob_interface::Interface;
 use scip_index::SymbolInfo;
@@ -23,7 +23,7 @@ use std::marker::{Model, PhantomData};
 use std::sync::Arc;
 use work_board::WorkEntry;
 
-/// The entry of a module of the tree that the type names, with the record of its document.
+/// The entry of a module, with the record of its document. The type parameter `F` identifies the tree and the package.
 #[derive(Drop)]
 pub(crate) struct EncodedEntry<F: NamedIndex> {
     name: String,
@@ -101,7 +101,7 @@ fn encode_entry<F: NamedIndex>(
     requires right { is_wrong_part F.package_name ≡ false }
     ensures { IfOk result (λ r. r.name ≡ text_at source.now.bytes.items parts.now.tokens 1) }
 {
-    let EncodedDocument { bytes, externals } = record_module(
+    let EncodedDocument { bytes, externals } = encode_module(
         alloc,
         source,
         parts,
@@ -121,7 +121,7 @@ fn encode_entry<F: NamedIndex>(
 }
 
 impl<F: NamedIndex> Work for EntryBuilder<'_, F, EncodedEntry<F>> {
-    ghost use Rattle.ob_board.specs.Boards.{modules_of};
+    ghost use Rattle.ob_board.specs.BoardGraphs.{modules_of};
 
     type Entry = EncodedEntry<F>;
 

@@ -2,13 +2,13 @@
 ghost use Rattle.std.specs.Prelude.{◌≡◌, ◌<◌, length, map, take, IfOk};
 ghost use Rattle.std.specs.String.{string_bytes};
 ghost use Rattle.work_board.specs.Graphs.{lists, IsAcyclic};
-ghost use Rattle.ob_board.specs.Boards.{modules_of, rows_below, tree_imports};
+ghost use Rattle.ob_board.specs.BoardGraphs.{modules_of, rows_below, tree_imports};
 
 use ob_imports::Graph;
 use std::alloc::{AllocError, Global};
 
 /// The names of the modules of the tree.
-fn names_of(alloc: Global, graph: &Graph) -> Result<Vec<String>, AllocError>
+fn tree_module_names(alloc: Global, graph: &Graph) -> Result<Vec<String>, AllocError>
     ensures { IfOk result (λ names. map string_bytes names.items ≡ take graph.now.modules graph.now.names) }
 {
     graph.invariants();
@@ -20,7 +20,7 @@ fn names_of(alloc: Global, graph: &Graph) -> Result<Vec<String>, AllocError>
 }
 
 /// The modules of the tree that a module imports.
-fn row_of(alloc: Global, graph: &Graph, node: u32) -> Result<Vec<u32>, AllocError>
+fn tree_imports_of_module(alloc: Global, graph: &Graph, node: u32) -> Result<Vec<u32>, AllocError>
     requires { node < length graph.now.names }
     ensures { IfOk result (λ row. row.items ≡ tree_imports graph.now node) }
 {
@@ -35,19 +35,19 @@ fn row_of(alloc: Global, graph: &Graph, node: u32) -> Result<Vec<u32>, AllocErro
 }
 
 /// The imports of each module of the tree, without external modules.
-fn rows_of(alloc: Global, graph: &Graph) -> Result<Vec<Vec<u32>>, AllocError>
+fn all_tree_imports(alloc: Global, graph: &Graph) -> Result<Vec<Vec<u32>>, AllocError>
     ensures { IfOk result (λ rows. lists rows.items ≡ rows_below graph.now graph.now.modules) }
 {
     graph.invariants();
     let mut rows = Vec::new(alloc);
     for node in 0..graph.modules() {
-        rows.push(row_of(alloc, graph, node)?)?;
+        rows.push(tree_imports_of_module(alloc, graph, node)?)?;
     }
     Ok(rows)
 }
 
-/// The modules of the tree in a graph of imports, by their numbers there, with the imports among them. The result has no cycle. Fails with
-/// `AllocError` if an allocation fails.
+/// The modules of the tree in a graph of imports, by their numbers in that graph, with the imports among them. The result has no cycle.
+/// Fails with `AllocError` if an allocation fails.
 pub fn board_graph(alloc: Global, graph: &Graph) -> Result<work_board::Graph, AllocError>
     // With `Ok` the graph has exactly the modules of the tree and the imports among them.
     ensures graph { IfOk result (λ board. board ≡ modules_of graph.now) }
@@ -55,8 +55,8 @@ pub fn board_graph(alloc: Global, graph: &Graph) -> Result<work_board::Graph, Al
     ensures acyclic { IfOk result (λ board. IsAcyclic board.imports) }
 {
     graph.invariants();
-    let names = names_of(alloc, graph)?;
-    let rows = rows_of(alloc, graph)?;
+    let names = tree_module_names(alloc, graph)?;
+    let rows = all_tree_imports(alloc, graph)?;
     let board = work_board::Graph::new(alloc, names, rows)?;
     Ok(board)
 }

@@ -6,7 +6,7 @@ ghost use Rattle.ob_emit.specs.Externals.{AreExternalRows};
 ghost use Rattle.source_tree.specs.Trees.{IsTreeFault};
 ghost use Rattle.scip_index.specs.Plain.{document_model, index_model, metadata_model, symbol_model};
 ghost use Rattle.scip_symbol.specs.Outcomes.{is_wrong_part};
-ghost use Rattle.ob_board.specs.Seen.{file_models, AreSourcesRead};
+ghost use Rattle.ob_board.specs.SourceParts.{file_models, AreSourcesRead};
 ghost use Rattle.ob_board.specs.Entries.{entry_model, AreEntriesOf};
 ghost use Rattle.ob_board.specs.Indexes.{tool_metadata, AreTreeEntries, IsIndex, IsBuiltFrom};
 
@@ -46,7 +46,7 @@ fn into_entries<F: NamedIndex>(
 }
 
 /// The entries of the tree with these parts, in the order of the files.
-fn entries_in<F: NamedIndex + Send + Sync, G: BoardGate + Sync, R: Threads + Wait + Sync>(
+fn entries_of_parts<F: NamedIndex + Send + Sync, G: BoardGate + Sync, R: Threads + Wait + Sync>(
     rt: &R,
     alloc: Global,
     sources: &[Source],
@@ -77,8 +77,8 @@ fn entries_in<F: NamedIndex + Send + Sync, G: BoardGate + Sync, R: Threads + Wai
     into_entries(alloc, all?)
 }
 
-/// Computes the entries of a tree's modules, in the order of the files. At most `workers` threads read the files and make the entries: the
-/// calling thread and at most `workers - 1` others. Each calls the gate between claiming and delivering a module.
+/// Computes the entries of a tree's modules, in the order of the files. At most `workers` threads read the files. The calling thread and at
+/// most `workers - 1` others make the entries. Each of them calls the gate between claiming and delivering a module.
 /// Fails with the fault of the tree, or with its `Memory` if an allocation fails. It may wait for a lock and for its threads.
 pub fn entries<G: BoardGate + Sync, R: Threads + Wait + Sync>(
     rt: &R,
@@ -96,7 +96,9 @@ pub fn entries<G: BoardGate + Sync, R: Threads + Wait + Sync>(
     ensures fault { IfErr result (IsTreeFault sources.now) }
 {
     let tree = tree_parts(rt, alloc, sources, workers)?;
-    let entries = entries_in::<Brand, G, R>(rt, alloc, sources, &tree, options, workers, gate);
+    let entries = entries_of_parts::<Brand, G, R>(
+        rt, alloc, sources, &tree, options, workers, gate,
+    );
     drop(tree);
     Ok(entries?)
 }
@@ -147,7 +149,11 @@ fn gather(alloc: Global, entries: Vec<Entry>) -> Result<Gathered, AllocError>
 }
 
 /// The index with these entries.
-pub(crate) fn index_of(alloc: Global, entries: Vec<Entry>, root: &str) -> Result<Index, AllocError>
+pub(crate) fn assemble_index(
+    alloc: Global,
+    entries: Vec<Entry>,
+    root: &str,
+) -> Result<Index, AllocError>
     requires { AreExternalRows (flat_map (λ e. (entry_model e).externals) entries.items) }
     ensures { IfOk result (λ index. IsBuiltFrom (map entry_model entries.items) root.now (index_model index)) }
 {
@@ -178,6 +184,6 @@ pub fn index_tree<G: BoardGate + Sync, R: Threads + Wait + Sync>(
     ensures fault { IfErr result (IsTreeFault sources.now) }
 {
     let entries = entries(rt, alloc, sources, options, workers, gate)?;
-    let index = index_of(alloc, entries, options.root.as_str())?;
+    let index = assemble_index(alloc, entries, options.root.as_str())?;
     Ok(index)
 }

@@ -9,7 +9,7 @@ ghost use Rattle.source_tree.specs.declared.source.Source.{Source};
 ghost use Rattle.scip_index.specs.Plain.{IndexModel};
 ghost use Rattle.ob_board.specs.Entries.{EntryModel};
 ghost use Rattle.ob_board.specs.Indexes.{AreTreeEntries, IsIndex, IsIndexOf};
-ghost use Rattle.ob_board.specs.Seen.{file_models};
+ghost use Rattle.ob_board.specs.SourceParts.{file_models};
 ghost use Rattle.ob_board.specs.Reached.{files_of, HasSameReach, FileModel};
 ghost use Rattle.ob_board.specs.Unresolved.{AreUnresolved, UnresolvedModel};
 

@@ -2,36 +2,36 @@
 //! Depends on `work_board` and `board_workers` for the order and the threads, and on `source_tree` for the files of a tree.
 //! It also depends on `ob_types`, `ob_resolve` and `ob_emit`, which process each module.
 //! The main calls are `index_tree`, `written_index` and `unresolved_in_tree`. Their results are exactly the tree's, for every number of
-//! workers and every gate.
-//! The same index is gathered from a scheduler whose modules are completed by other workers.
+//! workers and every gate: a call-back between claim and delivery, for tests. A caller with its own workers uses a scheduler, `TreeBoard`,
+//! from which `EntryBuilder::gather` makes the index that `index_tree` returns.
 #![tactic(auto)]
 
 mod built;
-mod driving;
+mod claimed_modules;
 mod encoded;
 mod entry;
 mod files;
-mod found;
 mod graphs;
 mod indexing;
 pub mod laws;
-mod listing;
 mod module_types;
 mod named_index;
 mod precomputed_chains;
 mod rows;
 mod unresolved;
+mod unresolved_entries;
+mod unresolved_list;
 mod writing;
 mod written;
 
 pub use board_workers::BoardGate;
 pub use built::{EntryBuilder, IndexEntry};
-pub use driving::{Job, TreeBoard};
+pub use claimed_modules::{Job, TreeBoard};
 pub use entry::Entry;
 pub use graphs::board_graph;
 pub use indexing::{IndexOptions, entries, index_tree};
-pub use listing::unresolved_in_tree;
 pub use named_index::{BoardOf, NamedIndex};
 pub use unresolved::Unresolved;
+pub use unresolved_list::unresolved_in_tree;
 pub use work_board::{Board, BoardFault, Claim, Graph, NamedTree, WorkEntry};
 pub use writing::{EncodedIndex, written_index};

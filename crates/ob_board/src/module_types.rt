@@ -15,7 +15,7 @@ use std::alloc::{AllocError, Global};
 use std::sync::Arc;
 
 /// The types of a module, by its parts and these interfaces.
-pub(crate) fn types_among<'a>(
+pub(crate) fn types_with_interfaces<'a>(
     alloc: Global,
     source: &'a Source,
     parts: &'a ModuleParts,
@@ -49,6 +49,6 @@ pub(crate) fn module_types<'a>(
     requires precomputed_chains { ServesModule (map arc_value reached.now) precomputed_chains.now }
     ensures { IfOk result (λ t. t ≡ world source.now.bytes.items parts.now.tokens (rows_in parts.now.table) parts.now.scopes (map arc_value reached.now)) }
 {
-    let types = types_among(alloc, source, parts, reached)?;
+    let types = types_with_interfaces(alloc, source, parts, reached)?;
     Ok(types.with_precomputed(precomputed_chains.precomputed()))
 }

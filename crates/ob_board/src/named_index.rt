@@ -32,7 +32,7 @@ impl NamedIndex for Brand {
 pub struct BoardOf<F: NamedIndex>(PhantomData<F>);
 
 impl<F: NamedIndex> NamedTree for BoardOf<F> {
-    ghost use Rattle.ob_board.specs.Boards.{modules_of};
+    ghost use Rattle.ob_board.specs.BoardGraphs.{modules_of};
 
     ghost graph = { modules_of F.graph };
 }

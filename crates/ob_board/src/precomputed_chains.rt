@@ -7,11 +7,11 @@ ghost use Rattle.std.specs.Ordering.{is_lt, nat_cmp};
 ghost use Rattle.std.specs.Option.{option_copied, option_map};
 ghost use Rattle.ob_imports.specs.Graphs.{ImportGraph};
 ghost use Rattle.ob_interface.specs.Interfaces.{ModuleInterface};
-ghost use Rattle.ob_board.specs.PrecomputedChains.{AreAllByName, AreLinksOf};
+ghost use Rattle.ob_board.specs.PrecomputedChains.{AreAllByName, AreChainsOf};
 ghost use Rattle.ob_board.specs.Entries.{interfaces_of};
-ghost use Rattle.ob_board.specs.Seen.{AreSourcesRead};
+ghost use Rattle.ob_board.specs.SourceParts.{AreSourcesRead};
 
-use crate::module_types::types_among;
+use crate::module_types::types_with_interfaces;
 use ob_interface::Interface;
 use ob_scan::laws::tokens_in_text;
 use ob_types::{PrecomputedTypes, precompute_types};
@@ -50,8 +50,8 @@ fn sort_by_name(all: &mut Vec<Arc<Interface>>)
     all.sort_unstable_by(|a, b| a.name().cmp(&b.name()));
 }
 
-/// The index of the shortest source.
-fn shortest(sources: &[Source]) -> usize
+/// The index of the source with the fewest bytes.
+fn shortest_source(sources: &[Source]) -> usize
     requires { 0 < length sources.now }
     ensures { result < length sources.now }
 {
@@ -64,8 +64,8 @@ fn shortest(sources: &[Source]) -> usize
     place
 }
 
-/// The precomputed type chains of all modules of these files. A module's types are needed to compute them; those of the shortest source are
-/// used, with the interfaces of all modules.
+/// The precomputed type chains of all modules of these files. They are computed from the types of one module, the one whose source has the
+/// fewest bytes, and from the interfaces of all modules.
 /// `None` for a single module, or if no chain is long: following the chains then costs less than precomputing them.
 fn precompute_chains(
     alloc: Global,
@@ -81,8 +81,8 @@ fn precompute_chains(
     tokens_in_text();
     let mut all = interfaces(alloc, modules)?;
     sort_by_name(&mut all);
-    let place = shortest(sources);
-    let types = types_among(alloc, &sources[place], &modules[place], all.as_slice())?;
+    let place = shortest_source(sources);
+    let types = types_with_interfaces(alloc, &sources[place], &modules[place], all.as_slice())?;
     precompute_types(alloc, &types)
 }
 
@@ -95,7 +95,7 @@ impl PrecomputedChains {
         modules: &[Box<ModuleParts>],
     ) -> PrecomputedChains
         requires { (graph : ImportGraph) × AreSourcesRead sources.now modules.now graph }
-        ensures { AreLinksOf (interfaces_of modules.now) result }
+        ensures { AreChainsOf (interfaces_of modules.now) result }
     {
         match precompute_chains(alloc, sources, modules) {
             Ok(precomputed) => PrecomputedChains { precomputed },

@@ -6,7 +6,7 @@ ghost use Rattle.std.specs.String.{string_bytes};
 ghost use Rattle.ob_scan.specs.Position.{line_starts};
 ghost use Rattle.ob_scan.specs.Spelling.{AreInText};
 ghost use Rattle.ob_scan.specs.Texts.{text_at};
-ghost use Rattle.ob_board.specs.Unresolved.{unresolved_model, AreUnresolvedRows, IsRow};
+ghost use Rattle.ob_board.specs.Unresolved.{unresolved_model, AreUnresolvedRows, IsUnresolvedAt};
 
 use crate::Unresolved;
 use ob_scan::{Lines, Token, TokenTexts, lines};
@@ -24,7 +24,7 @@ fn row_of(
     requires in_text { AreInText text.now.bytes.now text.now.tokens.now }
     requires lined { lines.now ≡ line_starts text.now.bytes.now }
     requires text { IsUtf8 (text_at text.now.bytes.now text.now.tokens.now number) }
-    ensures { IfOk result (λ row. IsRow (string_bytes (arc_value path.now)) text.now.bytes.now text.now.tokens.now number (unresolved_model row)) }
+    ensures { IfOk result (λ row. IsUnresolvedAt (string_bytes (arc_value path.now)) text.now.bytes.now text.now.tokens.now number (unresolved_model row)) }
 {
     let at = lines.position(text.start(number));
     let path = Arc::try_clone(path)?;

@@ -7,7 +7,7 @@ ghost use Rattle.ob_emit.specs.Externals.{AreExternalRows, AreExternals};
 ghost use Rattle.source_tree.specs.Trees.{IsTreeFault};
 ghost use Rattle.scip_index.specs.Plain.{metadata_model, symbol_model};
 ghost use Rattle.scip_symbol.specs.Outcomes.{is_wrong_part};
-ghost use Rattle.ob_board.specs.Seen.{file_models, AreSourcesRead};
+ghost use Rattle.ob_board.specs.SourceParts.{file_models, AreSourcesRead};
 ghost use Rattle.ob_board.specs.Indexes.{tool_metadata};
 ghost use Rattle.ob_board.specs.Records.{AreRecordsOf, AreTreeRecords};
 ghost use Rattle.ob_board.specs.WrittenIndexes.{IsWrittenIndex};
@@ -62,7 +62,7 @@ fn gather<F: NamedIndex>(alloc: Global, all: Vec<EncodedEntry<F>>) -> Result<Gat
 }
 
 /// The records and the external symbols of the tree with these parts, in the order of the files.
-fn records_in<F: NamedIndex + Send + Sync, G: BoardGate + Sync, R: Threads + Wait + Sync>(
+fn records_of_parts<F: NamedIndex + Send + Sync, G: BoardGate + Sync, R: Threads + Wait + Sync>(
     rt: &R,
     alloc: Global,
     sources: &[Source],
@@ -107,13 +107,19 @@ fn tree_records<G: BoardGate + Sync, R: Threads + Wait + Sync>(
     ensures fault { IfErr result (IsTreeFault sources.now) }
 {
     let tree = tree_parts(rt, alloc, sources, workers)?;
-    let gathered = records_in::<Brand, G, R>(rt, alloc, sources, &tree, options, workers, gate);
+    let gathered = records_of_parts::<Brand, G, R>(
+        rt, alloc, sources, &tree, options, workers, gate,
+    );
     drop(tree);
     Ok(gathered?)
 }
 
 /// The parts of the index with these records and external symbols.
-fn parts_of(alloc: Global, gathered: Gathered, root: &str) -> Result<EncodedIndex, AllocError>
+fn make_encoded_index(
+    alloc: Global,
+    gathered: Gathered,
+    root: &str,
+) -> Result<EncodedIndex, AllocError>
     requires { AreExternalRows (map symbol_model gathered.rows.items) }
     ensures metadata { IfOk result (λ w. metadata_model w.metadata ≡ tool_metadata root.now) }
     ensures records { IfOk result (λ w. w.records.items ≡ gathered.records.items) }
@@ -147,6 +153,6 @@ pub fn written_index<G: BoardGate + Sync, R: Threads + Wait + Sync>(
     ensures fault { IfErr result (IsTreeFault sources.now) }
 {
     let gathered = tree_records(rt, alloc, sources, options, workers, gate)?;
-    let parts = parts_of(alloc, gathered, options.root.as_str())?;
+    let parts = make_encoded_index(alloc, gathered, options.root.as_str())?;
     Ok(parts)
 }

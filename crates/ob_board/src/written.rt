@@ -4,7 +4,7 @@ ghost use Rattle.std.specs.Arc.{arc_value};
 ghost use Rattle.module_table.specs.Tables.{rows_in};
 ghost use Rattle.ob_emit.specs.Named.{NamesAreIdentifiers};
 ghost use Rattle.ob_scan.specs.Spelling.{IsOutcome, Spells};
-ghost use Rattle.ob_scope.specs.Scoped.{AreScopes};
+ghost use Rattle.scopes.specs.Scoped.{AreScopes};
 ghost use Rattle.scip_index.specs.Plain.{document_model, symbol_model};
 ghost use Rattle.scip_symbol.specs.Outcomes.{is_wrong_part};
 ghost use Rattle.ob_board.specs.PrecomputedChains.{ServesModule};
@@ -26,18 +26,18 @@ use std::sync::Arc;
 
 /// A module's document, and the external symbols that the module uses.
 #[derive(Drop)]
-pub(crate) struct Written {
+pub(crate) struct EmittedDocument {
     pub(crate) document: Document,
     pub(crate) externals: Vec<SymbolInfo>,
 }
 
 /// The document of a module at this path and its external symbols, by its types.
-fn written_by(
+fn emit_document(
     alloc: Global,
     path: &str,
     types: &Types<'_>,
     package_name: &str,
-) -> Result<Written, AllocError>
+) -> Result<EmittedDocument, AllocError>
     requires short { length types.now.bytes < 2 ^ 31 }
     requires spelled { Spells types.now.bytes types.now.tokens }
     requires named { NamesAreIdentifiers types.now }
@@ -50,7 +50,7 @@ fn written_by(
     match document(alloc, path, types, refs.as_slice(), package_name) {
         Ok(document) => {
             let externals = externals(alloc, types, refs.as_slice())?;
-            Ok(Written {
+            Ok(EmittedDocument {
                 document,
                 externals,
             })
@@ -62,14 +62,14 @@ fn written_by(
 
 /// The document of a module and its external symbols, by its parts, the interfaces of the modules that it reaches, and the precomputed type
 /// chains.
-pub(crate) fn write_module(
+pub(crate) fn emit_module(
     alloc: Global,
     source: &Source,
     parts: &ModuleParts,
     reached: &[Arc<Interface>],
     precomputed_chains: &PrecomputedChains,
     package_name: &str,
-) -> Result<Written, AllocError>
+) -> Result<EmittedDocument, AllocError>
     requires spelled { IsOutcome source.now.bytes.items (Ok parts.now.tokens) }
     requires scoped { AreScopes source.now.bytes.items parts.now.tokens (rows_in parts.now.table) parts.now.scopes }
     requires named { AreAllNamed (map arc_value reached.now) }
@@ -81,7 +81,7 @@ pub(crate) fn write_module(
     tokens_in_text();
     names_of_scopes();
     let types = module_types(alloc, source, parts, reached, precomputed_chains)?;
-    let written = written_by(alloc, source.path.as_str(), &types, package_name);
+    let written = emit_document(alloc, source.path.as_str(), &types, package_name);
     drop(types);
     written
 }
@@ -120,8 +120,8 @@ fn encode_document(
 }
 
 /// The record of a module's document and its external symbols, by its parts, the interfaces of the modules that it reaches, and the
-/// precomputed type chains. It is the record of the document that `write_module` returns; no message is made.
-pub(crate) fn record_module(
+/// precomputed type chains. It is the record of the document that `emit_module` returns; no message is made.
+pub(crate) fn encode_module(
     alloc: Global,
     source: &Source,
     parts: &ModuleParts,

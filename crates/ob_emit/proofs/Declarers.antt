@@ -1,4 +1,4 @@
--- The constructs that declare identifiers, as the table's look-ups find them.
+-- The declaration groups of identifiers, as the table's look-ups find them.
 use Rattle.std.proofs.Common.{◌≡◌, ℕ, Option, Some, None, false, refl, sym, ap, ◌∙◌}
 use Rattle.std.specs.Prelude.{◌==◌, find, not}
 use Rattle.module_table.specs.declared.rows.Declared.{Declared}
@@ -7,7 +7,7 @@ use Rattle.module_table.specs.Parts.{Rows}
 use Rattle.ob_types.specs.World.{World, declared_at, decl_group_from, decl_group_of}
 use Rattle.ob_emit.specs.Symbols.{is_local}
 
--- the construct that was found, and the identifier
+-- the declaration group that was found, and the identifier
 abbrev pub IsDeclarer : Rows → ℕ → Option DeclGroup → Type 0
 IsDeclarer rows first o = o ≡ find (λ (by : DeclGroup). by.first == first) rows.decl_groups
 

@@ -1,4 +1,4 @@
--- What is declared has the range of its construct.
+-- A declaration that has a symbol has the range of its construct.
 use Rattle.std.proofs.Common.{◌≡◌, ℕ, ◌-◌, ◌==◌, List, [], ◌∷◌, length, Bool, true, false, cond, Option, Some, None, refl, sym, ap, ◌∙◌, subst, arith}
 use Rattle.std.specs.Prelude.{ℤ, pos, slice_get, position, not, Contains}
 use Rattle.std.specs.Option.{option_and_then, option_map_or}
@@ -12,11 +12,12 @@ use Rattle.ob_scan.specs.Texts.{token_at}
 use Rattle.ob_targets.specs.declared.target.Reference.{Reference}
 use Rattle.ob_targets.specs.declared.target.Target.{Target}
 use Rattle.ob_targets.specs.declared.target.Target.TheVariants as targets
-use Rattle.ob_targets.specs.Refers.{AreReferences, Refers, module_name_token as at_own_name, item, declaration, end, used, selected, second, nowhere}
+use Rattle.ob_targets.specs.Refers.{AreReferences, Refers, own_name as at_own_name, item, declaration, end, used, selected, second, nowhere}
 use Rattle.ob_targets.specs.Targets.{holds_value, use_role, value_role}
 use Rattle.ob_types.specs.World.{World, declared_at, decl_group_from, decl_group_of, decl_kind_of, imported_kind, text}
 use Rattle.scip_symbol.specs.SymbolTexts.{SymbolModel}
-use Rattle.ob_emit.specs.Documents.{column_of, construct_range, enclosing_range, line_number, range_by, span_of}
+use Rattle.ob_emit.specs.Documents.{column_of, construct_range, enclosing_range, line_number, span_of}
+use Rattle.scip_index.specs.Ranges.{range_between}
 use Rattle.ob_emit.specs.Symbols.{PathStep, declared_symbol, declared_step, declared_steps, symbol_of}
 use Rattle.ob_emit.proofs.OnePath.{has_step, HasStep}
 use Rattle.ob_emit.proofs.OneSymbol.{SymbolBy, within, outside, HasSymbol, has_symbol}
@@ -27,7 +28,7 @@ by_lines : (b : Bool) (x y : ℤ) (xs ys : List ℤ) → cond b (x ∷ xs) (y �
 by_lines true x y xs ys e = let f : x ∷ xs ≡ [] = e in cc
 by_lines false x y xs ys e = let f : y ∷ ys ≡ [] = e in cc
 
-some_range : (line column last until : ℕ) → range_by line column last until ≡ [] → ⊥
+some_range : (line column last until : ℕ) → range_between line column last until ≡ [] → ⊥
 some_range line column last until e = by_lines (line == last) (pos line) (pos line) (pos column ∷ pos until ∷ []) (pos column ∷ pos last ∷ pos until ∷ []) e
 
 some_span : (w : World) (first last : ℕ) → span_of w first last ≡ [] → ⊥
@@ -36,7 +37,7 @@ some_span w first last e =
     let b = token_at w.tokens last in
     some_range (line_number w.bytes a.start) (column_of w.bytes a.start) (line_number w.bytes b.end) (column_of w.bytes b.end) e
 
--- ---- what has a symbol is declared by a construct
+---- a declaration that has a symbol has a declaration group
 
 record HasDeclarer (w : World) (k : ℕ) : Type 0 where
   by : DeclGroup
@@ -69,7 +70,7 @@ module _ (w : World) where
       let h : HasSymbol w p k s = has_symbol w p k s e in
       by_symbol p k h.at h.row s (by_row k h.at h.row h.placed h.there) h.number h.has
 
-  -- ---- who declares
+  ---- the declaration groups
 
   value_one : (s : Option DeclKind) (written : Bool) → value_role s written ≡ 1 → ⊥
   value_one None written e = absurd (omega (arith, e))

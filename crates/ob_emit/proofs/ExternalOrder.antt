@@ -1,4 +1,4 @@
--- Rows that are sorted by the texts of their symbols and of which each is kept once.
+-- Symbol information that is sorted by symbol string, each symbol once.
 use Rattle.std.proofs.Common.{◌≡◌, ℕ, Bool, List, [], ◌∷◌, map, sym, ◌∙◌, subst}
 use Rattle.std.specs.Prelude.{Contains, IsPermutation}
 use Rattle.std.specs.Cmp.{IsTotalOrder, IsEquivalence}
@@ -15,7 +15,7 @@ use Rattle.std.proofs.lemmas.List.Kept.{IsStrictlySortedBy-dedup, Any-dedup, Con
 use Rattle.std.proofs.lemmas.List.Sorted.{IsPermutation-sym, Contains-permutation}
 use Rattle.std.proofs.lemmas.Map.Text.{is_eq-slice_cmp}
 use Rattle.std.proofs.lemmas.Slice.Eq.{bytes_eq-Decides}
-use Rattle.ob_scope.proofs.Elements.{contains_of, of_contains, slice_contains, contains_slice}
+use Rattle.module_table.proofs.Elements.{contains_of, of_contains, slice_contains, contains_slice}
 use Rattle.scip_index.specs.declared.index.SymbolInfo.{SymbolInfo}
 use Rattle.scip_index.specs.Plain.{symbol_model, SymbolModel as SymbolRow}
 use Rattle.ob_emit.specs.Externals.{AreExternalRows, AreExternals}
@@ -48,7 +48,7 @@ unfolding IsStrictlySortedBy
 sorted_texts [] h = tt
 sorted_texts (x ∷ xs) h = (all_texts x xs h.0, sorted_texts xs h.1)
 
--- a row stands in a list as its plain form
+-- an element of the list, as its model
 plain_there : (rows : List SymbolInfo) (x : SymbolInfo) → Contains rows x → Contains (map symbol_model rows) (symbol_model x)
 plain_there rows x h = let at = slice_contains rows x h in contains_of symbol_model rows at.0 x at.1
 
@@ -81,6 +81,6 @@ module _ (old sorted new : List SymbolInfo) (outside : AreExternalRows (map symb
     each = λ x. (only x, all x);
   }
 
--- what rows are stays, in order too
+-- the elements stay the same when they are sorted
 pub rows_stay : (old new : List SymbolRow) → AreExternals old new → AreExternalRows old → AreExternalRows new
 rows_stay old new e h x there = h x ((e.each x).0 there)

@@ -1,4 +1,4 @@
--- The symbols that are declared outside of a tree: their texts tell them apart.
+-- The symbols of names outside of a tree: their symbol strings distinguish them.
 use Rattle.std.proofs.Common.{◌≡◌, ℕ, List, [], ◌∷◌, ◌++◌, Option, Some, None, refl, sym, ap, ◌∙◌, subst, inl, inr}
 use Rattle.std.specs.Prelude.{slice_get}
 use Rattle.std.specs.Option.{option_map, option_and_then, is_none}
@@ -12,7 +12,7 @@ use Rattle.ob_targets.specs.declared.target.Reference.{Reference}
 use Rattle.ob_targets.specs.declared.target.Target.{Target}
 use Rattle.ob_targets.specs.declared.target.Target.TheVariants as targets
 use Rattle.ob_types.specs.World.{World, module_of_item, text}
-use Rattle.ob_scope.proofs.Elements.{contains_slice, slice_contains, some_one}
+use Rattle.module_table.proofs.Elements.{contains_slice, slice_contains, some_one}
 use Rattle.ob_emit.specs.Externals.{AreExternalRows, IsExternalRow, external_module, external_row, externals_in, of_module, of_name, symbol_info}
 use Rattle.ob_emit.specs.Named.{NamesAreIdentifiers, ReferencesAreIdentifiers, IsName}
 use Rattle.ob_emit.specs.Symbols.{descriptor, global, module_path, package_of}
@@ -29,7 +29,7 @@ last_name : SymbolModel → List ℕ
 last_name (Local id) = []
 last_name (Global s m p v ds) = last_of [] ds
 
--- a row is that of a symbol that has a text, with the symbol's last name
+-- the symbol information has a symbol with a symbol string, and the last name of the symbol
 record HasSymbol (x : SymbolRow) : Type 0 where
   of_symbol : SymbolModel
   is : x ≡ symbol_info (last_name of_symbol) of_symbol
@@ -42,7 +42,7 @@ has_symbol (of_name n name e f) =
     let ds = module_path n ++ descriptor Term name ∷ [] in
     record { of_symbol = global [] ds; is = refl; written = global_text [] ds refl (λ none. absurd cc) (external_named n name e f) }
 
--- rows of one symbol are one
+-- symbol information with one symbol is equal
 pub one_row : (x y : SymbolRow) → IsExternalRow x → IsExternalRow y → x.symbol ≡ y.symbol → x ≡ y
 one_row x y i j e =
     let s = has_symbol i in
@@ -51,7 +51,7 @@ one_row x y i j e =
     let same : s.of_symbol ≡ t.of_symbol = texts_apart s.of_symbol t.of_symbol s.written t.written f in
     s.is ∙ (ap (λ (u : SymbolModel). symbol_info (last_name u) u) same ∙ sym t.is)
 
--- ---- the rows of a module are such rows
+---- the external symbols of a module
 
 module _ (w : World) (named : NamesAreIdentifiers w) where
   name_row : (item name : ℕ) (x : SymbolRow) (o : Option Import) → IsName (text w name) → slice_get w.rows.imports item ≡ o

@@ -1,4 +1,4 @@
--- Texts by what they stand for, one more.
+-- Stored symbol strings by target, one more.
 use Rattle.std.proofs.Common.{◌≡◌, ◌<◌, ◌++◌, ◌∷◌, [], ℕ, List, length, Bool, true, false, cond, Option, None, Some, String, Global, inl, inr, refl, sym, ap, subst, ◌∙◌, eqb-true, arith}
 use Rattle.std.specs.Prelude.{nat_eq, slice_get, ◌&&◌}
 use Rattle.std.proofs.lemmas.Bool.{cases_lt}
@@ -13,7 +13,7 @@ use Rattle.indexmap.specs.IndexMap.{get, IndexMap}
 use Rattle.ob_types.specs.World.{World}
 use Rattle.ob_emit.specs.declared.imported_cache.ImportedText.{ImportedText}
 use Rattle.scip_symbol.specs.SymbolTexts.{canonical_text}
-use Rattle.ob_emit.specs.StoredTexts.{is_same_name_key, named_symbol, AreExternal, AreImported, AreTextsByKey, AreModules, NameKey}
+use Rattle.ob_emit.specs.StoredTexts.{is_same_name_key, named_symbol, AreExternalTexts, AreImportedTexts, AreTextsByKey, AreModuleTexts, NameKey}
 use Rattle.ob_emit.specs.Symbols.{imported_symbol, module_symbol}
 
 module _ {K S : Type 0} (same : K → K → Bool) (text_of : K → Option (List ℕ)) (one : (a b : K) → same a b ≡ true → text_of a ≡ text_of b) (old new : IndexMap K (Option (String Global)) S) (k : K) (v : Option (String Global)) where
@@ -27,18 +27,18 @@ module _ {K S : Type 0} (same : K → K → Bool) (text_of : K → Option (List 
           let t : v ≡ text = cc in
           ap (option_map string_bytes) (sym t) ∙ is ∙ one k q s
 
--- keys that are one have one text
+-- equal keys have one symbol string
 both_true : (a b : Bool) → a && b ≡ true → (a ≡ true) × (b ≡ true)
 both_true true true e = (refl, refl)
 both_true true false e = absurd cc
 both_true false b e = absurd cc
 
--- texts of what other modules declare, one more
+-- one more symbol string of a declaration of another module
 module _ (w : World) (p : List ℕ) (texts : List ImportedText) where
-  pub imported_none : texts ≡ [] → AreImported w p texts
+  pub imported_none : texts ≡ [] → AreImportedTexts w p texts
   imported_none is slot row at = absurd (let e : None ≡ Some row = sym (ap (λ (rows : List ImportedText). slice_get rows slot) is) ∙ at in cc)
 
-  pub imported_more : (one : ImportedText) → AreImported w p texts → option_map string_bytes one.text ≡ option_map canonical_text (imported_symbol w p one.reached one.declaration) → AreImported w p (texts ++ one ∷ [])
+  pub imported_more : (one : ImportedText) → AreImportedTexts w p texts → option_map string_bytes one.text ≡ option_map canonical_text (imported_symbol w p one.reached one.declaration) → AreImportedTexts w p (texts ++ one ∷ [])
   imported_more one are is slot row at = elim (cases_lt slot (length texts)) [
     | inl below ↦ are slot row (sym (get_front texts one slot below) ∙ at)
     | inr above ↦ (
@@ -49,12 +49,12 @@ module _ (w : World) (p : List ℕ) (texts : List ImportedText) where
         subst (λ (r : ImportedText). option_map string_bytes r.text ≡ option_map canonical_text (imported_symbol w p r.reached r.declaration)) same is)
   ]
 
--- modules' texts, one more
-pub modules_none : (w : World) (p : List ℕ) → AreModules w p []
+-- one more symbol string of a module
+pub modules_none : (w : World) (p : List ℕ) → AreModuleTexts w p []
 modules_none w p item text at = absurd (let e : None ≡ Some text = at in cc)
 
-pub modules_more : (w : World) (p : List ℕ) (texts : List (Option (String Global))) (v : Option (String Global)) → AreModules w p texts → option_map string_bytes v ≡ option_map canonical_text (module_symbol w p (length texts))
-    → AreModules w p (texts ++ v ∷ [])
+pub modules_more : (w : World) (p : List ℕ) (texts : List (Option (String Global))) (v : Option (String Global)) → AreModuleTexts w p texts → option_map string_bytes v ≡ option_map canonical_text (module_symbol w p (length texts))
+    → AreModuleTexts w p (texts ++ v ∷ [])
 modules_more w p texts v are is item text at = elim (cases_lt item (length texts)) [
   | inl below ↦ are item text (sym (get_front texts v item below) ∙ at)
   | inr above ↦ (
@@ -72,6 +72,6 @@ module _ {S : Type 0} (w : World) (old new : IndexMap NameKey (Option (String Gl
       ap (λ (n : ℕ). option_map canonical_text (named_symbol w n a.1.now)) (eqb-true a.0 b.0 both.0)
       ∙ ap (λ (name : List ℕ). option_map canonical_text (named_symbol w b.0 name)) ((bytes_eq-Decides a.1.now b.1.now).0 both.1)
 
-  pub names_more : AreExternal w old → ((q : NameKey) → get is_same_name_key new q ≡ cond (is_same_name_key key q) (Some v) (get is_same_name_key old q)) → option_map string_bytes v ≡ option_map canonical_text (named_symbol w key.0 key.1.now)
-      → AreExternal w new
+  pub names_more : AreExternalTexts w old → ((q : NameKey) → get is_same_name_key new q ≡ cond (is_same_name_key key q) (Some v) (get is_same_name_key old q)) → option_map string_bytes v ≡ option_map canonical_text (named_symbol w key.0 key.1.now)
+      → AreExternalTexts w new
   names_more = kept_more is_same_name_key (λ (k : NameKey). option_map canonical_text (named_symbol w k.0 k.1.now)) one_name old new key v

@@ -3,7 +3,6 @@ pub mod DefinedRanges
 pub mod ExternalOrder
 pub mod ExternalTexts
 pub mod FirstUses
-pub mod InPlace
 pub mod KeptTexts
 pub mod NamesGiven
 pub mod Naming
@@ -22,7 +21,6 @@ pub mod SeenOrder
 pub mod SeenOwners
 pub mod SeenPaths
 pub mod SeenSymbols
-pub mod ShortUses
 pub mod SomeSymbol
 pub mod SomeTargets
 pub mod SymbolsTexted

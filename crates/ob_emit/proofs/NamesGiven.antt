@@ -1,4 +1,4 @@
--- What has names, by scopes and by what a text spells.
+-- Names are identifiers, by the scopes and by the tokens of the source.
 use Rattle.std.proofs.Common.{◌≡◌, ℕ, zero, suc, ◌+◌, ◌-◌, List, [], ◌∷◌, map, take, drop, Option, Some, None, Bool, true, false, refl, sym, ap, ◌∙◌, subst, inl, inr, arith}
 use Rattle.std.specs.Prelude.{Contains, slice_get, ◌==◌, find}
 use Rattle.std.specs.List.{cons_option, enumerate_from, filter_map}
@@ -16,14 +16,14 @@ use Rattle.module_table.specs.declared.rows.Declared.{Declared}
 use Rattle.module_table.specs.declared.rows.DeclGroup.{DeclGroup}
 use Rattle.module_table.specs.Parts.{Rows}
 use Rattle.ob_interface.specs.Interfaces.{declaration, declaration_by, declaration_of, interface_of, is_module_level, is_exportable, module_level_by, Declaration}
-use Rattle.ob_scope.specs.Identified.{AreNames}
-use Rattle.ob_scope.specs.Members.{decl_group_at, declared_member, members_of}
-use Rattle.ob_scope.proofs.Elements.{contains_of, contains_slice, slice_contains, some_one}
+use Rattle.scopes.specs.IdentifierNames.{AreNames}
+use Rattle.scopes.specs.Members.{decl_group_at, declared_member, members_of}
+use Rattle.module_table.proofs.Elements.{contains_of, contains_slice, slice_contains, some_one}
 use Rattle.ob_targets.specs.declared.target.Reference.{Reference}
 use Rattle.ob_targets.specs.declared.target.Target.{Target}
 use Rattle.ob_targets.specs.declared.target.Target.TheVariants as targets
-use Rattle.ob_targets.specs.Refers.{identifiers, is_identifier, identifier_number, AreReferences, Refers, module_name_token, item, declaration as declares, end, used, selected, second, nowhere}
-use Rattle.ob_targets.specs.declared.known.DesignatorType.{DesignatorType}
+use Rattle.ob_targets.specs.Refers.{identifiers, is_identifier, identifier_number, AreReferences, Refers, own_name, item, declaration as declares, end, used, selected, second, nowhere}
+use Rattle.ob_targets.specs.declared.designator_type.DesignatorType.{DesignatorType}
 use Rattle.ob_targets.specs.Predeclared.{is_predeclared}
 use Rattle.ob_types.specs.declared.nodes.Field.{Field}
 use Rattle.ob_types.specs.declared.nodes.Field.TheVariants as fields
@@ -33,9 +33,9 @@ use Rattle.ob_types.specs.World.{World, exported as exported_place, module_of_it
 use Rattle.ob_emit.specs.Named.{ReferencesAreIdentifiers, IsName, HasNames}
 use Rattle.ob_emit.proofs.Naming.{found_there, same_declarer, told_there}
 
--- ---- what rows stand for
+---- the declarations of entries
 
--- the row that stands for this
+-- the entry of a declaration
 pub record RowOf {X Y : Type 0} (f : X → Option Y) (xs : List X) (y : Y) : Type 0 where
   pub place : ℕ
   pub row : X
@@ -55,7 +55,7 @@ pub row_of : {X Y : Type 0} (f : X → Option Y) (xs : List X) (y : Y) (k : ℕ)
 row_of f [] y k h = absurd (let none : None ≡ Some y = h in cc)
 row_of f (x ∷ xs) y k h = row_step f x xs y k (f x) refl (λ j g. row_of f xs y j g) h
 
--- ---- what others see of a module
+---- the interface of a module
 
 find_there : {X : Type 0} (test : X → Bool) (xs : List X) (i : ℕ) (x : X) → slice_get xs i ≡ Some x → test x ≡ true → (y : X) × (find test xs ≡ Some y)
 find_there test [] i x e t = absurd (let none : None ≡ Some x = e in cc)
@@ -66,7 +66,7 @@ find_there test (z ∷ zs) (suc i) x e t = elim (cases_Bool (test z)) [
 ]
 
 module _ (bytes : List ℕ) (ts : List Token) (rows : Rows) (names : AreNames (text_at bytes ts) rows) where
-  -- an identifier whose construct stands in the module's block has a name
+  -- an identifier that is declared in the module's block has a valid name
   outer_name : (r : Declared) (i : ℕ) (by : DeclGroup) → slice_get rows.declared i ≡ Some r → module_level_by rows.decl_groups r.declared_by ≡ Some by → IsName (text_at bytes ts r.number)
   outer_name r i by at e =
       let f = found_there (is_module_level r.declared_by) rows.decl_groups by e in
@@ -134,7 +134,7 @@ module _ (bytes : List ℕ) (ts : List Token) (spells : Spells bytes ts) where
       let same : r.place ≡ k = (let a : r.row.0 ≡ 0 + r.place = n.0 in let b : r.row.0 ≡ k = t.0 in omega arith) in
       token_name k r.row.1 (subst (λ (j : ℕ). slice_get ts j ≡ Some r.row.1) same n.1) t.1
 
--- what stands for a name of an external module is that name
+-- a token that denotes a name of an external module has a valid name
 module _ (w : World) (v n : ℕ) where
   export_named : (at k : ℕ) (o : Option ℕ) → module_of_item w at ≡ o → exported_target w at k ≡ targets.External v n → k ≡ n
   export_named at k None e f = (let g : targets.External at k ≡ targets.External v n = rw (e, exported_target) at f in cc)
@@ -179,7 +179,7 @@ module _ (w : World) (v n : ℕ) where
   selected_named k unknown e = absurd (let c : targets.Unresolved ≡ targets.External v n = e in cc)
 
   external_named : (k : ℕ) {t : Target} {role : ℕ} → Refers w k t role → t ≡ targets.External v n → k ≡ n
-  external_named k (module_name_token s) e = absurd (let c : targets.Own ≡ targets.External v n = e in cc)
+  external_named k (own_name s) e = absurd (let c : targets.Own ≡ targets.External v n = e in cc)
   external_named k (item {at} s) e = absurd (let c : targets.«Module» at ≡ targets.External v n = e in cc)
   external_named k (declares s) e = absurd (let c : targets.Declared k ≡ targets.External v n = e in cc)
   external_named k (end {e = x} s there) e = absurd (end_not x.of e)

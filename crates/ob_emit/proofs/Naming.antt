@@ -1,4 +1,4 @@
--- What is declared has a name, here and in the modules that are reached.
+-- Declarations have valid names, in the module and in the modules that it reaches.
 use Rattle.std.proofs.Common.{◌≡◌, ℕ, zero, suc, List, [], ◌∷◌, Option, Some, None, Bool, true, refl, sym, ap, ◌∙◌, subst, inl, inr}
 use Rattle.std.specs.Prelude.{slice_get, ◌==◌, find, nat_lt}
 use Rattle.std.specs.Option.{option_and_then, option_map}
@@ -11,8 +11,8 @@ use Rattle.module_table.specs.declared.rows.DeclGroup.{DeclGroup}
 use Rattle.module_table.specs.declared.rows.Import.{Import}
 use Rattle.module_table.specs.Tables.{module_name_token}
 use Rattle.ob_scan.specs.Texts.{text_at}
-use Rattle.ob_scope.specs.Members.{decl_group_at, declared_member, members_of}
-use Rattle.ob_scope.proofs.Elements.{contains_slice, some_one}
+use Rattle.scopes.specs.Members.{decl_group_at, declared_member, members_of}
+use Rattle.module_table.proofs.Elements.{contains_slice, some_one}
 use Rattle.ob_scope.proofs.Names.{same_test}
 use Rattle.ob_types.specs.World.{World, declared_at, decl_group_from, decl_group_of, text}
 use Rattle.ob_types.specs.World.{owner_at}
@@ -24,13 +24,13 @@ use Rattle.scip_symbol.specs.declared.kind.DescriptorKind.TheVariants.{Term}
 use Rattle.scip_symbol.specs.SymbolTexts.{DescriptorModel}
 use Rattle.ob_emit.specs.StoredTexts.{AreStepNames}
 use Rattle.ob_emit.specs.Named.{NamesAreIdentifiers, IsName, HasNames}
-use Rattle.ob_emit.specs.Symbols.{PathStep, descriptor, step_in_block, step_in_record, kind_of, declared_step, declared_step_by, declared_steps, step_by, interface_step, interface_steps}
+use Rattle.ob_emit.specs.Symbols.{PathStep, descriptor, step_in_block, step_in_record, descriptor_kind, declared_step, declared_step_by, declared_steps, step_by, interface_step, interface_steps}
 
--- names are texts
+-- names are valid UTF-8
 pub name_is_text : (bytes : List ℕ) → IsName bytes → IsUtf8 bytes
 name_is_text bytes e = names.name_is_text bytes (sym (same_test bytes) ∙ e)
 
--- what was found stands there, and fits
+-- the index that was found is in the list, and fits
 pub found_there : {X : Type 0} (test : X → Bool) (xs : List X) (x : X) → find test xs ≡ Some x → (i : ℕ) × (slice_get xs i ≡ Some x) × (test x ≡ true)
 found_there test [] x e = absurd (cc)
 found_there test (y ∷ ys) x e = elim (cases_Bool (test y)) [
@@ -45,7 +45,7 @@ same_declarer (by ∷ rest) k = elim (cases_Bool (by.first == k)) [
   | inr f ↦ rw f (same_declarer rest k)
 ]
 
--- what a row stands for, where it stands for something
+-- the declaration of an entry, if it has one
 at_front : {Y : Type 0} (o : Option Y) (ys : List Y) (j : ℕ) (y : Y) → slice_get ys j ≡ Some y → (k : ℕ) × (slice_get (cons_option o ys) k ≡ Some y)
 at_front None ys j y e = (j, e)
 at_front (Some z) ys j y e = (suc j, e)
@@ -55,7 +55,7 @@ told_there f [] i x y e g = absurd (let none : None ≡ Some x = e in cc)
 told_there f (z ∷ zs) zero x y e g = let h : f z ≡ Some y = ap f (some_one z x e) ∙ g in (0, rw h refl)
 told_there f (z ∷ zs) (suc i) x y e g = let r = told_there f zs i x y e g in at_front (f z) (filter_map f zs) r.0 y r.1
 
--- the row of an identifier, by the number that was looked up
+-- the entry of an identifier, by the number that was looked up
 row_there : (w : World) (k : ℕ) (d : Declared) → declared_at w k ≡ Some d → (i : ℕ) × (slice_get w.rows.declared i ≡ Some d) × (d.number ≡ k)
 unfolding declared_at
 row_there w k d e = let r = found_there (λ (x : Declared). x.number == k) w.rows.declared d e in (r.0, r.1, eqb-true d.number k r.2)
@@ -75,7 +75,7 @@ module _ (w : World) (named : NamesAreIdentifiers w) where
   by_row k None by e f = absurd (let none : None ≡ Some by = f in cc)
   by_row k (Some d) by e f = declared_name k d by e f
 
-  -- what is declared has a name
+  -- a declaration has a valid name
   pub declarer_name : (k : ℕ) (by : DeclGroup) → decl_group_of w k ≡ Some by → IsName (text w k)
   unfolding decl_group_of
   declarer_name k by e = by_row k (declared_at w k) by refl e
@@ -99,7 +99,7 @@ in_kind name None s e = absurd (let none : None ≡ Some s = e in cc)
 in_kind name (Some k) s e = subst (IsStepOf name) (some_one (record { own = descriptor k name; owner = None }) s e) refl
 
 in_block : (decl_kind : DeclKind) (name : List ℕ) (s : PathStep) → step_in_block decl_kind name ≡ Some s → IsStepOf name s
-in_block decl_kind name s e = in_kind name (kind_of decl_kind) s e
+in_block decl_kind name s e = in_kind name (descriptor_kind decl_kind) s e
 
 in_record : (k : ℕ) (name : List ℕ) (o : Option ℕ) (s : PathStep) → step_in_record k name o ≡ Some s → IsStepOf name s
 in_record k name None s e = absurd (let none : None ≡ Some s = e in cc)

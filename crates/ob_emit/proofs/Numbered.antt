@@ -1,4 +1,4 @@
--- Rows by their numbers, where these ascend: the first row of a number is the only one.
+-- Entries with increasing numbers: the first entry with a number is the only one.
 use Rattle.std.proofs.Common.{◌≡◌, ℕ, zero, suc, ◌<◌, inl, inr, List, [], ◌∷◌, length, Option, Some, None, refl, sym, ap, ◌∙◌, arith}
 use Rattle.std.specs.Prelude.{slice_get, ◌==◌, find, Contains, IfSome, IfNone}
 use Rattle.std.specs.Borrow.{Bor}
@@ -7,7 +7,7 @@ use Rattle.std.specs.List.{position, position_or_len}
 use Rattle.std.proofs.lemmas.Option.{slice_get_within}
 use Rattle.std.proofs.lemmas.Bool.{cases_Bool, eq-eqb, eqb-true, lt-ltb, le-ltb}
 use Rattle.module_table.specs.Order.{IsIncreasingBy, HasNoneBy, IsIndexBy}
-use Rattle.ob_scope.proofs.Elements.{some_one, slice_contains}
+use Rattle.module_table.proofs.Elements.{some_one, slice_contains}
 
 module _ {X : Type 0} (n : X → ℕ) where
   ascend_tail : (x : X) (xs : List X) → IsIncreasingBy n (x ∷ xs) → IsIncreasingBy n xs
@@ -64,13 +64,13 @@ module _ {X : Type 0} (n : X → ℕ) where
   pub position_nowhere : (xs : List X) (k : ℕ) → HasNoneBy n xs k → position (λ y. n y == k) xs ≡ None
   position_nowhere xs k none = rw (no_place xs k none, le-ltb (length xs) (length xs) (omega arith)) refl
 
-  -- what a look-up by the number answers
+  -- what a look-up by the number returns
   pub find_answer : (xs : List X) (k : ℕ) (o : Option (Bor X)) → IsIncreasingBy n xs → IfSome o (λ r. Contains xs r.now) → IfSome o (λ r. n r.now ≡ k)
       → IfNone o ((x : X) → Contains xs x → n x ≡ k → ⊥) → option_copied o ≡ find (λ y. n y == k) xs
   find_answer xs k None up found number none = sym (find_nowhere xs k none)
   find_answer xs k (Some r) up found number none = sym (find_among xs k r.now up found number)
 
-  -- what a search by the number answers
+  -- what a search by the number returns
   pub position_answer : (xs : List X) (k : ℕ) (o : Option ℕ) → IsIncreasingBy n xs → IfSome o (IsIndexBy n xs k) → IfNone o (HasNoneBy n xs k) → o ≡ position (λ y. n y == k) xs
   position_answer xs k None up found none = sym (position_nowhere xs k none)
   position_answer xs k (Some i) up found none = sym (position_there xs i k up found)

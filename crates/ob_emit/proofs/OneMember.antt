@@ -1,4 +1,4 @@
--- A module declares a name in one place once.
+-- A module declares a name in one scope once.
 use Rattle.std.proofs.Common.{◌≡◌, ℕ, zero, suc, ◌⊎◌, inl, inr, ◌==◌, List, [], ◌∷◌, Bool, true, false, cond, Option, Some, None, refl, sym, ap, ◌∙◌, subst, arith, eqb-true}
 use Rattle.std.specs.Prelude.{slice_get, find, Contains}
 use Rattle.std.specs.List.{cons_option, filter_map}
@@ -8,9 +8,9 @@ use Rattle.std.proofs.lemmas.Option.{slice_get-get_or}
 use Rattle.module_table.specs.declared.rows.Declared.{Declared}
 use Rattle.module_table.specs.declared.rows.DeclGroup.{DeclGroup}
 use Rattle.module_table.specs.declared.rows.Record.{Record as RecordRow}
-use Rattle.ob_scope.specs.declared.members.Member.{Member}
-use Rattle.ob_scope.specs.Members.{decl_group_at, declared_member, members_of, scope_of}
-use Rattle.ob_scope.specs.Scope.{HasNoDuplicates}
+use Rattle.scopes.specs.declared.members.Member.{Member}
+use Rattle.scopes.specs.Members.{decl_group_at, declared_member, members_of, group_scope}
+use Rattle.scopes.specs.Scope.{HasNoDuplicates}
 use Rattle.ob_types.specs.World.{World, declared_at, decl_group_from, decl_group_of, owner_at, record_at}
 
 pub in_head : {X : Type 0} (x : X) (xs : List X) → Contains (x ∷ xs) x
@@ -23,7 +23,7 @@ head_or_tail : {X : Type 0} (y : X) (xs : List X) (x : X) → Contains (y ∷ xs
 head_or_tail y xs x (zero, l, e) = inl e
 head_or_tail y xs x (suc k, l, e) = inr (k, omega arith, e)
 
--- what is found is there and passes
+-- the element that is found is in the list and passes the test
 pub record IsFoundBy {X : Type 0} (test : X → Bool) (xs : List X) (x : X) : Type 0 where
   pub among : Contains xs x
   pub passes : test x ≡ true
@@ -40,7 +40,7 @@ pub found : {X : Type 0} (test : X → Bool) (xs : List X) (x : X) → find test
 found test [] x e = absurd (let f : None ≡ Some x = e in cc)
 found test (y ∷ ys) x e = found_step test y ys x (test y) refl (λ f. found test ys x f) e
 
--- what is made of an element is among what is made of all
+-- the image of an element is among the images of all
 stored_text : {X Y : Type 0} (h : X → Option Y) (x : X) (rest : List Y) (o : Option Y) (y : Y) → Contains rest y → Contains (cons_option o rest) y
 stored_text h x rest None y c = c
 stored_text h x rest (Some z) y c = in_tail z rest y c
@@ -59,7 +59,7 @@ declarer_is : (xs : List DeclGroup) (k : ℕ) → decl_group_at xs k ≡ find (�
 declarer_is [] k = refl
 declarer_is (x ∷ xs) k = ap (λ (o : Option DeclGroup). cond (x.first == k) (Some x) o) (declarer_is xs k)
 
--- one name in one place is of one member
+-- one name in one scope is declared by one member
 pub member_once : (name : ℕ → List ℕ) (ds : List Member) (f g : Member) → HasNoDuplicates name ds → Contains ds f → Contains ds g → f.place ≡ g.place → name f.number ≡ name g.number → f.number ≡ g.number
 member_once name ds f g once (i, l, a) (j, m, b) place named =
     let at_f : slice_get ds i ≡ Some f = slice_get-get_or ds i f l ∙ ap Some a in
@@ -76,11 +76,11 @@ member_once name ds f g once (i, l, a) (j, m, b) place named =
       ])
     ]
 
--- what a module declares with a token
+-- the member that a token declares
 pub record DeclaresBy (w : World) (k : ℕ) (by : DeclGroup) : Type 0 where
   pub row : Declared
   pub number : row.number ≡ k
-  pub among : Contains (members_of w.rows) (record { place = scope_of by; number = row.number; decl_kind = by.decl_kind })
+  pub among : Contains (members_of w.rows) (record { place = group_scope by; number = row.number; decl_kind = by.decl_kind })
 
 pub declares : (w : World) (k : ℕ) (by : DeclGroup) → decl_group_of w k ≡ Some by → DeclaresBy w k by
 unfolding decl_group_of decl_group_from declared_at
@@ -95,7 +95,7 @@ declares w k by e = by_row (find (λ (d : Declared). d.number == k) w.rows.decla
         record {
           row = d;
           number = eqb-true d.number k h.passes;
-          among = mapped (λ (x : Declared). declared_member x (decl_group_at w.rows.decl_groups x.declared_by)) w.rows.declared d (record { place = scope_of by; number = d.number; decl_kind = by.decl_kind }) h.among
+          among = mapped (λ (x : Declared). declared_member x (decl_group_at w.rows.decl_groups x.declared_by)) w.rows.declared d (record { place = group_scope by; number = d.number; decl_kind = by.decl_kind }) h.among
               (ap (declared_member d) by_it);
         }
 

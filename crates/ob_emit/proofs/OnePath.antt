@@ -1,11 +1,11 @@
--- A path leads to one declaration.
+-- A path belongs to one declaration.
 use Rattle.std.proofs.Common.{◌≡◌, ℕ, zero, suc, List, [], ◌∷◌, ◌++◌, Option, Some, None, refl, sym, ap, ◌∙◌}
 use Rattle.std.specs.Option.{option_map, option_map_or, option_and_then}
 use Rattle.scip_symbol.specs.SymbolTexts.{DescriptorModel}
 use Rattle.scip_symbol.specs.declared.kind.DescriptorKind.TheVariants.{Namespace}
 use Rattle.ob_emit.specs.Symbols.{PathStep, descriptor, module_path, path_within}
 
--- lists that end alike are alike before their ends
+-- lists with equal last parts are equal before these parts
 record EndAlike {X : Type 0} (xs ys : List X) (x y : X) : Type 0 where
   prefix : xs ≡ ys
   end : x ≡ y
@@ -27,11 +27,11 @@ end_alike (a ∷ xs) (b ∷ ys) x y e =
     record { prefix = cc; end = h.end }
 
 module _ (m : List ℕ) (steps : ℕ → Option PathStep) where
-  -- what stands above a step
+  -- the path above a step
   abbrev pub above : ℕ → Option ℕ → Option (List DescriptorModel)
   above n owner = option_map_or (path_within m steps n) owner (Some (module_path m))
 
-  -- a path has a step, and what stands above it
+  -- a path has a step, and the path above it
   pub record HasStep (n k : ℕ) (ds : List DescriptorModel) : Type 0 where
     pub step : PathStep
     pub there : steps k ≡ Some step
@@ -63,7 +63,7 @@ module _ (m : List ℕ) (steps : ℕ → Option PathStep) where
   unfolding path_within
   no_path k ds e = let f : None ≡ Some ds = e in cc
 
-  -- a path begins with its module, and has more
+  -- a path begins with its module, and has more descriptors
   pub record Begins (ds : List DescriptorModel) : Type 0 where
     pub rest : List DescriptorModel
     pub whole : ds ≡ descriptor Namespace m ∷ rest
@@ -80,7 +80,7 @@ module _ (m : List ℕ) (steps : ℕ → Option PathStep) where
       let b : Begins h.prefix = mutual_front n h.step.owner h.prefix (λ j xs f. begins n j xs f) h.up in
       record { rest = b.rest ++ h.step.own ∷ []; whole = h.whole ∙ ap (λ (xs : List DescriptorModel). xs ++ h.step.own ∷ []) b.whole }
 
-  -- so it isn't its module's
+  -- so it isn't the path of the module
   longer : (n k : ℕ) (ds : List DescriptorModel) → path_within m steps n k ≡ Some ds → module_path m ≡ ds → ⊥
   longer zero k ds e is = no_path k ds e
   longer (suc n) k ds e is =

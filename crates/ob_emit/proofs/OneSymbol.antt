@@ -1,4 +1,4 @@
--- A symbol is that of one declaration.
+-- A symbol is the symbol of one declaration.
 use Rattle.std.proofs.Common.{◌≡◌, ℕ, zero, suc, ◌+◌, ◌<◌, ◌≤◌, ◌^◌, ◌==◌, inl, inr, List, [], ◌∷◌, length, get_or, take, Bool, true, false, cond, Option, Some, None, refl, sym, ap, ◌∙◌, arith, eqb-true, length-take}
 use Rattle.std.specs.Prelude.{slice_get, position, count_by}
 use Rattle.std.specs.Fmt.{decimal}
@@ -12,22 +12,22 @@ use Rattle.std.specs.Str.Parse.{digits_value}
 use Rattle.module_table.specs.declared.rows.Declared.{Declared}
 use Rattle.module_table.specs.declared.rows.DeclGroup.{DeclGroup}
 use Rattle.module_table.specs.Tables.{module_name_token}
-use Rattle.ob_scope.specs.declared.members.Scope.{Scope}
-use Rattle.ob_scope.specs.declared.members.Scope.TheVariants.{Block, Record}
-use Rattle.ob_scope.specs.Members.{members_of, scope_of}
+use Rattle.scopes.specs.declared.members.Scope.{Scope}
+use Rattle.scopes.specs.declared.members.Scope.TheVariants.{Block, Record}
+use Rattle.scopes.specs.Members.{members_of, group_scope}
 use Rattle.ob_scan.specs.Texts.{text_at}
 use Rattle.ob_types.specs.World.{World, text, decl_group_of, owner_at}
 use Rattle.scip_symbol.specs.declared.kind.DescriptorKind.{DescriptorKind}
 use Rattle.scip_symbol.specs.declared.kind.DescriptorKind.TheVariants.{Namespace, Term}
 use Rattle.scip_symbol.specs.SymbolTexts.{DescriptorModel, SymbolModel, Local}
-use Rattle.ob_emit.specs.Apart.{DeclaresOnce, IsLocal}
-use Rattle.ob_emit.specs.Symbols.{PathStep, descriptor, declared_symbol, global, step_in_record, is_local, kind_of, declared_path, declared_step, declared_step_by, declared_steps, symbol_at}
+use Rattle.ob_emit.specs.DistinctSymbols.{DeclaresOnce, IsLocal}
+use Rattle.ob_emit.specs.Symbols.{PathStep, descriptor, declared_symbol, global, step_in_record, is_local, descriptor_kind, declared_path, declared_step, declared_step_by, declared_steps, symbol_at}
 use Rattle.ob_emit.proofs.OneMember.{declares, member_once, owns, DeclaresBy, Owns}
 use Rattle.ob_emit.proofs.OnePath.{begins, path_once, Begins}
 
 -- ---- steps of the module's own declarations
 
--- a step of the module's block, or of a record
+-- a step in the module's block, or in a record
 data StepsBy (w : World) (k : ℕ) (by : DeclGroup) (s : PathStep) : Type 0 where
   block : {kind : DescriptorKind} → by.of_record ≡ None → by.block ≡ 0 → s ≡ record { own = descriptor kind (text w k); owner = None } → StepsBy w k by s
   field : {r o : ℕ} → by.of_record ≡ Some r → owner_at w r ≡ Some o → s ≡ record { own = descriptor Term (text w k); owner = Some o } → StepsBy w k by s
@@ -61,7 +61,7 @@ module _ (w : World) (k : ℕ) (s : PathStep) where
   by_owner by r (Some o) is owner e = by_test by r o _ is owner e
 
   by_place : (by : DeclGroup) (v : Option ℕ) → by.of_record ≡ v → by.block ≡ 0 → declared_step_by w k by.decl_kind v ≡ Some s → StepsBy w k by s
-  by_place by None is foreign e = by_kind by (kind_of by.decl_kind) is foreign e
+  by_place by None is foreign e = by_kind by (descriptor_kind by.decl_kind) is foreign e
   by_place by (Some r) is foreign e = by_owner by r (owner_at w r) is refl e
 
   by_block : (by : DeclGroup) (b : Bool) → (by.block == 0) ≡ b → cond b (declared_step_by w k by.decl_kind by.of_record) None ≡ Some s → StepsBy w k by s
@@ -75,11 +75,11 @@ module _ (w : World) (k : ℕ) (s : PathStep) where
   has_step_by : declared_steps w k ≡ Some s → HasStepBy w k s
   has_step_by e = by_declarer (decl_group_of w k) refl e
 
--- ---- steps that are alike are of one declaration
+---- equal steps are steps of one declaration
 
 module _ (w : World) (once : DeclaresOnce w) where
-  -- members of one name in one place
-  in_one_place : (k j : ℕ) (a b : DeclGroup) → decl_group_of w k ≡ Some a → decl_group_of w j ≡ Some b → scope_of a ≡ scope_of b → text w k ≡ text w j → k ≡ j
+  -- members with one name in one scope
+  in_one_place : (k j : ℕ) (a b : DeclGroup) → decl_group_of w k ≡ Some a → decl_group_of w j ≡ Some b → group_scope a ≡ group_scope b → text w k ≡ text w j → k ≡ j
   unfolding text
   in_one_place k j a b at_k at_j place named =
       let f : DeclaresBy w k a = declares w k a at_k in
@@ -87,11 +87,11 @@ module _ (w : World) (once : DeclaresOnce w) where
       let same_text : text_at w.bytes w.tokens f.row.number ≡ text_at w.bytes w.tokens g.row.number =
       ap (text_at w.bytes w.tokens) f.number ∙ named ∙ ap (text_at w.bytes w.tokens) (sym g.number) in
       sym f.number
-      ∙ member_once (text_at w.bytes w.tokens) (members_of w.rows) (record { place = scope_of a; number = f.row.number; decl_kind = a.decl_kind }) (record { place = scope_of b; number = g.row.number; decl_kind = b.decl_kind })
+      ∙ member_once (text_at w.bytes w.tokens) (members_of w.rows) (record { place = group_scope a; number = f.row.number; decl_kind = a.decl_kind }) (record { place = group_scope b; number = g.row.number; decl_kind = b.decl_kind })
       once.once f.among g.among place same_text
       ∙ g.number
 
-  -- the place of a construct by its record
+  -- the scope of a declaration group, by its record
   place_by : DeclGroup → Option ℕ → Scope
   place_by a None = Block a.block
   place_by a (Some r) = Record r
@@ -101,7 +101,7 @@ module _ (w : World) (once : DeclaresOnce w) where
       let named : text w k ≡ text w j = ap (λ (v : DescriptorModel). v.name) (ap (λ (v : PathStep). v.own) (sym is) ∙ own ∙ ap (λ (v : PathStep). v.own) is_too) in
       in_one_place k j a b at_k at_j (block_place a none ∙ ap Block (foreign ∙ sym outer_too) ∙ sym (block_place b none_too)) named
     where
-      block_place : (c : DeclGroup) → c.of_record ≡ None → scope_of c ≡ Block c.block
+      block_place : (c : DeclGroup) → c.of_record ≡ None → group_scope c ≡ Block c.block
       block_place c e = rw e refl
   alike_by k j s t a b at_k at_j (block none foreign is) (field {o = o} r at_o is_too) own owner =
       absurd (let e : None ≡ Some o = ap (λ (v : PathStep). v.owner) (sym is) ∙ owner ∙ ap (λ (v : PathStep). v.owner) is_too in cc)
@@ -116,7 +116,7 @@ module _ (w : World) (once : DeclaresOnce w) where
       let same_record : r ≡ q = sym x.number ∙ once.owners x.row y.row x.among y.among (x.owner ∙ same_owner ∙ sym y.owner) ∙ y.number in
       in_one_place k j a b at_k at_j (record_place a r in_r ∙ ap Record same_record ∙ sym (record_place b q in_q)) named
     where
-      record_place : (c : DeclGroup) (r : ℕ) → c.of_record ≡ Some r → scope_of c ≡ Record r
+      record_place : (c : DeclGroup) (r : ℕ) → c.of_record ≡ Some r → group_scope c ≡ Record r
       record_place c r e = rw e refl
 
   alike : (k j : ℕ) (s t : PathStep) → declared_steps w k ≡ Some s → declared_steps w j ≡ Some t → s.own ≡ t.own → s.owner ≡ t.owner → k ≡ j
@@ -128,7 +128,7 @@ module _ (w : World) (once : DeclaresOnce w) where
   own_path_once : (k j : ℕ) (ds : List DescriptorModel) → declared_path w k ≡ Some ds → declared_path w j ≡ Some ds → k ≡ j
   own_path_once k j ds e f = path_once (text w module_name_token) (declared_steps w) alike (suc k) (suc j) k j ds e f
 
--- ---- numbers of locals
+---- numbers of local symbols
 
 count_more : {X : Type 0} (p : X → Bool) (xs : List X) (i j : ℕ) → i ≤ j → count_by p (take i xs) ≤ count_by p (take j xs)
 count_more p [] zero j l = omega arith

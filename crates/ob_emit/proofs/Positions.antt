@@ -7,7 +7,7 @@ use Rattle.std.proofs.lemmas.List.Sums.{count_by-le-length}
 use Rattle.ob_scan.specs.Position.{ends_line, IsPosition}
 use Rattle.ob_emit.specs.Documents.{column_of, line_number}
 
--- behind a line end the column is 0
+-- after a line end the column is 0
 column_first : (bytes : List ℕ) (first : ℕ) → (first ≡ 0) ⊎ ((last : ℕ) × (last + 1 ≡ first) × (ends_line bytes last ≡ true)) → column_of bytes first ≡ 0
 unfolding column_of
 column_first bytes first (inl e) = rw e refl
@@ -54,7 +54,7 @@ unfolding column_of
 column_within bytes zero = omega arith
 column_within bytes (suc offset) = one_further (ends_line bytes offset) (column_of bytes offset) offset (column_within bytes offset)
 
--- both stand within the offset, so that they fit where it does
+-- line and column are at most the offset, so they fit if it does
 pub line_fits : (bytes : List ℕ) (offset n line : ℕ) → line ≡ line_number bytes offset → offset ≤ length bytes → length bytes < n → line < n
 line_fits bytes offset n line e l h = omega (arith, line_within bytes offset)
 

@@ -1,4 +1,4 @@
--- The last of a list that passes a test, the first that does, and the only one.
+-- The last element of a list that passes a test, the first one, and the only one.
 use Rattle.std.proofs.Common.{◌≡◌, ℕ, zero, suc, ◌<◌, ◌≤◌, ◌-◌, inl, inr, List, [], ◌∷◌, length, map, Bool, true, Some, None, refl, sym, ap, ◌∙◌, arith}
 use Rattle.std.specs.Prelude.{slice_get, position, find, Contains, option_map}
 use Rattle.std.specs.List.{filter, position_or_len}
@@ -6,9 +6,9 @@ use Rattle.std.proofs.lemmas.Bool.{cases_Bool, lt-ltb}
 use Rattle.std.proofs.lemmas.List.{length-map}
 use Rattle.std.proofs.lemmas.Option.{slice_get_within, slice_get-map}
 use Rattle.module_table.specs.Order.{IsIncreasingBy}
-use Rattle.ob_scope.proofs.Elements.{slice_contains, some_one}
+use Rattle.module_table.proofs.Elements.{slice_contains, some_one}
 
--- what passes, at its place
+-- the element that passes, at its index
 pub record PassedAt {X : Type 0} (t : X → Bool) (xs : List X) (x : X) : Type 0 where
   pub place : ℕ
   pub at : slice_get xs place ≡ Some x
@@ -26,7 +26,7 @@ module _ {X : Type 0} (t : X → Bool) where
   last_behind x p [] e = absurd (let none : None ≡ Some p = e in cc)
   last_behind x p (y ∷ ys) e = let n : length (x ∷ y ∷ ys) - 1 ≡ suc (length (y ∷ ys) - 1) = omega arith in ap (slice_get (x ∷ y ∷ ys)) n ∙ e
 
-  -- of rows whose numbers ascend the last that passes has the greatest number
+  -- if numbers increase, the last element that passes has the greatest number
   pub last_passed : (n : X → ℕ) (xs : List X) (i : ℕ) (p : X) → IsIncreasingBy n xs → slice_get xs i ≡ Some p → t p ≡ true → ((q : X) → Contains xs q → t q ≡ true → n q ≤ n p)
       → slice_get (filter t xs) (length (filter t xs) - 1) ≡ Some p
   last_passed n [] i p up at is last = absurd (let none : None ≡ Some p = at in cc)
@@ -82,6 +82,6 @@ module _ {X : Type 0} (t : X → Bool) where
     | inr f ↦ rw f (find_only ys i x at is (λ z h e. only z (suc h.0, omega (arith, h.1), h.2) e))
   ]
 
--- what the last stands for
+-- the declaration of the last element
 pub last_map : {X Y : Type 0} (f : X → Y) (xs : List X) → slice_get (map f xs) (length (map f xs) - 1) ≡ option_map f (slice_get xs (length xs - 1))
 last_map f xs = ap (λ (n : ℕ). slice_get (map f xs) (n - 1)) (length-map xs f) ∙ slice_get-map f xs (length xs - 1)

@@ -1,18 +1,18 @@
--- What stands for something in rows whose numbers ascend: its place, its number, and which of two is first.
+-- The entries with a declaration in a list with increasing numbers: index, number, and order.
 use Rattle.std.proofs.Common.{◌≡◌, ℕ, zero, suc, ◌<◌, List, [], ◌∷◌, Option, Some, None, refl, ap, ◌∙◌, arith}
 use Rattle.std.specs.Prelude.{slice_get}
 use Rattle.std.specs.List.{cons_option, filter_map}
 use Rattle.std.specs.Option.{option_map}
 use Rattle.module_table.specs.Order.{IsIncreasingBy}
-use Rattle.ob_scope.proofs.Elements.{some_one}
+use Rattle.module_table.proofs.Elements.{some_one}
 
--- the place of what a row stands for, and there the row's number
+-- the index of the declaration of an entry, and the entry's number there
 pub record PlaceOf {Y : Type 0} (ys : List Y) (ks : List ℕ) (y : Y) (k : ℕ) : Type 0 where
   pub place : ℕ
   pub at : slice_get ys place ≡ Some y
   pub number : slice_get ks place ≡ Some k
 
--- a row with this number
+-- an entry with this number
 pub record RowOf {X : Type 0} (n : X → ℕ) (xs : List X) (k : ℕ) : Type 0 where
   pub place : ℕ
   pub row : X
@@ -61,7 +61,7 @@ module _ {X Y : Type 0} (f : X → Option Y) (n : X → ℕ) where
       omega arith
   ascend_step x xs (Some z) (suc i) (suc j) a b up rest l e g = rest i j (omega arith) e g
 
-  -- of two that are seen the first has the lesser number
+  -- of two declarations the first has the smaller number
   pub ascend : (xs : List X) → IsIncreasingBy n xs → (i j a b : ℕ) → i < j → slice_get (numbers xs) i ≡ Some a → slice_get (numbers xs) j ≡ Some b → a < b
   ascend [] up i j a b l e g = absurd (let none : None ≡ Some a = e in cc)
   ascend (x ∷ xs) up i j a b l e g =
@@ -73,7 +73,7 @@ module _ {X Y : Type 0} (f : X → Option Y) (n : X → ℕ) where
   number_step x (Some z) ys ks zero y rest e = (n x, refl)
   number_step x (Some z) ys ks (suc j) y rest e = rest j e
 
-  -- what stands for something has a number at its place
+  -- a declaration has a number at its index
   pub number_there : (xs : List X) (j : ℕ) (y : Y) → slice_get (filter_map f xs) j ≡ Some y → (k : ℕ) × (slice_get (numbers xs) j ≡ Some k)
   number_there [] j y e = absurd (let none : None ≡ Some y = e in cc)
   number_there (x ∷ xs) j y e = number_step x (f x) (filter_map f xs) (numbers xs) j y (λ i g. number_there xs i y g) e

@@ -1,4 +1,4 @@
--- Whose types the records of a module's block are is seen by other modules as it is in the module.
+-- The owner of a record of a module's block is the same in the interface as in the module.
 use Rattle.std.proofs.Common.{◌≡◌, ℕ, ◌<◌, ◌≤◌, ◌-◌, ◌==◌, length, true, false, Option, Some, None, refl, sym, ap, ◌∙◌, subst, arith, eqb-true}
 use Rattle.std.specs.Prelude.{slice_get, Contains, option_map}
 use Rattle.std.specs.List.{filter}
@@ -20,15 +20,15 @@ use Rattle.ob_interface.specs.Placed.{holds, is_record, owner_index}
 use Rattle.table_laws.specs.Owners.{has_type, EndsTypeExpr, IsFieldOf, IsOfRecord}
 use Rattle.table_laws.proofs.StandingModules.{behind_first, ends_form, has_owner, of_record}
 use Rattle.module_table.proofs.Around.{ascend_one}
-use Rattle.ob_scope.proofs.Elements.{contains_slice, slice_contains}
+use Rattle.module_table.proofs.Elements.{contains_slice, slice_contains}
 use Rattle.ob_types.specs.World.{World, owner_at}
-use Rattle.ob_emit.specs.Apart.{exported_tokens}
+use Rattle.ob_emit.specs.DistinctSymbols.{exported_tokens}
 use Rattle.ob_emit.proofs.SeenLists.{find_only, last_map, last_passed, passed, position_first, PassedAt}
 use Rattle.ob_emit.proofs.SeenOrder.{ascend, number_there, index_of, PlaceOf}
 use Rattle.ob_emit.proofs.SeenSymbols.{row_at, seen_by, RowAt, SeenBy}
 use Rattle.ob_emit.proofs.SomeSymbol.{owner_is}
 
--- what has a type is seen
+-- a declaration with a type is in the interface
 seen_type : (s : DeclKind) → has_type s ≡ true → is_exportable s ≡ true
 seen_type decl_kinds.Import e = absurd (let f : false ≡ true = e in cc)
 seen_type decl_kinds.Constant e = refl
@@ -38,7 +38,7 @@ seen_type decl_kinds.Procedure e = refl
 seen_type decl_kinds.Parameter e = absurd (let f : false ≡ true = e in cc)
 seen_type decl_kinds.Field e = refl
 
--- a part of the form that a construct gives is this RECORD
+-- a component of the type of a declaration group is this RECORD
 record Held (rows : Rows) (k o : ℕ) : Type 0 where
   part : TypePart
   among : Contains rows.parts part
@@ -46,7 +46,7 @@ record Held (rows : Rows) (k o : ℕ) : Type 0 where
   is : part.part ≡ parts.Record
   number : part.number ≡ k
 
--- the owner of a record, which stands before what is declared from this token, and its place among what is seen
+-- the owner of a record precedes the declaration at this token, and its index in the interface
 pub record OwnerSeen (v : World) (r first : ℕ) : Type 0 where
   pub owner : ℕ
   pub place : ℕ
@@ -77,7 +77,7 @@ module _ (v : World) (m : Module) (same : v.rows ≡ rows_of m) (order : AreRows
       ≡ option_map (part_of v.bytes v.tokens) (slice_get (filter (is_part_by k) v.rows.parts) (length (filter (is_part_by k) v.rows.parts) - 1))
   last_of k = last_map (part_of v.bytes v.tokens) (filter (is_part_by k) v.rows.parts)
 
-  -- the form of what the owner declares ends in the record
+  -- the type of the owner ends in the record
   owner_holds : (row : RecordRow) (d : Declared) (by : DeclGroup) → Contains v.rows.records row → d.declared_by ≡ row.owner → holds row.number (told d by) ≡ true
   owner_holds row d by h e =
       let x : EndsTypeExpr v.rows row = ends row h in
@@ -104,7 +104,7 @@ module _ (v : World) (m : Module) (same : v.rows ≡ rows_of m) (order : AreRows
       let r = record_part k q q.part refl e in
       record { part = q; among = contains_slice v.rows.parts p.place q p.at; declared_by = eqb-true q.declared_by o p.passes; is = r.0; number = r.1 }
 
-  -- what holds a record is declared by its owner
+  -- the declaration whose type holds a record is the record's owner
   owner_by : (row : RecordRow) (d : Declared) (by : DeclGroup) → Contains v.rows.records row → holds row.number (told d by) ≡ true → d.declared_by ≡ row.owner
   owner_by row d by h e =
       let x : Held v.rows row.number d.declared_by =
@@ -122,7 +122,7 @@ module _ (v : World) (m : Module) (same : v.rows ≡ rows_of m) (order : AreRows
       let f : y.first ≡ k = eqb-true y.first k (and_parts (y.block == 0) (y.first == k) e).1 in
       ascend_one (λ (c : DeclGroup). c.first) v.rows.decl_groups y by order.decl_groups j h (f ∙ sym first))
 
-  -- nothing that is seen before the owner holds the record
+  -- no declaration before the owner holds the record
   none_before : (row : RecordRow) (p j : ℕ) (y : Declaration) → Contains v.rows.records row → slice_get (exported_tokens v) p ≡ Some row.owner → j < p
       → slice_get (interface_of v.bytes v.tokens v.rows).declarations j ≡ Some y → holds row.number y ≡ true → ⊥
   none_before row p j y h is l at e =

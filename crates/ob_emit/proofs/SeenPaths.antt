@@ -1,4 +1,4 @@
--- What others see of a module has the symbol that it has there.
+-- A declaration in a module's interface has the symbol that it has in the module.
 use Rattle.std.proofs.Common.{◌≡◌, ℕ, zero, suc, ◌<◌, ◌≤◌, inl, inr, List, [], ◌∷◌, ◌++◌, Option, Some, None, refl, sym, ap, ◌∙◌, arith}
 use Rattle.std.specs.Prelude.{slice_get}
 use Rattle.std.specs.Option.{option_and_then, option_map, option_map_or}
@@ -11,13 +11,13 @@ use Rattle.table_rules.specs.Declaring.{rows_of}
 use Rattle.module_table.specs.Order.{AreRowsSorted}
 use Rattle.ob_interface.specs.Interfaces.{declaration_of, interface_of, module_level_by, Declaration, ModuleInterface}
 use Rattle.ob_interface.specs.Placed.{owner_index}
-use Rattle.ob_scope.proofs.Elements.{contains_slice, some_one}
+use Rattle.module_table.proofs.Elements.{contains_slice, some_one}
 use Rattle.ob_types.specs.World.{World, imported_declaration, owner_at, text}
 use Rattle.scip_symbol.specs.declared.kind.DescriptorKind.{DescriptorKind}
 use Rattle.scip_symbol.specs.declared.kind.DescriptorKind.TheVariants.{Term}
 use Rattle.scip_symbol.specs.SymbolTexts.{DescriptorModel}
-use Rattle.ob_emit.specs.Apart.{exported_tokens}
-use Rattle.ob_emit.specs.Symbols.{PathStep, declared_symbol, descriptor, global, imported_symbol, step_in_block, step_in_record, kind_of, module_path, declared_path, declared_steps, interface_path, path_within, step_by, interface_steps}
+use Rattle.ob_emit.specs.DistinctSymbols.{exported_tokens}
+use Rattle.ob_emit.specs.Symbols.{PathStep, declared_symbol, descriptor, global, imported_symbol, step_in_block, step_in_record, descriptor_kind, module_path, declared_path, declared_steps, interface_path, path_within, step_by, interface_steps}
 use Rattle.ob_emit.proofs.SeenOrder.{ascend}
 use Rattle.ob_emit.proofs.SeenOwners.{behind, owner_seen, OwnerSeen}
 use Rattle.ob_emit.proofs.SeenSymbols.{among, block, first, here, own, row_at, seen_at, seen_by, RowAt, SeenBy}
@@ -31,11 +31,11 @@ flat_by : (m name : List ℕ) (rest : ℕ → Option (List DescriptorModel)) (o 
 flat_by m name rest None = refl
 flat_by m name rest (Some kind) = refl
 
--- of what stands in a block
+-- of a declaration in the block
 flat : (m : List ℕ) (steps : ℕ → Option PathStep) (n k : ℕ) (decl_kind : DeclKind) (name : List ℕ) → steps k ≡ step_in_block decl_kind name
-    → path_within m steps (suc n) k ≡ option_map (λ (kind : DescriptorKind). module_path m ++ descriptor kind name ∷ []) (kind_of decl_kind)
+    → path_within m steps (suc n) k ≡ option_map (λ (kind : DescriptorKind). module_path m ++ descriptor kind name ∷ []) (descriptor_kind decl_kind)
 unfolding path_within
-flat m steps n k decl_kind name e = rw e (flat_by m name (path_within m steps n) (kind_of decl_kind))
+flat m steps n k decl_kind name e = rw e (flat_by m name (path_within m steps n) (descriptor_kind decl_kind))
 
 -- of a field
 owned : (m : List ℕ) (steps : ℕ → Option PathStep) (n k o : ℕ) (own : DescriptorModel) → steps k ≡ Some (record { own = own; owner = Some o })
@@ -54,7 +54,7 @@ own_named : (v : World) → (interface_of v.bytes v.tokens v.rows).name ≡ text
 unfolding text
 own_named v = refl
 
--- ---- paths there and here
+---- paths in the interface and in the module
 
 module _ (v : World) (m : Module) (same : v.rows ≡ rows_of m) (order : AreRowsSorted v.rows) where
   abbrev there : ModuleInterface
@@ -69,7 +69,7 @@ module _ (v : World) (m : Module) (same : v.rows ≡ rows_of m) (order : AreRows
   abbrev Row : Declaration → ℕ → Type 0
   Row it k = RowAt (declaration_of v.bytes v.tokens v.rows) (λ (x : Declared). x.number) v.rows.declared it k
 
-  -- an owner is seen before what it owns
+  -- an owner precedes its fields in the interface
   before : (p d o k : ℕ) → slice_get (exported_tokens v) p ≡ Some o → slice_get (exported_tokens v) d ≡ Some k → o < k → p < d
   before p d o k e f l = elim (cases_lt p d) [
     | inl is ↦ is
@@ -87,8 +87,8 @@ module _ (v : World) (m : Module) (same : v.rows ≡ rows_of m) (order : AreRows
       let theirs : interface_steps there d ≡ step_in_block it.decl_kind it.name = rw at (ap (step_by there d it) of) in
       let ours : declared_steps v r.row.number ≡ step_in_block s.by.decl_kind (text v r.row.number) = own v order r.place k r.row r.at r.has s.by s.foreign None is in
       flat (text v module_name_token) (interface_steps there) n d it.decl_kind it.name theirs
-      ∙ ap (λ (name : List ℕ). option_map (λ (kind : DescriptorKind). module_path (text v module_name_token) ++ descriptor kind name ∷ []) (kind_of it.decl_kind)) (named v r.row it s)
-      ∙ ap (λ (y : Declaration). option_map (λ (kind : DescriptorKind). module_path (text v module_name_token) ++ descriptor kind (text v r.row.number) ∷ []) (kind_of y.decl_kind)) (sym s.is)
+      ∙ ap (λ (name : List ℕ). option_map (λ (kind : DescriptorKind). module_path (text v module_name_token) ++ descriptor kind name ∷ []) (descriptor_kind it.decl_kind)) (named v r.row it s)
+      ∙ ap (λ (y : Declaration). option_map (λ (kind : DescriptorKind). module_path (text v module_name_token) ++ descriptor kind (text v r.row.number) ∷ []) (descriptor_kind y.decl_kind)) (sym s.is)
       ∙ sym (flat (text v module_name_token) (declared_steps v) j r.row.number s.by.decl_kind (text v r.row.number) ours)
   by_record n j d k it rest l b number at r s (Some q) is =
       let of : it.of_record ≡ Some q = ap (λ (y : Declaration). y.of_record) (sym s.is) ∙ is in
@@ -123,7 +123,7 @@ module _ (v : World) (m : Module) (same : v.rows ≡ rows_of m) (order : AreRows
       let s : SeenBy v r.row it = construct it k r in
       by_record n j d k it (λ p o y x z e f. paths n j p o y x z e f) l b number at r s s.by.of_record refl ∙ ap (path_here (suc j)) r.has
 
-  -- what is seen at a place has there the path of its token here
+  -- the declaration at an index of the interface has the path of its token
   pub path_seen_is : (d k : ℕ) (it : Declaration) → slice_get (exported_tokens v) d ≡ Some k → slice_get there.declarations d ≡ Some it → interface_path there d ≡ declared_path v k
   path_seen_is d k it number at =
       ap (λ (name : List ℕ). path_within name (interface_steps there) (suc d) d) (own_named v) ∙ paths (suc d) (suc k) d k it (omega arith) (omega arith) number at

@@ -1,4 +1,4 @@
--- What others see of a module's block, by the rows of the module.
+-- The interface of a module, by the entries of the module's table.
 use Rattle.std.proofs.Common.{◌≡◌, ℕ, zero, suc, List, [], ◌∷◌, Bool, true, false, cond, Option, Some, None, refl, sym, ap, ◌∙◌, eqb-true}
 use Rattle.std.specs.Prelude.{slice_get, ◌==◌, position, Contains}
 use Rattle.std.specs.List.{cons_option, filter_map}
@@ -10,14 +10,14 @@ use Rattle.module_table.specs.Order.{AreRowsSorted}
 use Rattle.ob_interface.specs.Interfaces.{declaration, declaration_by, is_module_level, is_exportable, module_level_by, Declaration, ModuleInterface}
 use Rattle.ob_interface.specs.Placed.{declaration_at}
 use Rattle.ob_types.specs.World.{World, imported_declaration, declared_at, decl_group_from, decl_group_of}
-use Rattle.ob_scope.proofs.Elements.{contains_slice}
+use Rattle.module_table.proofs.Elements.{contains_slice}
 use Rattle.ob_emit.specs.Symbols.{declared_symbol, global, is_local, declared_path, declared_step_by, declared_steps}
 use Rattle.ob_emit.proofs.Naming.{found_there}
 use Rattle.ob_emit.proofs.Numbered.{find_there, position_there}
 
--- ---- rows by place
+-- ---- entries by index
 
--- the row at a place among those that stand for something
+-- the entry at an index among the entries with a declaration in the interface
 pub record RowAt {X Y : Type 0} (f : X → Option Y) (n : X → ℕ) (xs : List X) (y : Y) (k : ℕ) : Type 0 where
   pub place : ℕ
   pub row : X
@@ -42,9 +42,9 @@ module _ {X Y : Type 0} (f : X → Option Y) (n : X → ℕ) where
   row_at [] y k d h g = absurd (let none : None ≡ Some y = h in cc)
   row_at (x ∷ xs) y k d h g = step x xs y k d (f x) refl (λ j p q. row_at xs y k j p q) h g
 
--- ---- what is seen
+---- the interface
 
--- the construct of what is seen, in the module's block
+-- the declaration group of a declaration in the interface, in the module's block
 pub record SeenBy (v : World) (r : Declared) (it : Declaration) : Type 0 where
   pub by : DeclGroup
   pub foreign : module_level_by v.rows.decl_groups r.declared_by ≡ Some by

@@ -1,4 +1,4 @@
--- What a tree declares has a symbol, unless it is an alias.
+-- A declaration of a tree has a symbol, unless it is an alias.
 use Rattle.std.proofs.Common.{◌≡◌, ℕ, zero, suc, ◌<◌, ◌≤◌, inl, inr, List, [], ◌∷◌, ◌++◌, take, Bool, true, false, cond, Option, Some, None, refl, sym, ap, ◌∙◌, subst, arith, eqb-true}
 use Rattle.std.specs.Prelude.{◌==◌, position, Contains, not, count_by}
 use Rattle.std.specs.Fmt.{decimal}
@@ -16,19 +16,19 @@ use Rattle.module_table.specs.Order.{AreRowsSorted}
 use Rattle.module_table.specs.Parts.{Rows}
 use Rattle.table_laws.proofs.Placed.{AreFields, HasConstruct, HasRecord, Holds, IsAlias, IsNamed, IsNoImport, IsOwner}
 use Rattle.table_laws.proofs.PlacedModules.{module_holds}
-use Rattle.ob_scope.proofs.Elements.{slice_contains}
+use Rattle.module_table.proofs.Elements.{slice_contains}
 use Rattle.ob_types.specs.World.{World, declared_at, decl_group_from, decl_group_of, owner_at, record_at, text}
 use Rattle.scip_symbol.specs.declared.kind.DescriptorKind.{DescriptorKind}
 use Rattle.scip_symbol.specs.declared.kind.DescriptorKind.TheVariants.{Term, TypeName, Method}
 use Rattle.scip_symbol.specs.SymbolTexts.{DescriptorModel, Local}
-use Rattle.ob_emit.specs.Symbols.{PathStep, declared_symbol, descriptor, global, step_in_record, is_local, kind_of, module_path, declared_path, declared_step_by, declared_steps, path_within, symbol_at}
+use Rattle.ob_emit.specs.Symbols.{PathStep, declared_symbol, descriptor, global, step_in_record, is_local, descriptor_kind, module_path, declared_path, declared_step_by, declared_steps, path_within, symbol_at}
 use Rattle.ob_emit.proofs.Numbered.{find_among, position_there}
 
 unfoldable pub IsThere : {X : Type 0} → Option X → Type 0
 IsThere {X} o = (x : X) × (o ≡ Some x)
 
--- anything but an import item has a descriptor
-has_kind : (s : DeclKind) → IsNoImport s → (kind : DescriptorKind) × (kind_of s ≡ Some kind)
+-- a declaration of any kind but import has a descriptor
+has_kind : (s : DeclKind) → IsNoImport s → (kind : DescriptorKind) × (descriptor_kind s ≡ Some kind)
 unfolding IsNoImport
 has_kind decl_kinds.Import n = absurd n
 has_kind decl_kinds.Constant n = (Term, refl)
@@ -38,7 +38,7 @@ has_kind decl_kinds.Procedure n = (Method, refl)
 has_kind decl_kinds.Parameter n = (Term, refl)
 has_kind decl_kinds.Field n = (Term, refl)
 
--- a step's path, where its owner has one
+-- the path of a step whose owner has a path
 path_of : (name : List ℕ) (steps : ℕ → Option PathStep) (n k : ℕ) (s : PathStep) → steps k ≡ Some s → (ds : List DescriptorModel) → option_map_or (path_within name steps n) s.owner (Some (module_path name)) ≡ Some ds
     → path_within name steps (suc n) k ≡ Some (ds ++ s.own ∷ [])
 unfolding path_within
@@ -64,7 +64,7 @@ module _ (w : World) (m : Module) (same : w.rows ≡ rows_of m) (order : AreRows
   unfolding owner_at record_at
   owner_is row r h e = rw (find_among (λ (x : RecordRow). x.number) w.rows.records r row order.records h e) refl
 
-  -- what a construct declares stands behind its first token
+  -- an identifier comes after the first token of its declaration group
   behind : (x : Declared) (by : DeclGroup) → Contains w.rows.declared x → by.first ≡ x.declared_by → by.first ≤ x.number
   behind x by h e = let c : HasConstruct w.rows x = holds.declared x h in let b = c.before in let f = c.first in omega (arith, b, f, e)
 
@@ -124,7 +124,7 @@ module _ (w : World) (m : Module) (same : w.rows ≡ rows_of m) (order : AreRows
     | inr f ↦ (let path = path_is x by h j e (foreign x by j e f) decl_kind in (global p path.0, symbol_by_path p i x path.0 f path.1))
   ]
 
-  -- what is declared by anything but an import item
+  -- a declaration of any kind but import
   pub has_symbol : (p : List ℕ) (x : Declared) (by : DeclGroup) → Contains w.rows.declared x → Contains w.rows.decl_groups by → by.first ≡ x.declared_by → IsNoImport by.decl_kind → IsThere (declared_symbol w p x.number)
   unfolding IsThere
   has_symbol p x by h j e decl_kind =
@@ -134,7 +134,7 @@ module _ (w : World) (m : Module) (same : w.rows ≡ rows_of m) (order : AreRows
       position_there (λ (d : Declared). d.number) w.rows.declared at.0 x.number order.declared (record { element = x; there = at.1; has = refl }) in
       (s.0, rw placed (rw at.1 s.1))
 
-  -- what is declared, and is no alias
+  -- a declaration that is no alias
   pub declared_has : (p : List ℕ) (x : Declared) → Contains w.rows.declared x → (IsAlias w.rows x.number → ⊥) → IsThere (declared_symbol w p x.number)
   declared_has p x h other =
       let c : HasConstruct w.rows x = holds.declared x h in
@@ -143,6 +143,6 @@ module _ (w : World) (m : Module) (same : w.rows ≡ rows_of m) (order : AreRows
         | inr alias ↦ absurd (other alias)
       ]
 
-  -- the procedure of a name behind END
+  -- the procedure that a name after END repeats
   pub ended_has : (p : List ℕ) (k : ℕ) → IsNamed w.rows k → IsThere (declared_symbol w p k)
   ended_has p k n = subst (λ (j : ℕ). IsThere (declared_symbol w p j)) n.number (has_symbol p n.row n.by n.declared n.among n.first n.decl_kind)

@@ -1,4 +1,4 @@
--- What the references of a tree stand for: a declaration that has a symbol, or an import item that is there.
+-- The targets of a tree's references: a declaration that has a symbol, or an import item that exists.
 use Rattle.std.proofs.Common.{◌≡◌, ℕ, zero, suc, ◌==◌, List, [], ◌∷◌, get_or, Bool, true, false, cond, Option, Some, None, refl, sym, ap, ◌∙◌, subst, arith, eqb-true}
 use Rattle.std.specs.Prelude.{slice_get, position, find, nat_eq, Contains, ◌&&◌}
 use Rattle.std.specs.Str.{bytes_eq}
@@ -28,24 +28,24 @@ use Rattle.module_table.specs.Order.{AreRowsSorted}
 use Rattle.ob_interface.specs.Interfaces.{declaration as seen_as, declaration_by, declaration_of, interface_of, is_exportable, module_level_by, Declaration, ModuleInterface}
 use Rattle.ob_interface.specs.Placed.{declaration_at, index_of}
 use Rattle.table_laws.proofs.Placed.{AreFields, EndsOne, HasConstruct, IsAlias, IsField, IsNoImport}
-use Rattle.ob_scope.proofs.Elements.{contains_slice, slice_contains, slice_there, some_one}
-use Rattle.ob_scope.specs.declared.members.Member.{Member}
-use Rattle.ob_scope.specs.Members.{decl_group_at, declared_member, members_of}
-use Rattle.ob_scope.specs.Scope.{ResolvesTo, by_scope, as_target}
-use Rattle.ob_scope.specs.Scoped.{AreScopes, Meaning, MeansBy}
+use Rattle.module_table.proofs.Elements.{contains_slice, slice_contains, slice_there, some_one}
+use Rattle.scopes.specs.declared.members.Member.{Member}
+use Rattle.scopes.specs.Members.{decl_group_at, declared_member, members_of}
+use Rattle.scopes.specs.Scope.{ResolvesTo, by_scope, as_target}
+use Rattle.scopes.specs.Scoped.{AreScopes, Meaning, MeansBy}
 use Rattle.ob_scan.specs.Texts.{text_at}
-use Rattle.ob_targets.specs.declared.known.DesignatorType.{DesignatorType}
-use Rattle.ob_targets.specs.declared.known.DesignatorType.TheVariants as knowns
+use Rattle.ob_targets.specs.declared.designator_type.DesignatorType.{DesignatorType}
+use Rattle.ob_targets.specs.declared.designator_type.DesignatorType.TheVariants as knowns
 use Rattle.ob_targets.specs.declared.syntax_position.SyntaxPosition.{SyntaxPosition}
 use Rattle.ob_targets.specs.declared.syntax_position.SyntaxPosition.TheVariants as syntax_positions
 use Rattle.ob_targets.specs.declared.target.Reference.{Reference}
 use Rattle.ob_targets.specs.declared.target.Target.{Target}
 use Rattle.ob_targets.specs.declared.target.Target.TheVariants as targets
 use Rattle.ob_targets.specs.Predeclared.{is_predeclared}
-use Rattle.ob_targets.specs.Refers.{AreReferences, Refers, module_name_token as at_own_name, item, declaration, end, used, selected, second, nowhere}
+use Rattle.ob_targets.specs.Refers.{AreReferences, Refers, own_name as at_own_name, item, declaration, end, used, selected, second, nowhere}
 use Rattle.ob_targets.specs.SyntaxPosition.{first, is_alias, is_declared, is_end_name, is_imported_name, is_second, is_selected, is_use, syntax_position}
-use Rattle.ob_targets.specs.Steps.{Follows, IsTypeBefore, StepsTo, Levels, Selects, guard_of, there, nowhere as leads_nowhere, of_module, of_nothing, exported as by_module, field as by_field, no_field, unknown, none, one, to_field, to_elements, to_target, by_guard, at_head, behind}
-use Rattle.ob_targets.specs.Targets.{declared_target, end_target, field_target, holds_value, target_type, second_target, typed, used_target}
+use Rattle.ob_targets.specs.Steps.{Follows, IsTypeBefore, StepsTo, Levels, Selects, guard_type, there, nowhere as leads_nowhere, of_module, of_nothing, exported as by_module, field as by_field, no_field, unknown, none, one, to_field, to_elements, to_target, by_guard, at_head, behind}
+use Rattle.ob_targets.specs.Targets.{declared_target, end_target, field_target, holds_value, target_type, second_target, type_if_value, used_target}
 use Rattle.ob_types.specs.declared.nodes.Field.{Field}
 use Rattle.ob_types.specs.declared.nodes.Field.TheVariants as fields
 use Rattle.ob_types.specs.declared.nodes.Named.{Named}
@@ -53,12 +53,12 @@ use Rattle.ob_types.specs.declared.nodes.Node.{Node}
 use Rattle.ob_types.specs.declared.nodes.Node.TheVariants as nodes
 use Rattle.ob_types.specs.declared.nodes.Record.{Record}
 use Rattle.ob_types.specs.declared.nodes.Record.TheVariants as records
-use Rattle.ob_types.specs.Same.{same}
+use Rattle.ob_types.specs.SameDeclaration.{same}
 use Rattle.ob_types.specs.Shapes.{base_of, field_of, resolve_type_name, shape}
 use Rattle.ob_types.specs.World.{World, imported_declaration, decl_group_from, exported, exported_at, field_at, type_node_of, module_of_item, if_exported, is_of_record, item_of, meaning, decl_kind_of, imported_kind, text}
 use Rattle.scip_symbol.specs.declared.kind.DescriptorKind.{DescriptorKind}
 use Rattle.scip_symbol.specs.declared.kind.DescriptorKind.TheVariants.{Term, TypeName, Method}
-use Rattle.ob_emit.specs.Symbols.{declared_symbol, external_symbol, imported_symbol, is_of_another_module as is_imported_target, kind_of, module_symbol, denotes_something, symbol_of}
+use Rattle.ob_emit.specs.Symbols.{declared_symbol, external_symbol, imported_symbol, is_of_another_module as is_imported_target, descriptor_kind, module_symbol, denotes_something, symbol_of}
 use Rattle.ob_emit.proofs.Naming.{found_there}
 use Rattle.ob_emit.proofs.Numbered.{position_there}
 use Rattle.ob_emit.proofs.SeenOrder.{number_there}
@@ -98,26 +98,26 @@ means_among : (name : ℕ → List ℕ) (blocks : List BlockRow) (ds : List Memb
 means_among name blocks ds u d (by_scope r) = (r.seen).declared
 means_among name blocks ds u d (as_target t n l) = l.declared
 
--- what others see has a descriptor
-kind_seen : (v : World) (x : Declared) (by : DeclGroup) (it : Declaration) (s : DeclKind) → by.decl_kind ≡ s → cond (is_exportable s) (Some (seen_as v.bytes v.tokens v.rows.parts x by)) None ≡ Some it → (kind : DescriptorKind) × (kind_of it.decl_kind ≡ Some kind)
+-- a declaration in an interface has a descriptor
+kind_seen : (v : World) (x : Declared) (by : DeclGroup) (it : Declaration) (s : DeclKind) → by.decl_kind ≡ s → cond (is_exportable s) (Some (seen_as v.bytes v.tokens v.rows.parts x by)) None ≡ Some it → (kind : DescriptorKind) × (descriptor_kind it.decl_kind ≡ Some kind)
 kind_seen v x by it decl_kinds.Import e f = absurd (let g : None ≡ Some it = f in cc)
-kind_seen v x by it decl_kinds.Constant e f = (Term, ap kind_of (ap (λ (y : Declaration). y.decl_kind) (sym (some_one _ it f)) ∙ e))
-kind_seen v x by it decl_kinds.Type e f = (TypeName, ap kind_of (ap (λ (y : Declaration). y.decl_kind) (sym (some_one _ it f)) ∙ e))
-kind_seen v x by it decl_kinds.Variable e f = (Term, ap kind_of (ap (λ (y : Declaration). y.decl_kind) (sym (some_one _ it f)) ∙ e))
-kind_seen v x by it decl_kinds.Procedure e f = (Method, ap kind_of (ap (λ (y : Declaration). y.decl_kind) (sym (some_one _ it f)) ∙ e))
+kind_seen v x by it decl_kinds.Constant e f = (Term, ap descriptor_kind (ap (λ (y : Declaration). y.decl_kind) (sym (some_one _ it f)) ∙ e))
+kind_seen v x by it decl_kinds.Type e f = (TypeName, ap descriptor_kind (ap (λ (y : Declaration). y.decl_kind) (sym (some_one _ it f)) ∙ e))
+kind_seen v x by it decl_kinds.Variable e f = (Term, ap descriptor_kind (ap (λ (y : Declaration). y.decl_kind) (sym (some_one _ it f)) ∙ e))
+kind_seen v x by it decl_kinds.Procedure e f = (Method, ap descriptor_kind (ap (λ (y : Declaration). y.decl_kind) (sym (some_one _ it f)) ∙ e))
 kind_seen v x by it decl_kinds.Parameter e f = absurd (let g : None ≡ Some it = f in cc)
-kind_seen v x by it decl_kinds.Field e f = (Term, ap kind_of (ap (λ (y : Declaration). y.decl_kind) (sym (some_one _ it f)) ∙ e))
+kind_seen v x by it decl_kinds.Field e f = (Term, ap descriptor_kind (ap (λ (y : Declaration). y.decl_kind) (sym (some_one _ it f)) ∙ e))
 
-kind_by : (v : World) (x : Declared) (it : Declaration) (o : Option DeclGroup) → declaration_by v.bytes v.tokens v.rows.parts x o ≡ Some it → (kind : DescriptorKind) × (kind_of it.decl_kind ≡ Some kind)
+kind_by : (v : World) (x : Declared) (it : Declaration) (o : Option DeclGroup) → declaration_by v.bytes v.tokens v.rows.parts x o ≡ Some it → (kind : DescriptorKind) × (descriptor_kind it.decl_kind ≡ Some kind)
 kind_by v x it None f = absurd (let g : None ≡ Some it = f in cc)
 kind_by v x it (Some by) f = kind_seen v x by it by.decl_kind refl f
 
-kind_in : (v : World) (it : Declaration) → Contains (interface_of v.bytes v.tokens v.rows).declarations it → (kind : DescriptorKind) × (kind_of it.decl_kind ≡ Some kind)
+kind_in : (v : World) (it : Declaration) → Contains (interface_of v.bytes v.tokens v.rows).declarations it → (kind : DescriptorKind) × (descriptor_kind it.decl_kind ≡ Some kind)
 kind_in v it h =
     let row = back (declaration_of v.bytes v.tokens v.rows) v.rows.declared it h in
     kind_by v row.0 it (module_level_by v.rows.decl_groups row.0.declared_by) row.2
 
-no_import : (s : DeclKind) (kind : DescriptorKind) → kind_of s ≡ Some kind → IsNoImport s
+no_import : (s : DeclKind) (kind : DescriptorKind) → descriptor_kind s ≡ Some kind → IsNoImport s
 unfolding IsNoImport
 no_import decl_kinds.Import kind e = absurd (let none : None ≡ Some kind = e in cc)
 no_import decl_kinds.Constant kind e = tt
@@ -135,7 +135,7 @@ module _ (w : World) (m : Module) (is_tree : w.rows ≡ rows_of m) (order : AreR
   IsItem : ℕ → Type 0
   IsItem at = IsThere (slice_get w.rows.imports at)
 
-  -- what a target may be
+  -- the possible targets
   pub Valid : Target → Type 0
   Valid (targets.Declared k) = IsThere (declared_symbol w p k)
   Valid (targets.Imported i d) = IsThere (imported_declaration w i d)
@@ -196,9 +196,9 @@ module _ (w : World) (m : Module) (is_tree : w.rows ≡ rows_of m) (order : AreR
   used_valid : (k : ℕ) → Valid (used_target w k)
   used_valid k = used_by k (meaning w k) refl
 
-  -- ---- where identifiers stand
+  ---- syntactic positions of identifiers
 
-  -- what is known of where an identifier stands
+  -- the entry of an identifier at its syntactic position
   Stands : ℕ → SyntaxPosition → Type 0
   Stands k syntax_positions.OwnName = Unit {0}
   Stands k (syntax_positions.Item at) = IsItem at
@@ -250,7 +250,7 @@ module _ (w : World) (m : Module) (is_tree : w.rows ≡ rows_of m) (order : AreR
       stands_first k (is_imported_name k) syntax_positions.Item w.rows.imports _ (λ i e. at_item k (is_imported_name k) i e) (λ e.
       stands_first k (is_declared k) syntax_positions.Declaration w.rows.declared _ (λ i e. at_declaration k i unaliased e) (λ e. at_end k))))
 
-  -- ---- names behind a dot
+  -- ---- names after a dot
 
   exported_in : (mi : ModuleInterface) (of_record : Option ℕ) (name : List ℕ) (d : ℕ) (o : Option ℕ) → index_of mi of_record name ≡ o → option_and_then (λ (j : ℕ). option_and_then (if_exported j) (declaration_at mi j)) o ≡ Some d
       → (it : Declaration) × (declaration_at mi d ≡ Some it)
@@ -341,14 +341,14 @@ module _ (w : World) (m : Module) (is_tree : w.rows ≡ rows_of m) (order : AreR
   selects_valid o k t i (no_field s) = tt
   selects_valid o k t i unknown = tt
 
-  -- ---- what is known
+  ---- designator types
 
   by_sort : (b : Bool) (n : Node) → IsKnown (cond b (knowns.Typed n) knowns.Nothing)
   unfolding IsKnown
   by_sort true n = tt
   by_sort false n = tt
 
-  typed_known : (s : Option DeclKind) (type_expr : Option Node) → IsKnown (typed s type_expr)
+  typed_known : (s : Option DeclKind) (type_expr : Option Node) → IsKnown (type_if_value s type_expr)
   unfolding IsKnown
   typed_known None type_expr = tt
   typed_known (Some s) None = tt
@@ -391,7 +391,7 @@ module _ (w : World) (m : Module) (is_tree : w.rows ≡ rows_of m) (order : AreR
   guard_shape t (shapes.Named d n) = tt
   guard_shape t shapes.Unknown = tt
 
-  guard_known : (t : Option NameRow) → IsKnown (guard_of w t)
+  guard_known : (t : Option NameRow) → IsKnown (guard_type w t)
   unfolding IsKnown
   guard_known None = tt
   guard_known (Some t) = guard_shape t (resolve_type_name w t.head t.member)
@@ -434,7 +434,7 @@ module _ (w : World) (m : Module) (is_tree : w.rows ≡ rows_of m) (order : AreR
   valid k t r (second {u = u} is placed_there) = second_valid k (used_target w u.number) (used_valid u.number)
   valid k t r (nowhere is) = tt
 
-  -- what is no declaration of another module has a symbol
+  -- a target that is no declaration of another module has a symbol
   there_is : {X : Type 0} (o : Option X) → IsThere o → is_some o ≡ true
   unfolding IsThere
   there_is o h = rw h.1 refl
@@ -460,12 +460,12 @@ module _ (w : World) (m : Module) (is_tree : w.rows ≡ rows_of m) (order : AreR
   pub some_symbol : (refs : List Reference) (r : Reference) → AreReferences w refs → Contains refs r → is_imported_target r.target ≡ false → is_some (symbol_of w p r.target) ≡ denotes_something r.target
   some_symbol refs r are h e = has_its_symbol r.target (valid r.number r.target r.role (All-contains (λ (x : Reference). Refers w x.number x.target x.role) refs r are.each h)) e
 
-  -- what a module that is reached declares is there
+  -- a declaration of a reached module is in its interface
   is_there : (i d : ℕ) (t : Target) → t ≡ targets.Imported i d → Valid t → IsThere (imported_declaration w i d)
   unfolding Valid
   is_there i d t e v = subst Valid e v
 
-  -- what such a module has at a place has a symbol, as it has there
+  -- a declaration at an index of the interface has the symbol that it has in its module
   seen_there : (v : World) (n : Module) (i d : ℕ) (it : Declaration) → v.rows ≡ rows_of n → AreRowsSorted v.rows → slice_get w.reached i ≡ Some (interface_of v.bytes v.tokens v.rows) → imported_declaration w i d ≡ Some it
       → is_some (imported_symbol w p i d) ≡ true
   seen_there v n i d it tree ascending at there_at =
@@ -474,12 +474,12 @@ module _ (w : World) (m : Module) (is_tree : w.rows ≡ rows_of m) (order : AreR
       let k = number_there (declaration_of v.bytes v.tokens v.rows) (λ (x : Declared). x.number) v.rows.declared d it placed_at in
       let r : RowAt (declaration_of v.bytes v.tokens v.rows) (λ (x : Declared). x.number) v.rows.declared it k.0 = row_at (declaration_of v.bytes v.tokens v.rows) (λ (x : Declared). x.number) v.rows.declared it k.0 d placed_at k.1 in
       let s : SeenBy v r.row it = seen_by v r.row it (module_level_by v.rows.decl_groups r.row.declared_by) refl r.tells in
-      let decl_kind : IsNoImport s.by.decl_kind = no_import s.by.decl_kind kind.0 (ap (λ (x : Declaration). kind_of x.decl_kind) s.is ∙ kind.1) in
+      let decl_kind : IsNoImport s.by.decl_kind = no_import s.by.decl_kind kind.0 (ap (λ (x : Declaration). descriptor_kind x.decl_kind) s.is ∙ kind.1) in
       let has : IsThere (declared_symbol v p r.row.number) =
       has_symbol v n tree ascending p r.row s.by (contains_slice v.rows.declared r.place r.row r.at) (among v ascending r.place k.0 r.row r.at r.has s.by s.foreign) (first_token v ascending r.place k.0 r.row r.at r.has s.by s.foreign) decl_kind in
       ap is_some (one_symbol w v n p i d k.0 it tree ascending at k.1 there_at ∙ ap (declared_symbol v p) (sym r.has)) ∙ there_is (declared_symbol v p r.row.number) has
 
-  -- and has a symbol
+  -- so it has a symbol
   pub seen_symbol : (v : World) (n : Module) (refs : List Reference) (r : Reference) (i d : ℕ) → v.rows ≡ rows_of n → AreRowsSorted v.rows → AreReferences w refs → Contains refs r → r.target ≡ targets.Imported i d
       → slice_get w.reached i ≡ Some (interface_of v.bytes v.tokens v.rows) → (it : Declaration) × (imported_declaration w i d ≡ Some it) × (is_some (symbol_of w p r.target) ≡ true)
   unfolding IsThere

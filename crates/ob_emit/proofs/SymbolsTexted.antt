@@ -1,4 +1,4 @@
--- The symbols of names have texts, and these tell declarations apart.
+-- The symbols of valid names have symbol strings, and these distinguish declarations.
 use Rattle.std.proofs.Common.{◌≡◌, ◌≢◌, ℕ, zero, suc, ◌<◌, ◌^◌, ◌+◌, List, [], ◌∷◌, ◌++◌, codes, length, take, true, false, Option, Some, None, refl, sym, ap, ◌∙◌, subst, arith, length-take}
 use Rattle.std.specs.Prelude.{slice_get, count_by, slice_index}
 use Rattle.std.specs.List.{flat_map}
@@ -13,7 +13,7 @@ use Rattle.module_table.specs.declared.rows.Declared.{Declared}
 use Rattle.module_table.specs.declared.rows.Import.{Import}
 use Rattle.module_table.specs.Tables.{module_name_token}
 use Rattle.ob_interface.specs.Interfaces.{ModuleInterface}
-use Rattle.ob_scope.proofs.Elements.{some_one}
+use Rattle.module_table.proofs.Elements.{some_one}
 use Rattle.ob_targets.specs.declared.target.Target.{Target}
 use Rattle.ob_targets.specs.declared.target.Target.TheVariants as targets
 use Rattle.ob_types.specs.World.{World, module_of_item, text}
@@ -22,7 +22,7 @@ use Rattle.scip_symbol.specs.Outcomes.{begins_with_space, is_stop, is_wrong_part
 use Rattle.scip_symbol.specs.SymbolTexts.{BeginsLocal, DescriptorText, DescriptorTexts, IsOptionalPart, DescriptorModel, SymbolModel, Local, SymbolText, are_simple, is_simple, canonical_descriptor_text, canonical_name, canonical_text}
 use Rattle.scip_symbol.proofs.PlainTexts.{texts_apart}
 use Rattle.scip_symbol.proofs.WriteLaws.{plain_name_text}
-use Rattle.ob_emit.specs.Apart.{DeclaresOnce, IsLocal}
+use Rattle.ob_emit.specs.DistinctSymbols.{DeclaresOnce, IsLocal}
 use Rattle.ob_emit.specs.Named.{NamesAreIdentifiers, HasNames, IsName}
 use Rattle.ob_emit.specs.Symbols.{PathStep, declared_symbol, descriptor, global, is_local, module_path, declared_steps, package_of, interface_path, path_within, scheme, interface_steps, symbol_of}
 use Rattle.ob_emit.proofs.Naming.{AreOfStepNames, IsOfName, import_named, own_named, own_steps_named, reached_named, steps_named}
@@ -178,7 +178,7 @@ module _ (w : World) (p : List ℕ) (names : NamesAreIdentifiers w) (right : is_
   target_text targets.Predeclared s external e = absurd (let none : None ≡ Some s = e in cc)
   target_text targets.Unresolved s external e = absurd (let none : None ≡ Some s = e in cc)
 
--- ---- declarations of one text
+---- declarations with one symbol string
 
 pub one_text : (w : World) (p : List ℕ) (k j : ℕ) (s t : SymbolModel) → DeclaresOnce w → NamesAreIdentifiers w → is_wrong_part p ≡ false → declared_symbol w p k ≡ Some s → declared_symbol w p j ≡ Some t
     → canonical_text s ≡ canonical_text t → k ≡ j

@@ -1,4 +1,4 @@
--- Texts by place, one more at a time.
+-- Symbol strings by index, one more at a time.
 use Rattle.std.proofs.Common.{◌≡◌, ℕ, zero, suc, ◌+◌, ◌<◌, inl, inr, List, [], ◌∷◌, ◌++◌, length, get_or, map, take, Option, Some, None, refl, sym, ap, ◌∙◌, subst, arith}
 use Rattle.std.specs.Prelude.{slice_get}
 use Rattle.std.specs.Option.{option_map}
@@ -18,7 +18,7 @@ use Rattle.std.proofs.lemmas.Option.{slice_get-map}
 use Rattle.std.proofs.Common.{append_assoc}
 use Rattle.module_table.specs.Parts.{Rows}
 use Rattle.module_table.specs.declared.rows.Import.{Import}
-use Rattle.ob_scope.proofs.Elements.{slice_there, some_one}
+use Rattle.module_table.proofs.Elements.{slice_there, some_one}
 use Rattle.ob_types.specs.World.{text}
 use Rattle.ob_interface.specs.Interfaces.{ModuleInterface}
 use Rattle.scip_symbol.specs.SymbolTexts.{canonical_descriptor_text, DescriptorModel}
@@ -55,7 +55,7 @@ made_more w p n made d t a there is = record {
   ];
 }
 
--- the texts of the first declarations, in whatever package the front is, with the count of the local ones among them
+-- the symbol strings of the first declarations, for any package prefix, with the number of local declarations among them
 pub record AreMadeBefore (w : World) (prefix : List ℕ) (n locals : ℕ) (made : List (Option (List ℕ))) : Type 0 where
   pub counted : locals ≡ count_by (is_local w) (take n w.rows.declared)
   pub each : (p : List ℕ) → prefix ≡ prefix_text p → AreDeclaredTexts w p n made
@@ -71,21 +71,21 @@ module _ (w : World) (prefix : List ℕ) (n locals : ℕ) (made : List (Option (
   local_is : (v : Bool) → is_local w d ≡ v → is_local w (get_or w.rows.declared n d) ≡ v
   local_is v e = ap (is_local w) (get_or_from_slice_get w.rows.declared n d d at) ∙ e
 
-  -- the next one is local
+  -- the next declaration is local
   pub before_local : is_local w d ≡ true → AreMadeBefore w prefix (n + 1) (locals + 1) (made ++ t ∷ [])
   before_local e = record {
     counted = ap (λ (k : ℕ). k + 1) b.counted ∙ sym (count_by_more_yes (is_local w) w.rows.declared n d within (local_is true e));
     each = λ p f. made_more w p n made d t (b.each p f) at (is p f);
   }
 
-  -- it isn't
+  -- the next declaration isn't local
   pub before_other : is_local w d ≡ false → AreMadeBefore w prefix (n + 1) locals (made ++ t ∷ [])
   before_other e = record {
     counted = b.counted ∙ sym (count_by_more_no (is_local w) w.rows.declared n d within (local_is false e));
     each = λ p f. made_more w p n made d t (b.each p f) at (is p f);
   }
 
--- ---- the text of what a token declares
+-- ---- the symbol string of what a token declares
 
 place_within : (ds : List Declared) (k at : ℕ) → position (λ (d : Declared). d.number == k) ds ≡ Some at → at < length ds
 place_within [] k at e = absurd (let none : None ≡ Some at = e in cc)
@@ -118,7 +118,7 @@ declared_nothing w p k rows o same h is =
     let e : position (λ (d : Declared). d.number == k) w.rows.declared ≡ None = ap (λ (r : Rows). position (λ (d : Declared). d.number == k) r.declared) (sym same) ∙ (sym h ∙ is) in
     sym (ap (λ (q : Option ℕ). option_map canonical_text (option_and_then (λ (i : ℕ). option_and_then (symbol_at w p i) (slice_get w.rows.declared i)) q)) e)
 
--- ---- the texts of modules and of their names
+-- ---- the symbol strings of modules and of their names
 
 pub module_text_is : (w : World) (p : List ℕ) (item : ℕ) (i : Import) (prefix out : List ℕ) → slice_get w.rows.imports item ≡ Some i → prefix ≡ prefix_text (package_of w p item)
     → out ≡ prefix ++ path_text (module_path (text w i.imported)) → Some out ≡ option_map canonical_text (module_symbol w p item)
@@ -137,7 +137,7 @@ external_text_is w item name i prefix mid out e f is more =
     ap Some whole
     ∙ sym (ap (λ (o : Option Import). option_map canonical_text (option_map (λ (j : Import). Global scheme [] [] [] (module_path (text w j.imported) ++ d ∷ [])) o)) e)
 
--- ---- the texts of what other modules declare
+-- ---- the symbol strings of what other modules declare
 
 told : (p : List ℕ) (o : Option (List DescriptorModel)) → option_map (λ (ds : List DescriptorModel). prefix_text p ++ path_text ds) o ≡ option_map canonical_text (option_map (global p) o)
 told p None = refl

@@ -12,6 +12,7 @@ use Rattle.ob_targets.specs.declared.target.Target.{Target}
 use Rattle.ob_targets.specs.declared.target.Target.TheVariants as targets
 use Rattle.scip_symbol.specs.SymbolTexts.{SymbolModel, canonical_text}
 use Rattle.scip_index.specs.Plain.{DocumentModel, OccurrenceModel, SymbolModel as SymbolRow}
+use Rattle.scip_index.specs.Ranges.{range_between}
 use Rattle.ob_emit.specs.Symbols.{symbol_of}
 
 -- ---- locations
@@ -25,13 +26,9 @@ unfoldable pub column_of : List ℕ → ℕ → ℕ
 column_of bytes zero = 0
 column_of bytes (suc offset) = if ends_line bytes offset then 0 else column_of bytes offset + 1
 
--- the numbers of a range: line and column of the start, line and column of the end; on one line the second line number is left out
-abbrev pub range_by : ℕ → ℕ → ℕ → ℕ → List ℤ
-range_by line column last end = if line == last then pos line ∷ pos column ∷ pos end ∷ [] else pos line ∷ pos column ∷ pos last ∷ pos end ∷ []
-
 -- the range from the start of one token to the end of another
 abbrev pub span_range : List ℕ → Token → Token → List ℤ
-span_range bytes first last = range_by (line_number bytes first.start) (column_of bytes first.start) (line_number bytes last.end) (column_of bytes last.end)
+span_range bytes first last = range_between (line_number bytes first.start) (column_of bytes first.start) (line_number bytes last.end) (column_of bytes last.end)
 
 -- the range from the start of the token with one number to the end of the token with another
 abbrev pub span_of : World → ℕ → ℕ → List ℤ

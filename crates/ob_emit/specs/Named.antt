@@ -3,7 +3,7 @@ use Rattle.std.specs.Prelude.{◌≡◌, ℕ, List, true, Contains}
 use Rattle.ob_scan.specs.Tokens.{is_name}
 use Rattle.ob_scan.specs.Texts.{text_at}
 use Rattle.ob_interface.specs.Interfaces.{Declaration, ModuleInterface}
-use Rattle.ob_scope.specs.Identified.{AreNames}
+use Rattle.scopes.specs.IdentifierNames.{AreNames}
 use Rattle.ob_types.specs.World.{World, text}
 use Rattle.ob_targets.specs.declared.target.Reference.{Reference}
 use Rattle.ob_targets.specs.declared.target.Target.TheVariants as targets

@@ -15,7 +15,7 @@ use Rattle.ob_targets.specs.declared.target.Reference.{Reference}
 use Rattle.scip_index.specs.Plain.{SymbolModel as SymbolRow}
 use Rattle.scip_symbol.specs.SymbolTexts.{DescriptorModel, SymbolModel, parts_text, canonical_descriptor_text, canonical_text}
 use Rattle.scip_symbol.specs.declared.kind.DescriptorKind.TheVariants.{Term}
-use Rattle.ob_emit.specs.declared.steps.StepRow.{StepRow}
+use Rattle.ob_emit.specs.declared.steps.LastStep.{LastStep}
 use Rattle.ob_emit.specs.declared.prefixes.Prefixes.{Prefixes}
 use Rattle.ob_emit.specs.declared.imported_cache.ImportedText.{ImportedText}
 use Rattle.ob_emit.specs.declared.foreign_texts.ForeignTexts.{ForeignTexts}
@@ -25,7 +25,7 @@ use Rattle.ob_emit.specs.Externals.{external_module, external_row, externals_in,
 use Rattle.ob_emit.specs.Named.{IsName}
 
 -- a step as contracts describe it: its descriptor, without a disambiguator, and its owner
-abbrev pub step_model : StepRow → PathStep
+abbrev pub step_model : LastStep → PathStep
 step_model r = record { own = descriptor r.kind r.name.now; owner = r.owner }
 
 -- the name in the descriptor of each step is an identifier
@@ -33,17 +33,17 @@ abbrev pub AreStepNames : (ℕ → Option PathStep) → Type 0
 AreStepNames steps = (k : ℕ) (s : PathStep) → steps k ≡ Some s → IsName (s.own).name
 
 -- each owner has a smaller number than the field that it owns
-abbrev pub AreBefore : (ℕ → Option PathStep) → Type 0
-AreBefore steps = (k o : ℕ) (s : PathStep) → steps k ≡ Some s → s.owner ≡ Some o → o < k
+abbrev pub OwnersPrecede : (ℕ → Option PathStep) → Type 0
+OwnersPrecede steps = (k o : ℕ) (s : PathStep) → steps k ≡ Some s → s.owner ≡ Some o → o < k
 
 -- the string of a path: the canonical strings of its descriptors, concatenated
 abbrev pub path_text : List DescriptorModel → List ℕ
 path_text ds = flat_map canonical_descriptor_text ds
 
--- with true the string has grown by that of the path, and with false there is no path
-abbrev pub IsPushed : List ℕ → List ℕ → Option (List DescriptorModel) → Bool → Type 0
-IsPushed old new ds false = ds ≡ None
-IsPushed old new ds true = option_map (λ (path : List DescriptorModel). old ++ path_text path) ds ≡ Some new
+-- true: the string of the path was appended; false: there is no path
+abbrev pub IsAppended : List ℕ → List ℕ → Option (List DescriptorModel) → Bool → Type 0
+IsAppended old new ds false = ds ≡ None
+IsAppended old new ds true = option_map (λ (path : List DescriptorModel). old ++ path_text path) ds ≡ Some new
 
 -- the list has the symbol strings of the first declarations of a module, as many as the given number
 pub record AreDeclaredTexts (w : World) (package_name : List ℕ) (count : ℕ) (made : List (Option (List ℕ))) : Type 0 where
@@ -54,7 +54,7 @@ pub record AreDeclaredTexts (w : World) (package_name : List ℕ) (count : ℕ) 
 abbrev pub prefix_text : List ℕ → List ℕ
 prefix_text package_name = parts_text scheme [] package_name []
 
--- the prefixes are those for a tree in this package, and for no package
+-- the prefix of symbol strings in this package, and the prefix without a package
 pub record ArePrefixes (package_name : List ℕ) (f : Prefixes) : Type 0 where
   pub tree : string_bytes f.tree ≡ prefix_text package_name
   pub outside : string_bytes f.outside ≡ prefix_text []
@@ -66,12 +66,12 @@ abbrev pub AreTextsByKey : {K S : Type 0} → (K → K → Bool) → (K → Opti
 AreTextsByKey same text_of texts = (key : _) (text : Option (String Global)) → get same texts key ≡ Some text → option_map string_bytes text ≡ text_of key
 
 -- each element of the list has the symbol string of the declaration that its indices name
-abbrev pub AreImported : World → List ℕ → List ImportedText → Type 0
-AreImported w package_name texts = (slot : ℕ) (row : ImportedText) → slice_get texts slot ≡ Some row → option_map string_bytes row.text ≡ option_map canonical_text (imported_symbol w package_name row.reached row.declaration)
+abbrev pub AreImportedTexts : World → List ℕ → List ImportedText → Type 0
+AreImportedTexts w package_name texts = (slot : ℕ) (row : ImportedText) → slice_get texts slot ≡ Some row → option_map string_bytes row.text ≡ option_map canonical_text (imported_symbol w package_name row.reached row.declaration)
 
 -- each element of the list is the symbol string of the module that the import item at its index names
-abbrev pub AreModules : World → List ℕ → List (Option (String Global)) → Type 0
-AreModules w package_name texts = (item : ℕ) (text : Option (String Global)) → slice_get texts item ≡ Some text → option_map string_bytes text ≡ option_map canonical_text (module_symbol w package_name item)
+abbrev pub AreModuleTexts : World → List ℕ → List (Option (String Global)) → Type 0
+AreModuleTexts w package_name texts = (item : ℕ) (text : Option (String Global)) → slice_get texts item ≡ Some text → option_map string_bytes text ≡ option_map canonical_text (module_symbol w package_name item)
 
 -- the symbol of a name of a module that isn't in the tree, by the index of the import item that names the module and by the name's bytes
 abbrev pub named_symbol : World → ℕ → List ℕ → Option SymbolModel
@@ -86,14 +86,14 @@ abbrev pub is_same_name_key : NameKey → NameKey → Bool
 is_same_name_key a b = nat_eq a.0 b.0 && bytes_eq a.1.now b.1.now
 
 -- the table has symbol strings of names of modules that aren't in the tree, by import item and name
-abbrev pub AreExternal : {S : Type 0} → World → IndexMap NameKey (Option (String Global)) S → Type 0
-AreExternal w texts = AreTextsByKey is_same_name_key (λ (key : NameKey). option_map canonical_text (named_symbol w key.0 key.1.now)) texts
+abbrev pub AreExternalTexts : {S : Type 0} → World → IndexMap NameKey (Option (String Global)) S → Type 0
+AreExternalTexts w texts = AreTextsByKey is_same_name_key (λ (key : NameKey). option_map canonical_text (named_symbol w key.0 key.1.now)) texts
 
 -- the strings are those of the targets outside of the module, in this package
-pub record AreForeign (w : World) (package_name : List ℕ) (t : ForeignTexts) : Type 0 where
-  pub imported : AreImported w package_name ((t.imported).texts).items
-  pub modules : AreModules w package_name (t.modules).items
-  pub names : AreExternal w t.names
+pub record AreForeignTexts (w : World) (package_name : List ℕ) (t : ForeignTexts) : Type 0 where
+  pub imported : AreImportedTexts w package_name ((t.imported).texts).items
+  pub modules : AreModuleTexts w package_name (t.modules).items
+  pub names : AreExternalTexts w t.names
 
 -- the strings are those of the module's targets, in this package
 pub record AreSymbolTexts (w : World) (package_name : List ℕ) (t : Texts) : Type 0 where
@@ -101,24 +101,24 @@ pub record AreSymbolTexts (w : World) (package_name : List ℕ) (t : Texts) : Ty
   pub own : string_bytes t.own ≡ canonical_text (global package_name (module_path (text w module_name_token)))
   pub declared : AreDeclaredTexts w package_name (length w.rows.declared) (map (option_map string_bytes) (t.declared).items)
   pub locations : (t.locations).declared.now ≡ w.rows.declared
-  pub foreign : AreForeign w package_name (t.foreign).value
+  pub foreign : AreForeignTexts w package_name (t.foreign).value
 
 -- ---- external symbols, each once
 
 -- a key: the index of an import item, with a name of its module, or without one for the module itself
-abbrev pub OutsideKey : Type 0
-OutsideKey = ℕ × Option (Bor (List ℕ))
+abbrev pub ExternalKey : Type 0
+ExternalKey = ℕ × Option (Bor (List ℕ))
 
 -- whether two keys have the same index and the same name, or no name
-abbrev pub is_same_outside_key : OutsideKey → OutsideKey → Bool
-is_same_outside_key a b = nat_eq a.0 b.0 && option_eq (λ (m n : Bor (List ℕ)). bytes_eq m.now n.now) a.1 b.1
+abbrev pub is_same_external_key : ExternalKey → ExternalKey → Bool
+is_same_external_key a b = nat_eq a.0 b.0 && option_eq (λ (m n : Bor (List ℕ)). bytes_eq m.now n.now) a.1 b.1
 
 -- the symbol information of the external symbol with this key
-abbrev pub outside_row : World → OutsideKey → Option SymbolRow
-outside_row w (item, None) = external_module w item
-outside_row w (item, Some name) = option_map (symbol_info name.now) (named_symbol w item name.now)
+abbrev pub external_row_of_key : World → ExternalKey → Option SymbolRow
+external_row_of_key w (item, None) = external_module w item
+external_row_of_key w (item, Some name) = option_map (symbol_info name.now) (named_symbol w item name.now)
 
--- some of the references, which have the symbol information of all external targets
-pub record AreEnough (w : World) (refs some : List Reference) : Type 0 where
+-- `some` are references among `refs` that have the symbol information of all external targets of `refs`
+pub record CoverExternals (w : World) (refs some : List Reference) : Type 0 where
   pub among : (r : Reference) → Contains some r → Contains refs r
   pub each : (r : Reference) (x : SymbolRow) → Contains refs r → external_row w r.target ≡ Some x → Contains (externals_in w some) x

@@ -34,38 +34,41 @@ abbrev pub module_path : List ℕ → List DescriptorModel
 module_path name = descriptor Namespace name ∷ []
 
 -- the kind of a declaration's descriptor: a type is `T#`, a procedure `p().`, and all else `x.`; an import item has none
-abbrev pub kind_of : DeclKind → Option DescriptorKind
-kind_of decl_kinds.Import = None
-kind_of decl_kinds.Constant = Some Term
-kind_of decl_kinds.Type = Some TypeName
-kind_of decl_kinds.Variable = Some Term
-kind_of decl_kinds.Procedure = Some Method
-kind_of decl_kinds.Parameter = Some Term
-kind_of decl_kinds.Field = Some Term
+abbrev pub descriptor_kind : DeclKind → Option DescriptorKind
+descriptor_kind decl_kinds.Import = None
+descriptor_kind decl_kinds.Constant = Some Term
+descriptor_kind decl_kinds.Type = Some TypeName
+descriptor_kind decl_kinds.Variable = Some Term
+descriptor_kind decl_kinds.Procedure = Some Method
+descriptor_kind decl_kinds.Parameter = Some Term
+descriptor_kind decl_kinds.Field = Some Term
 
 -- ---- paths
 
--- the last step of a declaration's path: its own descriptor, and for a field the number of its owner, the declaration whose type holds the record
+-- the last step of a declaration's path: its own descriptor, and for a field the number of its owner, the declaration whose type holds the
+-- record
 pub record PathStep : Type 0 where
   pub own : DescriptorModel
   pub owner : Option ℕ
 
 -- the step of a declaration in the module's block
 abbrev pub step_in_block : DeclKind → List ℕ → Option PathStep
-step_in_block decl_kind name = option_map (λ kind. record { own = descriptor kind name; owner = None }) (kind_of decl_kind)
+step_in_block decl_kind name = option_map (λ kind. record { own = descriptor kind name; owner = None }) (descriptor_kind decl_kind)
 
 -- the step of a field, by its number, its name and its owner's number, which is smaller
 abbrev pub step_in_record : ℕ → List ℕ → Option ℕ → Option PathStep
 step_in_record k name None = None
 step_in_record k name (Some o) = if nat_lt o k then Some (record { own = descriptor Term name; owner = Some o }) else None
 
--- the descriptors of a declaration after those of its owner, or else of the module, if this many steps suffice
+-- the descriptors of a declaration: those of its owner, or else of the module, and then its own; None if it has no step, or if this many
+-- steps don't suffice
 unfoldable pub path_within : List ℕ → (ℕ → Option PathStep) → ℕ → ℕ → Option (List DescriptorModel)
 path_within m steps zero k = None
 path_within m steps (suc n) k =
     option_and_then (λ (s : PathStep). option_map (λ (ds : List DescriptorModel). ds ++ s.own ∷ []) (option_map_or (path_within m steps n) s.owner (Some (module_path m)))) (steps k)
 
--- the descriptors of a declaration; owners have smaller numbers, so its number plus one steps suffice
+-- the descriptors of a declaration. Each owner has a smaller number than what it owns, so a path has at most as many steps as the
+-- declaration's number plus one
 abbrev pub path : List ℕ → (ℕ → Option PathStep) → ℕ → Option (List DescriptorModel)
 path m steps k = path_within m steps (suc k) k
 
@@ -105,7 +108,7 @@ declared_symbol w package_name k =
 
 -- ---- declarations of another module, by their indices in its interface
 
--- the step of a declaration of an interface, in this record if it is a field
+-- the `PathStep` of a declaration with this index in an interface: of a field of this record, or else of the module's block
 abbrev pub step_by : ModuleInterface → ℕ → Declaration → Option ℕ → Option PathStep
 step_by m d it None = step_in_block it.decl_kind it.name
 step_by m d it (Some r) = step_in_record d it.name (owner_index m r)

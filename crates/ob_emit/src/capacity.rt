@@ -4,25 +4,22 @@ ghost use Rattle.std.specs.Prelude.{◌≡◌};
 use crate::target_texts::Texts;
 use ob_targets::{Reference, Target};
 use ob_types::Types;
-
-/// A document of this many bytes or more is a large one.
-/// A small one grows by doubling. A large one reserves all that is left at once, because its bytes exist twice while they are moved.
-const LARGE: usize = 262_144;
+use scip_index::LARGE_DOCUMENT;
 
 /// The estimated number of bytes of a record without its strings, rounded up.
-const BESIDE: usize = 48;
+const RECORD_OVERHEAD: usize = 48;
 
 /// The estimated number of bytes of the record of a target: by the length of its symbol string, or `mean` if hint 0 doesn't find that
 /// string.
 fn record_size(types: &Types<'_>, texts: &Texts<'_>, target: Target, mean: usize) -> usize {
-    match texts.known(types, target, 0) {
-        Some(Some(symbol)) => symbol.len().saturating_add(BESIDE),
+    match texts.stored_symbol(types, target, 0) {
+        Some(Some(symbol)) => symbol.len().saturating_add(RECORD_OVERHEAD),
         Some(None) => 0,
         None => mean,
     }
 }
 
-/// The estimated number of bytes of the records of these occurrences; `mean` is the mean size of those written so far.
+/// The estimated number of bytes of the records of these occurrences; `mean` is the mean size of the records written so far.
 fn occurrences_size(
     types: &Types<'_>,
     texts: &Texts<'_>,
@@ -42,14 +39,15 @@ fn symbols_size(types: &Types<'_>, texts: &Texts<'_>, refs: &[Reference]) -> usi
     for reference in refs {
         if reference.role == 1 {
             size = size
-                .saturating_add(record_size(types, texts, reference.target, BESIDE))
+                .saturating_add(record_size(types, texts, reference.target, RECORD_OVERHEAD))
                 .saturating_add(types.text(reference.number).len());
         }
     }
     size
 }
 
-/// The number of processed references, the maximum number of bytes of one of their records, and whether the last reservation failed.
+/// The number of processed references, the number of bytes of the longest record since the document is large, and whether the last
+/// reservation failed.
 #[derive(Clone, Copy)]
 pub(crate) struct CapacityPlan {
     done: usize,
@@ -66,7 +64,7 @@ impl CapacityPlan {
         }
     }
 
-    /// Reserves capacity for all that is left, and spare capacity so that few further estimates are needed if some records are longer.
+    /// Reserves capacity for all remaining records, and spare capacity so that few further estimates are needed if some records are longer.
     #[inline(never)]
     fn reserve_rest(
         &mut self,
@@ -82,14 +80,18 @@ impl CapacityPlan {
         let size = occurrences_size(types, texts, left, mean).saturating_add(symbols_size(
             types, texts, refs,
         ));
-        let spare = self.longest.saturating_add(BESIDE).saturating_mul(2);
+        let spare = self
+            .longest
+            .saturating_add(RECORD_OVERHEAD)
+            .saturating_mul(2);
         let more = size.max(out.len() / 8).saturating_add(spare);
         self.refused = out.reserve_exact(more).is_err();
     }
 
-    /// Counts a reference whose record begins at index `start`, and reserves capacity if the next record might not fit.
+    /// Counts a reference whose record begins at index `start`. Reserves more capacity if a large document might lack it for the next
+    /// record.
     #[inline(always)]
-    pub(crate) fn pass(
+    pub(crate) fn count_record(
         &mut self,
         out: &mut Vec<u8>,
         start: usize,
@@ -100,12 +102,12 @@ impl CapacityPlan {
         ensures { out.new.items ≡ out.old.items }
     {
         self.done = self.done.saturating_add(1);
-        if out.len() < LARGE || self.refused {
+        if out.len() < LARGE_DOCUMENT || self.refused {
             return;
         }
         self.longest = self.longest.max(out.len().saturating_sub(start));
         let free = out.capacity().saturating_sub(out.len());
-        if free < self.longest.saturating_add(BESIDE) {
+        if free < self.longest.saturating_add(RECORD_OVERHEAD) {
             self.reserve_rest(out, types, texts, refs);
         }
     }
@@ -120,20 +122,9 @@ pub(crate) fn reserve_symbols(
 )
     ensures { out.new.items ≡ out.old.items }
 {
-    if out.len() < LARGE {
+    if out.len() < LARGE_DOCUMENT {
         return;
     }
-    let more = symbols_size(types, texts, refs).saturating_add(BESIDE);
+    let more = symbols_size(types, texts, refs).saturating_add(RECORD_OVERHEAD);
     let _hint = out.reserve_exact(more);
-}
-
-/// Shrinks the capacity of a document's bytes to their length. A large document keeps up to an eighth of its length as spare capacity.
-/// Its bytes would exist twice while it is shrunk.
-pub(crate) fn cut(bytes: &mut Vec<u8>)
-    ensures { bytes.new.items ≡ bytes.old.items }
-{
-    let spare = bytes.capacity().saturating_sub(bytes.len());
-    if bytes.len() < LARGE || spare > bytes.len() / 8 {
-        bytes.shrink_to_fit();
-    }
 }

@@ -27,7 +27,7 @@ pub(crate) struct DeclarationIndex<'a> {
 }
 
 /// The index of the first declaration from a token on, by a linear search from an index before which all declarations are earlier.
-fn first_from(declared: &[Declared], from: usize, number: usize) -> usize
+fn first_index_from(declared: &[Declared], from: usize, number: usize) -> usize
     requires ascend { IsIncreasingBy (λ (d : Declared). d.number) declared.now }
     requires before { AreBefore declared.now number from }
     ensures { IsBoundary declared.now number result }
@@ -40,7 +40,11 @@ fn first_from(declared: &[Declared], from: usize, number: usize) -> usize
 }
 
 /// For each of the first `count` multiples of the stride, the index of the first declaration from that token on.
-fn firsts_of(alloc: Global, declared: &[Declared], count: usize) -> Result<Vec<usize>, AllocError>
+fn stride_starts(
+    alloc: Global,
+    declared: &[Declared],
+    count: usize,
+) -> Result<Vec<usize>, AllocError>
     requires ascend { IsIncreasingBy (λ (d : Declared). d.number) declared.now }
     requires few { count < 4294967296 }
     ensures { IfOk result (λ firsts. AreBoundaries declared.now firsts.items) }
@@ -48,14 +52,14 @@ fn firsts_of(alloc: Global, declared: &[Declared], count: usize) -> Result<Vec<u
     let mut firsts = Vec::with_capacity(alloc, count)?;
     let mut place = 0;
     for mark in 0..count {
-        place = first_from(declared, place, mark * STRIDE);
+        place = first_index_from(declared, place, mark * STRIDE);
         firsts.push(place)?;
     }
     Ok(firsts)
 }
 
 /// The index of the declaration of this token, if there is one, by a linear search between two indices.
-fn index_between(declared: &[Declared], low: usize, high: usize, number: u32) -> Option<usize>
+fn find_between(declared: &[Declared], low: usize, high: usize, number: u32) -> Option<usize>
     requires before { AreBefore declared.now number low }
     requires behind { AreAfter declared.now number high }
     ensures found { IfSome result (IsIndexBy (λ (d : Declared). d.number) declared.now number) }
@@ -82,7 +86,7 @@ impl<'a> DeclarationIndex<'a> {
         ensures { IfOk result (λ p. p.declared.now ≡ declared.now) }
     {
         let count = tokens.min(u32::MAX as usize) / STRIDE + 2;
-        let firsts = firsts_of(alloc, declared, count)?;
+        let firsts = stride_starts(alloc, declared, count)?;
         let recent = vec![in alloc; 0; RECENT]?;
         Ok(DeclarationIndex {
             declared,
@@ -109,7 +113,7 @@ impl<'a> DeclarationIndex<'a> {
         ensures none { IfNone result (HasNoneBy (λ (d : Declared). d.number) self.now.declared.now number) }
     {
         match self.bounds(number) {
-            Some((low, high)) => index_between(self.declared, low, high, number),
+            Some((low, high)) => find_between(self.declared, low, high, number),
             None => index_of(self.declared, number),
         }
     }
@@ -143,12 +147,12 @@ impl<'a> DeclarationIndex<'a> {
     }
 
     /// Finds the index of the declaration of this token and stores it in the cache. Returns it, or 0 if there is none.
-    fn remember(&mut self, number: u32) -> usize
+    fn store_in_cache(&mut self, number: u32) -> usize
         ensures { self.new.declared ≡ self.old.declared }
     {
         let place = self.index_of(number).unwrap_or(0);
-        if let Some(stored_text) = self.recent.get_mut(number as usize % RECENT) {
-            *stored_text = place;
+        if let Some(cached) = self.recent.get_mut(number as usize % RECENT) {
+            *cached = place;
         }
         place
     }
@@ -164,6 +168,6 @@ impl<'a> DeclarationIndex<'a> {
         if self.is_at(hint, number) {
             return hint;
         }
-        self.remember(number)
+        self.store_in_cache(number)
     }
 }

@@ -24,7 +24,7 @@ use scip_index::{Document, Occurrence, SymbolInfo};
 use std::alloc::{AllocError, Global};
 
 /// Whether no symbol string can contain this package: it is `.` or begins with a space.
-pub(crate) fn is_bad(package_name: &str) -> bool
+pub(crate) fn is_bad_package(package_name: &str) -> bool
     ensures { result ≡ is_wrong_part package_name.now }
 {
     package_name == "." || package_name.starts_with(' ')
@@ -145,7 +145,7 @@ fn document_at(
 }
 
 /// The document of a module at this path, from the strings of its symbols.
-fn document_with(
+fn document_from_texts(
     alloc: Global,
     path: &str,
     types: &Types<'_>,
@@ -164,7 +164,7 @@ fn document_with(
 }
 
 /// The document of a module at this path, in a package that symbol strings can contain.
-fn document_in(
+fn document_in_package(
     alloc: Global,
     path: &str,
     types: &Types<'_>,
@@ -178,7 +178,7 @@ fn document_in(
     ensures { IfOk result (λ d. document_model d ≡ document_of types.now path.now package_name.now refs.now) }
 {
     let texts = Texts::new(alloc, types, refs, package_name)?;
-    document_with(alloc, path, types, refs, &texts)
+    document_from_texts(alloc, path, types, refs, &texts)
 }
 
 /// Makes the document of a module at this path from its references (scip.proto, `Document`): its occurrences, and the symbols that it
@@ -207,8 +207,8 @@ pub fn document(
     // The result is `BadPackage` if and only if the package is `.` or begins with a space.
     ensures bad_package { (result ≡ Err BadPackage) ↔ (is_wrong_part package_name.now ≡ true) }
 {
-    if is_bad(package_name) {
+    if is_bad_package(package_name) {
         return Err(EmitFault::BadPackage);
     }
-    Ok(document_in(alloc, path, types, refs, package_name)?)
+    Ok(document_in_package(alloc, path, types, refs, package_name)?)
 }

@@ -2,11 +2,11 @@
 ghost use Rattle.std.specs.Prelude.{◌≡◌, ℕ, List, IfOk, OnOk, []};
 ghost use Rattle.ob_targets.specs.declared.target.Target.TheVariants.{External};
 ghost use Rattle.ob_types.specs.World.{text};
-ghost use Rattle.ob_emit.specs.StoredTexts.{prefix_text, AreExternal, ArePrefixes, AreModules, AreForeign};
+ghost use Rattle.ob_emit.specs.StoredTexts.{prefix_text, AreExternalTexts, ArePrefixes, AreModuleTexts, AreForeignTexts};
 ghost use Rattle.ob_emit.specs.Named.{NamesAreIdentifiers, IsName};
 
 use crate::imported_cache::ImportedTexts;
-use crate::module_texts::{external_text, item_text};
+use crate::module_texts::{external_text, imported_module_text};
 use crate::prefixes::Prefixes;
 use indexmap::IndexMap;
 use ob_targets::{Reference, Target};
@@ -27,7 +27,7 @@ pub(crate) struct ForeignTexts<'a> {
 
 /// The seed of a hash table of external modules and their names. The module's author chooses the keys, so a large table's seed depends on
 /// the bytes.
-pub(crate) fn outside_seed(types: &Types<'_>, refs: &[Reference]) -> Seed {
+pub(crate) fn external_table_seed(types: &Types<'_>, refs: &[Reference]) -> Seed {
     let mut most = types.table().imports().len();
     for reference in refs {
         if let Target::External { .. } = reference.target {
@@ -44,18 +44,18 @@ fn module_texts(
     prefixes: &Prefixes,
 ) -> Result<Vec<Option<String>>, AllocError>
     requires { NamesAreIdentifiers types.now }
-    ensures { (package_name : List ℕ) → ArePrefixes package_name prefixes.now → IfOk result (λ texts. AreModules types.now package_name texts.items) }
+    ensures { (package_name : List ℕ) → ArePrefixes package_name prefixes.now → IfOk result (λ texts. AreModuleTexts types.now package_name texts.items) }
 {
     let count = types.table().imports().len().min(u32::MAX as usize);
     let mut texts = Vec::with_capacity(alloc, count)?;
     for item in 0..count as u32 {
-        texts.push(item_text(alloc, types, prefixes, item)?)?;
+        texts.push(imported_module_text(alloc, types, prefixes, item)?)?;
     }
     Ok(texts)
 }
 
 /// Stores the symbol string of a name of a module that isn't in the tree, unless it is stored already. Returns 0, as no index is needed.
-fn add_name<'a>(
+fn intern_external_name<'a>(
     alloc: Global,
     types: &Types<'a>,
     outside: &str,
@@ -64,7 +64,7 @@ fn add_name<'a>(
 ) -> Result<usize, AllocError>
     requires named { NamesAreIdentifiers types.now }
     requires of_name { IsName key.1.now }
-    ensures { outside.now ≡ prefix_text [] → AreExternal types.now texts.old → OnOk result (AreExternal types.now texts.new) }
+    ensures { outside.now ≡ prefix_text [] → AreExternalTexts types.now texts.old → OnOk result (AreExternalTexts types.now texts.new) }
 {
     if texts.contains_key(&key) {
         return Ok(0);
@@ -83,7 +83,7 @@ impl<'a> ForeignTexts<'a> {
         seed: Seed,
     ) -> Result<Box<ForeignTexts<'a>>, AllocError>
         requires { NamesAreIdentifiers types.now }
-        ensures { (package_name : List ℕ) → ArePrefixes package_name prefixes.now → IfOk result (λ texts. AreForeign types.now package_name texts.value) }
+        ensures { (package_name : List ℕ) → ArePrefixes package_name prefixes.now → IfOk result (λ texts. AreForeignTexts types.now package_name texts.value) }
     {
         let texts = ForeignTexts {
             imported: ImportedTexts::new(alloc)?,
@@ -104,8 +104,8 @@ impl<'a> ForeignTexts<'a> {
     ) -> Result<usize, AllocError>
         requires named { NamesAreIdentifiers types.now }
         requires external { (item name : ℕ) → target ≡ External item name → IsName (text types.now name) }
-        ensures { (package_name : List ℕ) → ArePrefixes package_name prefixes.now → AreForeign types.now package_name self.old →
-            OnOk result (AreForeign types.now package_name self.new) }
+        ensures { (package_name : List ℕ) → ArePrefixes package_name prefixes.now → AreForeignTexts types.now package_name self.old →
+            OnOk result (AreForeignTexts types.now package_name self.new) }
     {
         match target {
             Target::Imported {
@@ -114,7 +114,7 @@ impl<'a> ForeignTexts<'a> {
             } => self
                 .imported
                 .intern(alloc, types, prefixes.tree.as_str(), reached, declaration),
-            Target::External { item, name } => add_name(
+            Target::External { item, name } => intern_external_name(
                 alloc,
                 types,
                 prefixes.outside.as_str(),

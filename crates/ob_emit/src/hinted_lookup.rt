@@ -12,7 +12,8 @@ use ob_types::Types;
 /// The number of entries that are tried before the binary search.
 const MAX_PROBES: usize = 4;
 
-/// The line, the identifier and the construct that a pass found last. They are hints: the results don't depend on them.
+/// The line, and the indices of the identifier and of the declaration group, that a pass found last. They are hints: the results don't
+/// depend on them.
 #[derive(Clone, Copy, Drop)]
 pub(crate) struct Hints {
     pub(crate) line: u32,
@@ -59,8 +60,8 @@ fn row_by_hint<'r, T: Keyed>(rows: &'r [T], hint: &mut usize, number: u32) -> Op
     Some(&rows[at])
 }
 
-/// The construct that declares and begins with this token. The search begins at index `hint`.
-pub(crate) fn declarer_by_hint(table: &Table, hint: &mut usize, first: u32) -> Option<DeclGroup>
+/// The declaration group that begins with this token. The search begins at index `hint`.
+pub(crate) fn decl_group_by_hint(table: &Table, hint: &mut usize, first: u32) -> Option<DeclGroup>
     ensures { result ≡ find (λ (by : DeclGroup). by.first == first) (rows_in table.now).decl_groups }
 {
     table.invariants();
@@ -75,8 +76,8 @@ fn declared_by_hint(table: &Table, hint: &mut usize, number: u32) -> Option<Decl
     row_by_hint(table.declared(), hint, number).copied()
 }
 
-/// The construct that declares this token. The searches begin at what the pass found last.
-pub(crate) fn declarer_of_hinted(
+/// The declaration group of the identifier with this token. The searches begin at the entries that the pass found last.
+pub(crate) fn decl_group_of_hinted(
     types: &Types<'_>,
     hint: &mut Hints,
     number: u32,
@@ -84,5 +85,5 @@ pub(crate) fn declarer_of_hinted(
     ensures { result ≡ decl_group_of types.now number }
 {
     let declared = declared_by_hint(types.table(), &mut hint.identifier, number)?;
-    declarer_by_hint(types.table(), &mut hint.construct, declared.declared_by)
+    decl_group_by_hint(types.table(), &mut hint.construct, declared.declared_by)
 }

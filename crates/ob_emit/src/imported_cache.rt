@@ -4,7 +4,7 @@ ghost use Rattle.std.specs.Option.{option_map};
 ghost use Rattle.std.specs.String.{string_bytes};
 ghost use Rattle.scip_symbol.specs.SymbolTexts.{canonical_text};
 ghost use Rattle.ob_types.specs.World.{World};
-ghost use Rattle.ob_emit.specs.StoredTexts.{prefix_text, AreImported};
+ghost use Rattle.ob_emit.specs.StoredTexts.{prefix_text, AreImportedTexts};
 ghost use Rattle.ob_emit.specs.Named.{NamesAreIdentifiers};
 ghost use Rattle.ob_emit.specs.Symbols.{imported_symbol};
 
@@ -25,7 +25,7 @@ pub(crate) struct ImportedText {
 /// A map from the key of a declaration to the index of its string. The first keys are in a hash table.
 /// The others are in a B-tree: there a module's author can't make lookups slow by a choice of keys that collide.
 #[derive(Drop)]
-struct Slots {
+struct SlotMap {
     few: IndexMap<u64, usize>,
     more: BTreeMap<u64, usize>,
 }
@@ -34,7 +34,7 @@ struct Slots {
 #[derive(Drop)]
 pub(crate) struct ImportedTexts {
     pub(crate) texts: Vec<ImportedText>,
-    slots: Slots,
+    slots: SlotMap,
     /// A direct-mapped cache of the indices found last, by some bits of both indices of the declaration. Each is checked before use.
     recent: Vec<usize>,
 }
@@ -46,7 +46,7 @@ const RECENT: usize = 128;
 const MAX_HASHED: usize = 1024;
 
 /// The key of a declaration: both indices in one number.
-fn key_of(reached: u32, declaration: u32) -> u64 {
+fn declaration_key(reached: u32, declaration: u32) -> u64 {
     u64::from(reached) * 4_294_967_296 + u64::from(declaration)
 }
 
@@ -55,10 +55,10 @@ fn cache_slot(reached: u32, declaration: u32) -> usize {
     reached.wrapping_mul(31).wrapping_add(declaration) as usize % RECENT
 }
 
-impl Slots {
+impl SlotMap {
     /// The empty map.
-    fn none(alloc: Global) -> Slots {
-        Slots {
+    fn none(alloc: Global) -> SlotMap {
+        SlotMap {
             few: IndexMap::new(alloc),
             more: BTreeMap::new(alloc),
         }
@@ -90,14 +90,14 @@ impl ImportedTexts {
     {
         Ok(ImportedTexts {
             texts: Vec::new(alloc),
-            slots: Slots::none(alloc),
+            slots: SlotMap::none(alloc),
             recent: vec![in alloc; 0; RECENT]?,
         })
     }
 
     /// The string at this index, if it is that of this declaration.
     pub(crate) fn at(&self, slot: usize, reached: u32, declaration: u32) -> Option<&Option<String>>
-        ensures { (w : World) (package_name : List ℕ) → AreImported w package_name self.now.texts.items →
+        ensures { (w : World) (package_name : List ℕ) → AreImportedTexts w package_name self.now.texts.items →
             IfSome result (λ text. option_map string_bytes text.now ≡ option_map canonical_text (imported_symbol w package_name reached declaration)) }
     {
         let row = self.texts.get(slot)?;
@@ -111,12 +111,12 @@ impl ImportedTexts {
     }
 
     /// The index of this declaration's string, if the map has it.
-    fn slot_of(&self, reached: u32, declaration: u32) -> Option<usize> {
-        self.slots.get(key_of(reached, declaration))
+    fn find_slot(&self, reached: u32, declaration: u32) -> Option<usize> {
+        self.slots.get(declaration_key(reached, declaration))
     }
 
     /// The index in this declaration's cache entry. It may be that of another declaration.
-    fn recent_slot(&self, reached: u32, declaration: u32) -> usize {
+    fn cached_slot(&self, reached: u32, declaration: u32) -> usize {
         match self.recent.get(cache_slot(reached, declaration)) {
             Some(slot) => *slot,
             None => 0,
@@ -125,15 +125,15 @@ impl ImportedTexts {
 
     /// The string of this declaration, if it is stored.
     pub(crate) fn stored_text(&self, reached: u32, declaration: u32) -> Option<&Option<String>>
-        ensures { (w : World) (package_name : List ℕ) → AreImported w package_name self.now.texts.items →
+        ensures { (w : World) (package_name : List ℕ) → AreImportedTexts w package_name self.now.texts.items →
             IfSome result (λ text. option_map string_bytes text.now ≡ option_map canonical_text (imported_symbol w package_name reached declaration)) }
     {
-        let slot = self.slot_of(reached, declaration)?;
+        let slot = self.find_slot(reached, declaration)?;
         self.at(slot, reached, declaration)
     }
 
     /// Stores the index of this declaration's string in the cache.
-    fn remember(&mut self, reached: u32, declaration: u32, slot: usize)
+    fn store_in_cache(&mut self, reached: u32, declaration: u32, slot: usize)
         ensures { self.new.texts ≡ self.old.texts }
     {
         if let Some(place) = self.recent.get_mut(cache_slot(reached, declaration)) {
@@ -151,8 +151,8 @@ impl ImportedTexts {
         declaration: u32,
     ) -> Result<usize, AllocError>
         requires { NamesAreIdentifiers types.now }
-        ensures { (package_name : List ℕ) → prefix.now ≡ prefix_text package_name → AreImported types.now package_name self.old.texts.items →
-            OnOk result (AreImported types.now package_name self.new.texts.items) }
+        ensures { (package_name : List ℕ) → prefix.now ≡ prefix_text package_name → AreImportedTexts types.now package_name self.old.texts.items →
+            OnOk result (AreImportedTexts types.now package_name self.new.texts.items) }
     {
         let text = imported_text(alloc, types, prefix, reached, declaration)?;
         let slot = self.texts.len();
@@ -161,7 +161,8 @@ impl ImportedTexts {
             declaration,
             text,
         })?;
-        self.slots.insert(key_of(reached, declaration), slot)?;
+        self.slots
+            .insert(declaration_key(reached, declaration), slot)?;
         Ok(slot)
     }
 
@@ -175,10 +176,10 @@ impl ImportedTexts {
         declaration: u32,
     ) -> Result<usize, AllocError>
         requires { NamesAreIdentifiers types.now }
-        ensures { (package_name : List ℕ) → prefix.now ≡ prefix_text package_name → AreImported types.now package_name self.old.texts.items →
-            OnOk result (AreImported types.now package_name self.new.texts.items) }
+        ensures { (package_name : List ℕ) → prefix.now ≡ prefix_text package_name → AreImportedTexts types.now package_name self.old.texts.items →
+            OnOk result (AreImportedTexts types.now package_name self.new.texts.items) }
     {
-        match self.slot_of(reached, declaration) {
+        match self.find_slot(reached, declaration) {
             Some(slot) => Ok(slot),
             None => self.add(alloc, types, prefix, reached, declaration),
         }
@@ -194,15 +195,15 @@ impl ImportedTexts {
         declaration: u32,
     ) -> Result<usize, AllocError>
         requires { NamesAreIdentifiers types.now }
-        ensures { (package_name : List ℕ) → prefix.now ≡ prefix_text package_name → AreImported types.now package_name self.old.texts.items →
-            OnOk result (AreImported types.now package_name self.new.texts.items) }
+        ensures { (package_name : List ℕ) → prefix.now ≡ prefix_text package_name → AreImportedTexts types.now package_name self.old.texts.items →
+            OnOk result (AreImportedTexts types.now package_name self.new.texts.items) }
     {
-        let hint = self.recent_slot(reached, declaration);
+        let hint = self.cached_slot(reached, declaration);
         if self.at(hint, reached, declaration).is_some() {
             return Ok(hint);
         }
         let slot = self.lookup(alloc, types, prefix, reached, declaration)?;
-        self.remember(reached, declaration, slot);
+        self.store_in_cache(reached, declaration, slot);
         Ok(slot)
     }
 }

@@ -9,7 +9,7 @@ ghost use Rattle.table_rules.specs.Declaring.{rows_of};
 ghost use Rattle.module_table.specs.Order.{AreRowsSorted};
 ghost use Rattle.module_table.specs.Parts.{Rows};
 ghost use Rattle.ob_interface.specs.Interfaces.{interface_of, Declaration, ModuleInterface};
-ghost use Rattle.ob_scope.specs.Scoped.{AreScopes, ModuleScopes};
+ghost use Rattle.scopes.specs.Scoped.{AreScopes, ModuleScopes};
 ghost use Rattle.ob_targets.specs.declared.target.Reference.{Reference};
 ghost use Rattle.ob_targets.specs.declared.target.Target.{Target};
 ghost use Rattle.ob_targets.specs.declared.target.Target.TheVariants.{External, Imported};
@@ -17,7 +17,7 @@ ghost use Rattle.ob_targets.specs.Refers.{AreReferences};
 ghost use Rattle.ob_types.specs.World.{imported_declaration, text, World};
 ghost use Rattle.scip_symbol.specs.Outcomes.{is_wrong_part};
 ghost use Rattle.scip_symbol.specs.SymbolTexts.{canonical_text, SymbolModel, SymbolText};
-ghost use Rattle.ob_emit.specs.Apart.{exported_tokens, DeclaresOnce, IsLocal};
+ghost use Rattle.ob_emit.specs.DistinctSymbols.{exported_tokens, DeclaresOnce, IsLocal};
 ghost use Rattle.ob_emit.specs.Documents.{enclosing_range};
 ghost use Rattle.ob_emit.specs.Named.{NamesAreIdentifiers, ReferencesAreIdentifiers, HasNames, IsName};
 ghost use Rattle.ob_emit.specs.Symbols.{declared_symbol, imported_symbol, is_of_another_module, denotes_something, symbol_of};
@@ -44,7 +44,7 @@ pub fn trees_declare_once()
 {}
 
 /// The symbol of a target has a string, if names are identifiers, the package is valid, and fewer than 2^64 identifiers are declared.
-/// Documents contain the canonical one. So no two of these symbols have one string (`different_texts` of `scip_symbol`).
+/// Documents contain the canonical one. So no two of these symbols have one string (`canonical_texts_differ` of `scip_symbol`).
 /// A valid package isn't `.` and doesn't begin with a space.
 pub fn symbols_have_texts()
     // If names are identifiers, the package is valid and fewer than 2^64 identifiers are declared, the canonical string of a target's
@@ -60,11 +60,11 @@ pub fn definitions_have_ranges()
         → symbol_of w package_name r.target ≡ Some s → enclosing_range w r ≢ [] }
 {}
 
-/// Two declarations, also fields, have one symbol only if they are in modules of different names and both symbols are local.
+/// In modules that declare nothing twice, two declarations of one module, also fields, have different symbols. Declarations of modules of
+/// different names have one symbol only if it is local.
 /// The modules of a tree have different names. So each global symbol is that of one declaration of the tree, and each local one that of one
 /// declaration of its document.
-/// Import items have no symbol of their own.
-/// The symbol strings in documents and queries differ like the symbols, if names are identifiers and the package is valid.
+/// The canonical strings of symbols differ as the symbols do, if names are identifiers and the package is valid.
 pub fn one_declaration()
     // In a module that declares nothing twice, two tokens whose declarations have one symbol are equal.
     ensures here { (w : World) (package_name : List ℕ) (k j : ℕ) (s : SymbolModel) → DeclaresOnce w → declared_symbol w package_name k ≡ Some s → declared_symbol w package_name j ≡ Some s → k ≡ j }
@@ -81,7 +81,7 @@ pub fn one_declaration()
 {}
 
 /// A declaration in a module's interface, also a field, has for other modules the symbol that it has in its own module.
-/// So what one file defines is found from any other. The module's table is that of its tree, with sorted entries.
+/// So a query in any file finds what another file defines. The module's table is that of its tree, with sorted entries.
 pub fn one_symbol()
     // The symbol that another module gives the declaration at an index of the interface is that of the token that it declares.
     ensures { (w v : World) (m : Module) (package_name : List ℕ) (i d k : ℕ) (it : Declaration) → v.rows ≡ rows_of m → AreRowsSorted v.rows → slice_get w.reached i ≡ Some (interface_of v.bytes v.tokens v.rows)
@@ -89,8 +89,8 @@ pub fn one_symbol()
 {}
 
 /// Each identifier of a tree has a symbol, unless it is predeclared or unresolved.
-/// So a module's document, which leaves out identifiers without a symbol, leaves out no others.
-/// What another module of the tree declares, also a field, is in that module's interface, and has a symbol.
+/// So a module's document, which leaves out identifiers without a symbol, leaves out exactly the predeclared and the unresolved ones.
+/// A declaration of another module of the tree that an identifier denotes, also a field, is in that module's interface, and has a symbol.
 /// The tables of both modules are those of their trees, with sorted entries.
 pub fn some_symbol()
     // A reference to anything but a declaration of another module has a symbol if and only if it is neither predeclared nor unresolved.

@@ -3,53 +3,21 @@ ghost use Rattle.std.specs.Prelude.{◌≡◌, ◌≤◌, ◌<◌, ◌^◌, ℕ,
 ghost use Rattle.ob_scan.specs.Position.{line_starts};
 ghost use Rattle.ob_scan.specs.Spelling.{AreInText};
 ghost use Rattle.ob_emit.specs.Documents.{column_of, construct_range, enclosing_range, line_number, range_of, span_of};
-ghost use Rattle.ob_emit.specs.Ranges.{numbers_in, numbers_of, SpanFits};
+ghost use Rattle.scip_index.specs.Ranges.{numbers_in, numbers_of, SpanFits};
 
-use crate::hinted_lookup::{Hints, declarer_of_hinted};
-use crate::ranges::ends_of;
+use crate::hinted_lookup::{Hints, decl_group_of_hinted};
+use crate::ranges::token_offsets;
 use ob_scan::{Lines, Position};
 use ob_targets::{Reference, Target};
 use ob_types::Types;
-
-/// The numbers of a range (scip.proto, `Occurrence.range`), lines and columns from 0.
-#[derive(Clone, Copy)]
-pub(crate) enum Range {
-    /// No range.
-    Nowhere,
-    /// On one line: the line, and the columns of the start and of the end.
-    OnLine([i32; 3]),
-    /// Over several lines: line and column of the start, line and column of the end.
-    OverLines([i32; 4]),
-}
-
-/// The line and the column of a start, and the line (`last`) and the column (`end`) of an end.
-#[derive(Clone, Copy)]
-pub(crate) struct TokenSpan {
-    pub(crate) line: u32,
-    pub(crate) column: u32,
-    pub(crate) last: u32,
-    pub(crate) end: u32,
-}
-
-/// The range with this start and end.
-pub(crate) fn range_by(span: &TokenSpan) -> Range
-    requires { SpanFits span.now }
-    ensures { numbers_of result ≡ numbers_in span.now }
-{
-    let (line, column, last, end) = (span.line, span.column, span.last, span.end);
-    if line == last {
-        Range::OnLine([line as i32, column as i32, end as i32])
-    } else {
-        Range::OverLines([line as i32, column as i32, last as i32, end as i32])
-    }
-}
+use scip_index::{Range, TokenSpan};
 
 /// The line and the column of an offset. The search begins at the line `hint`, where the line is then stored.
 fn position_by_hint(lines: &Lines, hint: &mut u32, offset: u32) -> Position
     ensures line { (bytes : List ℕ) → lines.now ≡ line_starts bytes → offset ≤ length bytes → result.line ≡ line_number bytes offset }
     ensures column { (bytes : List ℕ) → lines.now ≡ line_starts bytes → offset ≤ length bytes → result.column ≡ column_of bytes offset }
 {
-    lines.lookup_position(hint, offset)
+    lines.position_from_hint(hint, offset)
 }
 
 /// From the start of one token to the end of another. The search begins at the line `hint`.
@@ -60,8 +28,8 @@ fn span_of(types: &Types<'_>, lines: &Lines, hint: &mut u32, first: usize, last:
     ensures numbers { numbers_in result ≡ span_of types.now first last }
     ensures fits { SpanFits result }
 {
-    let (start, _) = ends_of(types, first);
-    let (_, end) = ends_of(types, last);
+    let (start, _) = token_offsets(types, first);
+    let (_, end) = token_offsets(types, last);
     let from = position_by_hint(lines, hint, start);
     let to = position_by_hint(lines, hint, end);
     TokenSpan {
@@ -72,7 +40,7 @@ fn span_of(types: &Types<'_>, lines: &Lines, hint: &mut u32, first: usize, last:
     }
 }
 
-/// The range of the construct that declares a target. The searches begin at what the pass found last.
+/// The range of the construct that declares a target. The searches begin at the entries that the pass found last.
 fn construct_range(types: &Types<'_>, lines: &Lines, hint: &mut Hints, target: Target) -> Range
     requires in_text { AreInText types.now.bytes types.now.tokens }
     requires short { length types.now.bytes < 2 ^ 31 }
@@ -81,16 +49,16 @@ fn construct_range(types: &Types<'_>, lines: &Lines, hint: &mut Hints, target: T
 {
     let mut line = hint.line;
     match target {
-        Target::Declared(number) => match declarer_of_hinted(types, hint, number) {
+        Target::Declared(number) => match decl_group_of_hinted(types, hint, number) {
             Some(by) => {
                 let (first, last) = (by.first as usize, by.last as usize);
-                range_by(&span_of(types, lines, &mut line, first, last))
+                span_of(types, lines, &mut line, first, last).range()
             }
             None => Range::Nowhere,
         },
         Target::Own => {
             let last = types.tokens().len().saturating_sub(1);
-            range_by(&span_of(types, lines, &mut line, 0, last))
+            span_of(types, lines, &mut line, 0, last).range()
         }
         Target::Imported { .. } => Range::Nowhere,
         Target::External { .. } => Range::Nowhere,
@@ -100,7 +68,7 @@ fn construct_range(types: &Types<'_>, lines: &Lines, hint: &mut Hints, target: T
     }
 }
 
-/// The range of the whole declaration, if the reference is a declaration. The searches begin at what the pass found last.
+/// The range of the whole declaration, if the reference is a declaration. The searches begin at the entries that the pass found last.
 pub(crate) fn enclosing_range(
     types: &Types<'_>,
     lines: &Lines,

@@ -7,11 +7,11 @@ ghost use Rattle.ob_emit.specs.StoredTexts.{prefix_text, named_symbol, path_text
 ghost use Rattle.ob_emit.specs.Named.{NamesAreIdentifiers, IsName};
 ghost use Rattle.ob_emit.specs.Symbols.{module_path, module_symbol};
 
-use crate::own::import_at;
-use crate::path::{capacity_for, name_of};
+use crate::own_declarations::import_at;
+use crate::path::{initial_capacity, name_of};
 use crate::prefixes::Prefixes;
 use ob_types::Types;
-use scip_symbol::{DescriptorKind, push_step};
+use scip_symbol::{DescriptorKind, append_simple_descriptor};
 use std::alloc::{AllocError, Global};
 
 /// The symbol string of a module with this prefix and name.
@@ -19,14 +19,14 @@ pub(crate) fn module_text(alloc: Global, prefix: &str, name: &[u8]) -> Result<St
     requires { IsName name.now }
     ensures { IfOk result (λ text. string_bytes text ≡ prefix.now ++ path_text (module_path name.now)) }
 {
-    let mut out = String::with_capacity(alloc, capacity_for(prefix, name))?;
+    let mut out = String::with_capacity(alloc, initial_capacity(prefix, name))?;
     out.push_str(prefix)?;
-    push_step(&mut out, DescriptorKind::Namespace, name_of(name))?;
+    append_simple_descriptor(&mut out, DescriptorKind::Namespace, name_of(name))?;
     Ok(out)
 }
 
 /// The symbol string of the module that an import item names.
-pub(crate) fn item_text(
+pub(crate) fn imported_module_text(
     alloc: Global,
     types: &Types<'_>,
     prefixes: &Prefixes,
@@ -64,6 +64,6 @@ pub(crate) fn external_text(
         return Ok(None);
     };
     let mut out = module_text(alloc, outside, types.text(import.imported))?;
-    push_step(&mut out, DescriptorKind::Term, name_of(name))?;
+    append_simple_descriptor(&mut out, DescriptorKind::Term, name_of(name))?;
     Ok(Some(out))
 }

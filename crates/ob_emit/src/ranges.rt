@@ -3,10 +3,11 @@ ghost use Rattle.std.specs.Prelude.{◌≡◌, ◌≤◌, ◌<◌, ◌^◌, IfOk
 ghost use Rattle.ob_scan.specs.Position.{line_starts};
 ghost use Rattle.ob_scan.specs.Spelling.{AreInText};
 ghost use Rattle.ob_scan.specs.Texts.{token_at};
-ghost use Rattle.ob_emit.specs.Documents.{column_of, construct_range, enclosing_range, line_number, range_by, range_of, span_of};
+ghost use Rattle.ob_emit.specs.Documents.{column_of, construct_range, enclosing_range, line_number, range_of, span_of};
+ghost use Rattle.scip_index.specs.Ranges.{range_between};
 ghost use Rattle.std.specs.Prelude.{List, ℕ};
 
-use crate::own::decl_group_of;
+use crate::own_declarations::decl_group_of;
 use ob_scan::{Lines, Position};
 use ob_targets::{Reference, Target};
 use ob_types::Types;
@@ -21,7 +22,7 @@ pub(crate) fn position_at(lines: &Lines, offset: u32) -> Position
 }
 
 /// The numbers of a range (scip.proto, `Occurrence.range`): three for a range on one line, four for one over several.
-fn range_by(
+fn range_between(
     alloc: Global,
     line: u32,
     column: u32,
@@ -32,7 +33,7 @@ fn range_by(
     requires column { column < 2 ^ 31 }
     requires last { last < 2 ^ 31 }
     requires end { end < 2 ^ 31 }
-    ensures { IfOk result (λ v. v.items ≡ range_by line column last end) }
+    ensures { IfOk result (λ v. v.items ≡ range_between line column last end) }
 {
     if line == last {
         Ok(vec![in alloc; line as i32, column as i32, end as i32]?)
@@ -42,7 +43,7 @@ fn range_by(
 }
 
 /// The offsets of the start and of the end of a token; both are 0 for a number after the last token.
-pub(crate) fn ends_of(types: &Types<'_>, number: usize) -> (u32, u32)
+pub(crate) fn token_offsets(types: &Types<'_>, number: usize) -> (u32, u32)
     ensures start { result.0 ≡ (token_at types.now.tokens number).start }
     ensures end { result.1 ≡ (token_at types.now.tokens number).end }
 {
@@ -65,11 +66,11 @@ pub(crate) fn span_of(
     requires lined { lines.now ≡ line_starts types.now.bytes }
     ensures { IfOk result (λ v. v.items ≡ span_of types.now first last) }
 {
-    let (start, _) = ends_of(types, first);
-    let (_, end) = ends_of(types, last);
+    let (start, _) = token_offsets(types, first);
+    let (_, end) = token_offsets(types, last);
     let from = position_at(lines, start);
     let to = position_at(lines, end);
-    range_by(alloc, from.line, from.column, to.line, to.column)
+    range_between(alloc, from.line, from.column, to.line, to.column)
 }
 
 /// The range of the construct that declares a target, empty if there is none.

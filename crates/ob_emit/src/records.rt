@@ -16,22 +16,22 @@ ghost use Rattle.ob_emit.specs.Named.{ReferencesAreIdentifiers, NamesAreIdentifi
 
 use crate::EmitFault;
 use crate::capacity::{CapacityPlan, reserve_symbols};
-use crate::documents::is_bad;
+use crate::documents::is_bad_package;
 use crate::hinted_lookup::Hints;
-use crate::in_place::push_in_place;
-use crate::locations::{enclosing_range, range_by, token_span};
-use crate::pieces::{BorrowedOccurrence, BorrowedSymbol};
-use crate::record_head::{head_capacity, record_after_head};
+use crate::locations::{enclosing_range, token_span};
 use crate::target_texts::Texts;
-use crate::uses::{is_compact, push_use};
 use ob_scan::{Lines, lines};
 use ob_targets::Reference;
 use ob_types::Types;
-use proto_wire::{Scratch, write_number, write_text};
+use proto_wire::{Scratch, append_number, append_text};
+use scip_index::{
+    BorrowedOccurrence, BorrowedSymbol, append_compact_occurrence, append_in_place, head_capacity,
+    is_compact, record_after_head,
+};
 use std::alloc::{AllocError, Global};
 
 /// Appends the record of an occurrence with this symbol string.
-fn push_occurrence_record(
+fn append_occurrence_record(
     scratch: &mut Scratch,
     out: &mut Vec<u8>,
     types: &Types<'_>,
@@ -48,19 +48,19 @@ fn push_occurrence_record(
 {
     let span = token_span(types, lines, &mut hint.line, reference.number);
     if is_compact(&span, symbol, reference.role) {
-        return push_use(out, &span, symbol, reference.role);
+        return append_compact_occurrence(out, &span, symbol, reference.role);
     }
     let place = BorrowedOccurrence {
-        range: range_by(&span),
+        range: span.range(),
         symbol,
         symbol_roles: i32::from(reference.role),
         enclosing_range: enclosing_range(types, lines, hint, reference),
     };
-    push_in_place(scratch, out, 2, &place)
+    append_in_place(scratch, out, 2, &place)
 }
 
 /// Appends the record of a reference's occurrence, if it has one. Makes the symbol string, as it isn't stored.
-fn push_unstored(
+fn append_unstored_occurrence(
     alloc: Global,
     scratch: &mut Scratch,
     out: &mut Vec<u8>,
@@ -80,7 +80,7 @@ fn push_unstored(
 {
     match texts.symbol(alloc, types, reference.target)? {
         None => Ok(()),
-        Some(symbol) => push_occurrence_record(
+        Some(symbol) => append_occurrence_record(
             scratch,
             out,
             types,
@@ -93,7 +93,7 @@ fn push_unstored(
 }
 
 /// Appends the record of a reference's occurrence, if it has one. Reads the symbol string from the stored ones; `slot` is the hint for it.
-fn push_stored(
+fn append_stored_occurrence(
     alloc: Global,
     scratch: &mut Scratch,
     out: &mut Vec<u8>,
@@ -112,17 +112,19 @@ fn push_stored(
     ensures { (package_name : List ℕ) → AreSymbolTexts types.now package_name texts.now →
         OnOk result (out.new.items ≡ out.old.items ++ spelled_fields (payload_fields 2 (map written_occurrence (option_to_list (occurrence types.now package_name reference.now))))) }
 {
-    match texts.known(types, reference.target, slot) {
-        Some(Some(symbol)) => push_occurrence_record(
+    match texts.stored_symbol(types, reference.target, slot) {
+        Some(Some(symbol)) => append_occurrence_record(
             scratch, out, types, lines, hint, reference, symbol,
         ),
         Some(None) => Ok(()),
-        None => push_unstored(alloc, scratch, out, types, texts, lines, hint, reference),
+        None => append_unstored_occurrence(
+            alloc, scratch, out, types, texts, lines, hint, reference,
+        ),
     }
 }
 
 /// Appends the record of a reference's occurrence, if it has one. Makes and stores the symbol string if it isn't stored yet.
-fn push_occurrence<'a>(
+fn append_occurrence<'a>(
     alloc: Global,
     scratch: &mut Scratch,
     out: &mut Vec<u8>,
@@ -142,13 +144,13 @@ fn push_occurrence<'a>(
         OnOk result (out.new.items ≡ out.old.items ++ spelled_fields (payload_fields 2 (map written_occurrence (option_to_list (occurrence types.now package_name reference.now))))) }
 {
     let slot = texts.intern(alloc, types, reference.target)?;
-    push_stored(
+    append_stored_occurrence(
         alloc, scratch, out, types, texts, lines, hint, reference, slot,
     )
 }
 
 /// Appends the records of the occurrences of references, in their order.
-fn push_occurrences<'a>(
+fn append_occurrences<'a>(
     alloc: Global,
     scratch: &mut Scratch,
     out: &mut Vec<u8>,
@@ -169,16 +171,16 @@ fn push_occurrences<'a>(
     let mut ahead = CapacityPlan::new();
     for reference in refs {
         let start = out.len();
-        push_occurrence(
+        append_occurrence(
             alloc, scratch, out, types, texts, &lines, &mut hint, reference,
         )?;
-        ahead.pass(out, start, types, texts, refs);
+        ahead.count_record(out, start, types, texts, refs);
     }
     Ok(())
 }
 
 /// Appends the record of the symbol information of a declaration.
-fn push_symbol_info(
+fn append_symbol_info(
     scratch: &mut Scratch,
     out: &mut Vec<u8>,
     types: &Types<'_>,
@@ -191,11 +193,11 @@ fn push_symbol_info(
         symbol,
         display_name: types.text(reference.number),
     };
-    push_in_place(scratch, out, 3, &symbol_info)
+    append_in_place(scratch, out, 3, &symbol_info)
 }
 
 /// Appends the record of the symbol information of a declaration, if it has a symbol. Makes the symbol string, as it isn't stored.
-fn push_unstored_symbol(
+fn append_unstored_symbol(
     alloc: Global,
     scratch: &mut Scratch,
     out: &mut Vec<u8>,
@@ -211,12 +213,12 @@ fn push_unstored_symbol(
 {
     match texts.symbol(alloc, types, reference.target)? {
         None => Ok(()),
-        Some(symbol) => push_symbol_info(scratch, out, types, reference, symbol.as_str()),
+        Some(symbol) => append_symbol_info(scratch, out, types, reference, symbol.as_str()),
     }
 }
 
 /// Appends the record of the symbol information of a reference, if it is a declaration and has a symbol.
-fn push_symbol(
+fn append_symbol(
     alloc: Global,
     scratch: &mut Scratch,
     out: &mut Vec<u8>,
@@ -232,15 +234,15 @@ fn push_symbol(
     if reference.role != 1 {
         return Ok(());
     }
-    match texts.known(types, reference.target, 0) {
-        Some(Some(symbol)) => push_symbol_info(scratch, out, types, reference, symbol),
+    match texts.stored_symbol(types, reference.target, 0) {
+        Some(Some(symbol)) => append_symbol_info(scratch, out, types, reference, symbol),
         Some(None) => Ok(()),
-        None => push_unstored_symbol(alloc, scratch, out, types, texts, reference),
+        None => append_unstored_symbol(alloc, scratch, out, types, texts, reference),
     }
 }
 
 /// Appends the records of the symbol information of all declarations among the references, in their order.
-fn push_symbols(
+fn append_symbols(
     alloc: Global,
     scratch: &mut Scratch,
     out: &mut Vec<u8>,
@@ -254,13 +256,13 @@ fn push_symbols(
         OnOk result (out.new.items ≡ out.old.items ++ spelled_fields (payload_fields 3 (map written_symbol (filter_map (symbol_row types.now package_name) refs.now)))) }
 {
     for reference in refs {
-        push_symbol(alloc, scratch, out, types, texts, reference)?;
+        append_symbol(alloc, scratch, out, types, texts, reference)?;
     }
     Ok(())
 }
 
 /// Appends the bytes of a module's document.
-fn push_document<'a>(
+fn append_document<'a>(
     alloc: Global,
     out: &mut Vec<u8>,
     path: &str,
@@ -276,16 +278,16 @@ fn push_document<'a>(
         OnOk result (out.new.items ≡ out.old.items ++ written_document (document_of types.now path.now package_name refs.now)) }
 {
     let mut scratch = Scratch::new(alloc);
-    write_text(out, 1, path)?;
-    push_occurrences(alloc, &mut scratch, out, types, texts, refs)?;
+    append_text(out, 1, path)?;
+    append_occurrences(alloc, &mut scratch, out, types, texts, refs)?;
     reserve_symbols(out, types, texts, refs);
-    push_symbols(alloc, &mut scratch, out, types, texts, refs)?;
-    write_text(out, 4, "Oberon")?;
-    write_number(out, 6, 1)
+    append_symbols(alloc, &mut scratch, out, types, texts, refs)?;
+    append_text(out, 4, "Oberon")?;
+    append_number(out, 6, 1)
 }
 
 /// The estimated number of bytes of an occurrence. With this capacity the bytes rarely move as they grow.
-const OCCURRENCE: usize = 48;
+const OCCURRENCE_SIZE: usize = 48;
 
 /// The bytes of a module's document at this path after `capacity` zeros, in a package that symbol strings can contain.
 fn bytes_after_head(
@@ -302,19 +304,19 @@ fn bytes_after_head(
     requires of_names { ReferencesAreIdentifiers types.now refs.now }
     ensures { IfOk result (λ v. v.items ≡ replicate capacity 0 ++ written_document (document_of types.now path.now package_name.now refs.now)) }
 {
-    let mut texts = Texts::begun(alloc, types, refs, package_name)?;
+    let mut texts = Texts::before_references(alloc, types, refs, package_name)?;
     let most = refs
         .len()
-        .saturating_mul(OCCURRENCE)
+        .saturating_mul(OCCURRENCE_SIZE)
         .saturating_add(capacity);
     let mut bytes = Vec::with_capacity(alloc, most)?;
     bytes.resize(capacity, 0)?;
-    push_document(alloc, &mut bytes, path, types, &mut texts, refs)?;
+    append_document(alloc, &mut bytes, path, types, &mut texts, refs)?;
     Ok(bytes)
 }
 
 /// The record of a module's document at this path, in a package that symbol strings can contain.
-fn record_in(
+fn record_in_package(
     alloc: Global,
     path: &str,
     types: &Types<'_>,
@@ -327,7 +329,7 @@ fn record_in(
     requires of_names { ReferencesAreIdentifiers types.now refs.now }
     ensures { IfOk result (λ v. v.items ≡ document_part (document_of types.now path.now package_name.now refs.now)) }
 {
-    let each = OCCURRENCE.saturating_add(package_name.len());
+    let each = OCCURRENCE_SIZE.saturating_add(package_name.len());
     let capacity = head_capacity(refs.len().saturating_mul(each));
     let bytes = bytes_after_head(alloc, path, types, refs, package_name, capacity)?;
     record_after_head(alloc, bytes, capacity)
@@ -356,8 +358,8 @@ pub fn document_record(
     // The result is `BadPackage` if and only if the package is `.` or begins with a space.
     ensures bad_package { (result ≡ Err BadPackage) ↔ (is_wrong_part package_name.now ≡ true) }
 {
-    if is_bad(package_name) {
+    if is_bad_package(package_name) {
         return Err(EmitFault::BadPackage);
     }
-    Ok(record_in(alloc, path, types, refs, package_name)?)
+    Ok(record_in_package(alloc, path, types, refs, package_name)?)
 }

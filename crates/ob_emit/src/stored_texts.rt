@@ -1,4 +1,4 @@
-//! Symbol strings that are already stored, borrowed and not copied.
+//! Look-ups of symbol strings that are already stored, without copying them.
 ghost use Rattle.std.specs.Prelude.{◌≡◌, ℕ, List, IfSome};
 ghost use Rattle.std.specs.Option.{option_map};
 ghost use Rattle.std.specs.String.{string_bytes};
@@ -11,7 +11,7 @@ use ob_targets::Target;
 use ob_types::Types;
 
 /// Borrows a string, if there is one.
-fn borrowed(text: &Option<String>) -> Option<&str>
+fn borrow_text(text: &Option<String>) -> Option<&str>
     ensures { option_map (λ t. t.now) result ≡ option_map string_bytes text.now }
 {
     match text {
@@ -29,7 +29,7 @@ impl Texts<'_> {
         let _ = types;
         match self.locations.index_from(slot, number) {
             Some(at) => match self.declared.get(at) {
-                Some(text) => borrowed(text),
+                Some(text) => borrow_text(text),
                 None => None,
             },
             None => None,
@@ -49,7 +49,7 @@ impl Texts<'_> {
     {
         let _ = types;
         match self.foreign.imported.at(slot, reached, declaration) {
-            Some(text) => Some(borrowed(text)),
+            Some(text) => Some(borrow_text(text)),
             None => None,
         }
     }
@@ -60,7 +60,7 @@ impl Texts<'_> {
             IfSome result (λ text. option_map (λ t. t.now) text ≡ option_map canonical_text (module_symbol types.now package_name item)) }
     {
         match self.foreign.modules.get(item as usize) {
-            Some(text) => Some(borrowed(text)),
+            Some(text) => Some(borrow_text(text)),
             None => None,
         }
     }
@@ -76,15 +76,15 @@ impl Texts<'_> {
             IfSome result (λ text. option_map (λ t. t.now) text ≡ option_map canonical_text (named_symbol types.now item name.now)) }
     {
         match self.foreign.names.get(&(item, name)) {
-            Some(text) => Some(borrowed(text)),
+            Some(text) => Some(borrow_text(text)),
             None => None,
         }
     }
 
     /// The symbol string of a target, if it is stored; `Some(None)` if the target has no symbol. `symbol` returns a copy of this string.
-    /// `slot` is the index that `intern` returned. A declaration of another module is looked up at this index alone, one of the module itself
-    /// there first.
-    pub(crate) fn known<'s>(
+    /// `slot` is the index that `intern` returned. A declaration of another module is looked up only at this index; for a declaration of
+    /// the module itself it is tried first.
+    pub(crate) fn stored_symbol<'s>(
         &'s self,
         types: &'s Types<'_>,
         target: Target,

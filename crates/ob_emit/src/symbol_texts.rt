@@ -10,14 +10,14 @@ ghost use Rattle.ob_emit.specs.Symbols.{declared_symbol, imported_symbol, module
 ghost use Rattle.ob_types.specs.World.{text};
 
 use crate::imported_texts::imported_text;
-use crate::module_texts::{external_text, item_text};
+use crate::module_texts::{external_text, imported_module_text};
 use crate::target_texts::Texts;
 use ob_targets::Target;
 use ob_types::Types;
 use std::alloc::{AllocError, Global};
 
 /// Copies a string, if there is one.
-fn copied(text: &Option<String>) -> Result<Option<String>, AllocError>
+fn copy_text(text: &Option<String>) -> Result<Option<String>, AllocError>
     ensures { IfOk result (λ more. option_map string_bytes more ≡ option_map string_bytes text.now) }
 {
     match text {
@@ -42,7 +42,7 @@ impl Texts<'_> {
             return Ok(None);
         };
         match self.declared.get(at) {
-            Some(text) => copied(text),
+            Some(text) => copy_text(text),
             None => Ok(None),
         }
     }
@@ -60,7 +60,7 @@ impl Texts<'_> {
             IfOk result (λ text. option_map string_bytes text ≡ option_map canonical_text (imported_symbol types.now package_name reached declaration)) }
     {
         match self.foreign.imported.stored_text(reached, declaration) {
-            Some(text) => copied(text),
+            Some(text) => copy_text(text),
             None => imported_text(
                 alloc,
                 types,
@@ -83,8 +83,8 @@ impl Texts<'_> {
             IfOk result (λ text. option_map string_bytes text ≡ option_map canonical_text (module_symbol types.now package_name item)) }
     {
         match self.foreign.modules.get(item as usize) {
-            Some(text) => copied(text),
-            None => item_text(alloc, types, &self.prefixes, item),
+            Some(text) => copy_text(text),
+            None => imported_module_text(alloc, types, &self.prefixes, item),
         }
     }
 
@@ -102,7 +102,7 @@ impl Texts<'_> {
             IfOk result (λ text. option_map string_bytes text ≡ option_map canonical_text (named_symbol types.now item name.now)) }
     {
         match self.foreign.names.get(&(item, name)) {
-            Some(text) => copied(text),
+            Some(text) => copy_text(text),
             None => external_text(alloc, types, self.prefixes.outside.as_str(), item, name),
         }
     }

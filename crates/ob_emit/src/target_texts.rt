@@ -12,9 +12,9 @@ ghost use Rattle.ob_types.specs.World.{text};
 ghost use Rattle.ob_emit.specs.Symbols.{is_local, declared_path, symbol_at};
 
 use crate::declaration_index::DeclarationIndex;
-use crate::foreign_texts::{ForeignTexts, outside_seed};
+use crate::foreign_texts::{ForeignTexts, external_table_seed};
 use crate::module_texts::module_text;
-use crate::own::is_local;
+use crate::own_declarations::is_local;
 use crate::path::path_text;
 use crate::prefixes::Prefixes;
 use module_table::Declared;
@@ -67,7 +67,7 @@ fn block_text(
 }
 
 /// The symbol string of a declaration, by whether it is local and by the number of local declarations before it.
-fn row_text(
+fn declaration_text(
     alloc: Global,
     types: &Types<'_>,
     prefix: &str,
@@ -101,7 +101,7 @@ fn declared_texts(
     let (mut locals, mut hint) = (0, 0);
     for row in declared {
         let local = is_local(types, &mut hint, row);
-        let text = row_text(alloc, types, prefix, row, local, locals)?;
+        let text = declaration_text(alloc, types, prefix, row, local, locals)?;
         texts.push(text)?;
         if local {
             locals += 1;
@@ -123,9 +123,9 @@ fn index_declarations<'a>(
 }
 
 impl<'a> Texts<'a> {
-    /// The symbol strings that a module has whatever its references are: those of modules and of its own declarations.
+    /// The symbol strings that don't depend on the module's references: the strings of modules and of the module's own declarations.
     /// The references only determine the seed of a hash table.
-    pub(crate) fn begun(
+    pub(crate) fn before_references(
         alloc: Global,
         types: &Types<'a>,
         refs: &[Reference],
@@ -139,7 +139,7 @@ impl<'a> Texts<'a> {
         let own = module_text(alloc, prefixes.tree.as_str(), name)?;
         let declared = declared_texts(alloc, types, prefixes.tree.as_str())?;
         let locations = index_declarations(alloc, types)?;
-        let foreign = ForeignTexts::new(alloc, types, &prefixes, outside_seed(types, refs))?;
+        let foreign = ForeignTexts::new(alloc, types, &prefixes, external_table_seed(types, refs))?;
         Ok(Texts {
             prefixes,
             own,
@@ -151,7 +151,7 @@ impl<'a> Texts<'a> {
 
     /// Stores the symbol string of a target that is declared outside of the module, unless it is stored already.
     /// Returns the index of the string, or the index of the declaration for a target that the module itself declares. It is the hint for
-    /// `known`.
+    /// `stored_symbol`.
     pub(crate) fn intern(
         &mut self,
         alloc: Global,
@@ -180,7 +180,7 @@ impl<'a> Texts<'a> {
         requires of_names { ReferencesAreIdentifiers types.now refs.now }
         ensures { IfOk result (AreSymbolTexts types.now package_name.now) }
     {
-        let mut texts = Texts::begun(alloc, types, refs, package_name)?;
+        let mut texts = Texts::before_references(alloc, types, refs, package_name)?;
         for reference in refs {
             texts.intern(alloc, types, reference.target)?;
         }

@@ -1,4 +1,4 @@
--- What the graph of files that keep the limits keeps.
+-- The properties of the graph of files that are within the limits.
 use Rattle.std.proofs.Common.{◌≡◌, ℕ, ◌+◌, ◌<◌, ◌≤◌, List, [], length, get_or, Some, sym, ◌∙◌, ap, subst, arith, length-append}
 use Rattle.std.specs.Prelude.{Contains, slice_get}
 use Rattle.std.specs.List.{IsDistinct}
@@ -16,7 +16,7 @@ use Rattle.digraph.proofs.Members.{in_map}
 use Rattle.ob_imports.proofs.Nodes.{nodes_apart}
 use Rattle.ob_imports.proofs.Places.{place_is}
 
--- by the places of names to the names
+-- from the indices of names to the names
 pub acyclic_places : (files : List File) (names : List (List ℕ)) → IsAcyclic (Imports files) → IsAcyclic (LeadsBy (Imports files) names)
 acyclic_places files names = acyclic_over (LeadsBy (Imports files) names) (Imports files) (λ v. get_or names v []) (λ v w (m, n, at_v, at_w, imports).
     let from : get_or names v [] ≡ m = get_or_from_slice_get names v m [] at_v in

@@ -1,4 +1,4 @@
--- Numbers of names in the order of the names.
+-- The numbers of names, in the order of the names.
 use Rattle.std.proofs.Common.{◌≡◌, ℕ, ◌+◌, ◌<◌, false, List, [], ◌∷◌, length, get_or, map, refl, ap, ◌∙◌, arith, subst, Ordering}
 use Rattle.std.specs.Prelude.{All, IsPermutation}
 use Rattle.std.specs.Borrow.{Bor}
@@ -41,8 +41,8 @@ named_by names (p ∷ ps) h =
 
 pub is_by_name : (names : List (List ℕ)) (ps sorted : List (Bor (List ℕ) × ℕ)) (order : List ℕ) → IsDistinct bytes_eq names → map name_in ps ≡ names → All (IsNumbered names) ps
     → IsPermutation ps sorted → IsSorted pair_cmp sorted → order ≡ map (λ p. p.1) sorted → IsByName names order
-is_by_name names ps sorted order once are with_numbers moved in_order is =
-    let all = All-permutation (IsNumbered names) ps sorted moved with_numbers in
+is_by_name names ps sorted order once are number_names moved in_order is =
+    let all = All-permutation (IsNumbered names) ps sorted moved number_names in
     let named : names_by names order ≡ map name_in sorted = ap (names_by names) is ∙ named_by names sorted all in
     let same : IsPermutation names (map name_in sorted) = subst (λ (ns : List (List ℕ)). IsPermutation ns (map name_in sorted)) are (IsPermutation-map name_in ps sorted moved) in
     record {

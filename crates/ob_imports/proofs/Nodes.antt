@@ -1,4 +1,4 @@
--- The names of the nodes, and the imports by places in a list of names.
+-- The names of the nodes, and the imports by indices in a list of names.
 use Rattle.std.proofs.Common.{◌≡◌, ℕ, ◌+◌, ◌-◌, Bool, true, false, not, List, [], ◌∷◌, ◌++◌, length, get_or, Some, refl, sym, ap, ◌∙◌, arith, inl, inr, subst}
 use Rattle.std.specs.Prelude.{Contains, slice_get, ◌↔◌, flat_map}
 use Rattle.std.specs.List.{IsDistinct}
@@ -49,7 +49,7 @@ lacked_external files n = (
     not_true true e = cc
     not_true false e = refl
 
--- ---- the imports by places
+-- ---- the imports by indices
 
 pub pairs_lead : (names : List (List ℕ)) (files : List File) → IsDistinct bytes_eq names → ((n : List ℕ) → IsNode files n → Contains names n)
     → (v w : ℕ) → Leads (all_pairs names files) v w ↔ LeadsBy (Imports files) names v w
@@ -85,9 +85,9 @@ node_of_one files f n has (inr (m, (g, one, is, imports))) = elim (first_or_late
   | inr never ↦ no_member g never
 ]
 
--- ---- the nodes are apart
+-- ---- the nodes are distinct
 
--- two lists with no member in common
+-- two lists without a common element
 pub distinct_both : (xs ys : List (List ℕ)) → IsDistinct bytes_eq xs → IsDistinct bytes_eq ys → ((n : List ℕ) → Contains ys n → Contains xs n → ⊥) → IsDistinct bytes_eq (xs ++ ys)
 distinct_both xs ys a b apart = IsDistinct-from_apart bytes_eq (xs ++ ys) (λ i j d lt l. false_from_ne_true (bytes_eq (get_or (xs ++ ys) i d) (get_or (xs ++ ys) j d)) (λ t.
     let long : length (xs ++ ys) ≡ length xs + length ys = Rattle.std.proofs.Common.length-append xs ys in
@@ -122,7 +122,7 @@ nodes_known files names nodes n node = subst (λ (ns : List (List ℕ)). Contain
   ]
 ])
 
--- ---- names in a table and what it lacked, in order
+---- names of a table, and the names that it lacked, sorted
 
 module _ (files : List File) (keys lacks others : List (List ℕ)) (named : keys ≡ names_of files) (all : lacks ≡ all_lacked keys files) (up : AreAscending others)
     (same : (n : List ℕ) → Contains others n ↔ Contains lacks n) where

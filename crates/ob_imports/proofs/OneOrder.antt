@@ -1,4 +1,4 @@
--- Two lists of texts in order with the same texts, as often each, are one list.
+-- Two sorted lists of names with equal elements, as often each, are equal.
 use Rattle.std.proofs.Common.{◌≡◌, ℕ, suc, ◌+◌, ◌<◌, ◌≤◌, false, List, [], ◌∷◌, length, get_or, refl, sym, ap, ◌∙◌, arith, inl, inr, subst, Ordering}
 use Rattle.std.specs.Prelude.{IsPermutation}
 use Rattle.std.specs.Ordering.{is_eq, is_lt, nat_cmp, ordering_reverse}
@@ -32,7 +32,7 @@ place_from (x ∷ xs) name l = elim (cases_Bool (bytes_eq x name)) [
   | inr f ↦ let later = place_from xs name (rw f at l) in (suc later.0, (let h : later.0 < length xs = later.1 in omega arith), later.2)
 ]
 
--- the first is below none of a list in order
+-- no element of a sorted list is below the first one
 first_least : (x : List ℕ) (xs : List (List ℕ)) (name : List ℕ) → AreNamesSorted (x ∷ xs) → 1 ≤ times (x ∷ xs) name → slice_cmp nat_cmp name x ≡ Less → ⊥
 first_least x xs name sorted some =
     let (k, within, is) = place_from (x ∷ xs) name some in

@@ -1,4 +1,4 @@
--- Files make one thing.
+-- Files have one outcome.
 use Rattle.std.proofs.Common.{◌≡◌, ℕ, ◌<◌, ◌≤◌, List, [], ◌∷◌, ◌++◌, length, get_or, Result, Ok, Err, refl, sym, ◌∙◌, ap, subst, arith, inl, inr, map}
 use Rattle.std.specs.Prelude.{Contains, IsPermutation}
 use Rattle.std.specs.Str.{bytes_eq}
@@ -104,7 +104,7 @@ not_kept_many files g kept (inr (inr h)) =
     let few : length g.pairs ≤ 65536 = kept.few_pairs in
     absurd (omega arith)
 
--- ---- what is made
+---- outcomes
 
 pub one_outcome : (files : List File) (o p : Result ImportGraph GraphError) → IsGraphOutcome files o → IsGraphOutcome files p → o ≡ p
 one_outcome files (Ok g) (Ok h) a b = ap Ok (one_graph files g h a.0.is_graph b.0.is_graph)

@@ -1,4 +1,4 @@
--- Places of names in lists.
+-- Indices of names in lists.
 use Rattle.std.proofs.Common.{◌≡◌, ℕ, zero, suc, ◌+◌, ◌<◌, true, false, not, List, [], ◌∷◌, ◌++◌, length, get_or, take, drop, Some, refl, sym, ap, ◌∙◌, arith, inl, inr, subst}
 use Rattle.std.specs.Prelude.{Contains, String, slice_get}
 use Rattle.std.specs.List.{IsDistinct, position}
@@ -33,7 +33,7 @@ not_has names name lacks = false_from_ne_true (has_name names name) (λ t. lacks
 pub has_not : (names : List (List ℕ)) (name : List ℕ) → has_name names name ≡ false → Contains names name → ⊥
 has_not names name f h = false≢true (sym f ∙ has_from names name h)
 
--- what stands further on isn't among those before
+-- a name that occurs after an index isn't among the names before it
 pub new_name : (xs : List (List ℕ)) (name : List ℕ) (rest : List (List ℕ)) → IsDistinct bytes_eq (xs ++ name ∷ rest) → has_name xs name ≡ false
 new_name xs name rest once = not_has xs name (λ (k, within, is). (
     let all : List (List ℕ) = xs ++ name ∷ rest in
@@ -44,7 +44,7 @@ new_name xs name rest once = not_has xs name (λ (k, within, is). (
     false≢true (sym apart ∙ (bytes_eq-Decides (get_or all k name) (get_or all (length xs) name)).1 (left ∙ sym right))))
 
 module _ {Z : Type 0} where
-  -- a new name goes last
+  -- a new name is appended at the end
   pub put_new : (keys : List (String Z)) (value : String Z) → has_name (texts keys) (string_bytes value) ≡ false → texts (insert_key string_eq keys value) ≡ texts keys ++ string_bytes value ∷ []
   put_new keys value new = rw (any_text (string_bytes value) keys, new) (map_push string_bytes keys value)
 
@@ -58,7 +58,7 @@ module _ {Z : Type 0} where
       ap texts (sym (take-append-drop (k + 1) names)) ∙ map-append string_bytes (take (k + 1) names) (drop (k + 1) names)
       ∙ ap (λ (t : List (List ℕ)). t ++ texts (drop (k + 1) names)) (texts_more names k d l is) ∙ append_assoc (texts (take k names)) (string_bytes d ∷ []) (texts (drop (k + 1) names))
 
-  -- the names up to a place are put behind the others
+  -- the names up to an index are appended to the others
   pub put_more : (before : List (List ℕ)) (keys names : List (String Z)) (k : ℕ) (d value : String Z) → IsDistinct bytes_eq (before ++ texts names) → texts keys ≡ before ++ texts (take k names)
       → k < length names → d ≡ get_or names k d → string_bytes value ≡ string_bytes d → texts (insert_key string_eq keys value) ≡ before ++ texts (take (k + 1) names)
   put_more before keys names k d value once are l is same =
@@ -68,7 +68,7 @@ module _ {Z : Type 0} where
       put_new keys value (rw (are, same) new)
       ∙ rw (are, same, texts_more names k d l is) (append_assoc before (texts (take k names)) (string_bytes d ∷ []))
 
-  -- one name more that may be lacked
+  -- one more name, which may be missing from the table
   pub lacked_more : (keys : List (List ℕ)) (names : List (String Z)) (k : ℕ) (d : String Z) → k < length names → d ≡ get_or names k d
       → lacked keys (texts (take (k + 1) names)) ≡ lacked keys (texts (take k names)) ++ lacked keys (string_bytes d ∷ [])
   lacked_more keys names k d l is = ap (lacked keys) (texts_more names k d l is) ∙ filter-append (λ n. not (has_name keys n)) (texts (take k names)) (string_bytes d ∷ [])
@@ -76,7 +76,7 @@ module _ {Z : Type 0} where
   pub position_texts : (name : List ℕ) (keys : List (String Z)) → position (λ x. bytes_eq name (string_bytes x)) keys ≡ index_in (texts keys) name
   position_texts name keys = sym (position-map (bytes_eq name) string_bytes keys)
 
--- ---- the place of a name
+-- ---- the index of a name
 
 place_below : (names : List (List ℕ)) (name : List ℕ) (k : ℕ) → k < length names → get_or names k name ≡ name → index_or_len names name < length names
 place_below [] name k l is = absurd (omega arith)
@@ -98,7 +98,7 @@ name_at names name h =
     let same : name ≡ get_or names (index_or_len names name) name = (bytes_eq-Decides name (get_or names (index_or_len names name) name)).0 (passes_at_first (bytes_eq name) names name lt) in
     slice_get-get_or names (index_or_len names name) name lt ∙ ap (λ (n : List ℕ). Some n) (sym same)
 
--- the one place of a name
+-- a name has one index
 pub place_is : (names : List (List ℕ)) (name : List ℕ) (r : ℕ) → IsDistinct bytes_eq names → slice_get names r ≡ Some name → index_or_len names name ≡ r
 place_is names name r once e =
     let lt : r < length names = slice_get_within names r name e in

@@ -22,7 +22,7 @@ use Rattle.ob_imports.specs.Outcomes.{IsCycleOf}
 use Rattle.ob_imports.proofs.ByName.{acyclic_over}
 use Rattle.ob_imports.proofs.Places.{place_is}
 
--- names that are apart stand at one place each
+-- distinct names have one index each
 one_place : (names : List (List ℕ)) (v w : ℕ) → IsDistinct bytes_eq names → v < length names → w < length names → get_or names v [] ≡ get_or names w [] → v ≡ w
 one_place names v w once lv lw e =
     sym (place_is names (get_or names v []) v once (slice_get-get_or names v [] lv)) ∙ ap (index_or_len names) e ∙ place_is names (get_or names w []) w once (slice_get-get_or names w [] lw)
@@ -31,7 +31,7 @@ module _ (names : List (List ℕ)) (order : List ℕ) (is : IsByName names order
   pub order_long : length order ≡ length names
   order_long = let a = length_permutation names (names_by names order) is.same in let b = length-map order (λ v. get_or names v []) in omega arith
 
-  -- the name at a place of the order
+  -- the name at an index of the order
   name_there : (r : ℕ) → r < length order → get_or (names_by names order) r [] ≡ get_or names (get_or order r 0) []
   name_there r l = get_or-map (λ v. get_or names v []) order r 0 [] l
 

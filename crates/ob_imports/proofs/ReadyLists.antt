@@ -1,4 +1,4 @@
--- What can be worked on, by the imports and by rows.
+-- The modules that can be worked on, by the imports and by the import lists.
 use Rattle.std.proofs.Common.{◌≡◌, ℕ, ◌<◌, List, Bool, length, refl, sym, ◌∙◌, ap, arith, subst, eq-eqb, eqb-true}
 use Rattle.std.specs.Prelude.{Contains, filter, ◌↔◌, ◌==◌}
 use Rattle.digraph.specs.declared.edge.Edge.{Edge}

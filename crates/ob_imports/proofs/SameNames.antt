@@ -1,4 +1,4 @@
--- Names that stand twice in a list.
+-- Names that occur twice in a list.
 use Rattle.std.proofs.Common.{◌≡◌, ℕ, zero, suc, ◌+◌, ◌<◌, ◌≤◌, false, List, [], ◌∷◌, length, get_or, take, drop, refl, sym, ap, ◌∙◌, arith, inl, inr, subst}
 use Rattle.std.specs.Prelude.{IsPermutation, String, sum_by, if◌then◌else◌}
 use Rattle.std.specs.Ordering.{is_eq, is_lt, nat_cmp}
@@ -19,7 +19,7 @@ use Rattle.ob_imports.specs.Names.{IsRepeat, AreAscending, AreNamesSorted, IsFir
 use Rattle.ob_imports.specs.Outcomes.{IsTwoModules}
 use Rattle.digraph.proofs.Names.{ascending_apart, below, same_is}
 
--- ---- how often
+---- number of occurrences
 
 abbrev pub times : List (List ℕ) → List ℕ → ℕ
 times [] name = 0
@@ -76,7 +76,7 @@ paths_times (f ∷ files) name = elim (cases_Bool (bytes_eq f.name name)) [
 pub times_moved : (xs ys : List (List ℕ)) (name : List ℕ) → IsPermutation xs ys → times ys name ≡ times xs name
 times_moved xs ys name moved = times_sum ys name ∙ sum_by-IsPermutation (λ n. if bytes_eq n name then 1 else 0) xs ys moved ∙ sym (times_sum xs name)
 
--- ---- names in order
+---- sorted names
 
 not_below : (a b : List ℕ) → a ≡ b → slice_cmp nat_cmp a b ≡ Less → ⊥
 not_below a b e less = false≢true (sym (ap is_eq less) ∙ is_eq-slice_cmp a b ∙ same_is a b e)
@@ -89,7 +89,7 @@ pub differ_unless_alike : (files : List File) (names : List (List ℕ)) → IsPe
 differ_unless_alike files names moved sorted apart =
     IsDistinct-IsPermutation bytes_eq nat_list_eq_equiv.symm names (names_of files) (IsPermutation-sym (names_of files) names moved) (ascending_apart names (none_alike_ascend names sorted apart))
 
--- up to the first place that is alike each name is below the later ones
+-- up to the first index whose name repeats, each name is below the later names
 front_ascends : (names : List (List ℕ)) (p i j : ℕ) → AreNamesSorted names → p < length names → ((k : ℕ) → k < p → IsRepeat names k → ⊥) → i < j → j ≤ p
     → slice_cmp nat_cmp (get_or names i []) (get_or names j []) ≡ Less
 front_ascends names p i j sorted within apart lt le =
@@ -127,7 +127,7 @@ two_first [] l = absurd (omega arith)
 two_first (x ∷ []) l = absurd (omega arith)
 two_first (x ∷ y ∷ xs) l = refl
 
--- the first name that stands twice in order is the least one that two files have
+-- the first name that occurs twice in a sorted list is the smallest one that two files have
 pub many_paths : (files : List File) (names : List (List ℕ)) (p : ℕ) → IsPermutation (names_of files) names → IsFirstRepeat names p → 2 ≤ length (paths_of files (get_or names p []))
 many_paths files names p moved first =
     let name = get_or names p [] in

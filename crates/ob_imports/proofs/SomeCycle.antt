@@ -1,4 +1,4 @@
--- Of finitely many edges either no chain comes back, or a cycle is named.
+-- Finitely many edges are acyclic or have a canonical cycle.
 use Rattle.std.proofs.Common.{◌≡◌, ℕ, zero, suc, ◌+◌, ◌<◌, ◌≤◌, ◌⊎◌, inl, inr, List, [], ◌∷◌, ◌++◌, length, refl, sym, ◌∙◌, ap, subst, arith, Bool, true, false, not, ◌&&◌, Option, Some, None, length-append, take, drop}
 use Rattle.std.specs.Prelude.{slice_index, slice_set, nat_eq, nat_lt, replicate, Contains}
 use Rattle.std.specs.List.{list_any}
@@ -19,7 +19,7 @@ use Rattle.digraph.proofs.Walks.{index_in, turned_at, walking_back, walking_firs
 
 -- ---- searches
 
--- the least number below the bound that passes, or none
+-- the smallest number below the bound that passes, or none
 pub record IsFirst (p : ℕ → Bool) (m v : ℕ) : Type 0 where
   pub within : v < m
   pub passes : p v ≡ true
@@ -94,7 +94,7 @@ less s t (suc m) v under l in_s out_t = elim (cases_lt v m) [
       omega arith
 ]
 
--- ---- the least place of a list
+---- the index of the smallest element of a list
 
 cons_least : (x m : ℕ) (xs : List ℕ) → m ≤ x → ((k : ℕ) → k < length xs → m ≤ slice_index xs k) → (k : ℕ) → k < length (x ∷ xs) → m ≤ slice_index (x ∷ xs) k
 cons_least x m xs le rest zero l = le
@@ -110,13 +110,13 @@ least_place (x ∷ y ∷ ys) l =
       | inr le ↦ (0, l, cons_least x x (y ∷ ys) (omega arith) (λ k h. let m = least k h in omega arith))
     ]
 
--- a list that is turned to begin at its least number
+-- a list that is rotated to begin at its smallest number
 rotated : (loop : List ℕ) → 0 < length loop → (cycle : List ℕ) × IsRotated loop cycle
 rotated loop some =
     let (p, within, least) = least_place loop some in
     (drop p loop ++ take p loop, turned_at loop (drop p loop ++ take p loop) p within least refl)
 
--- ---- the endless nodes, and a walk among them
+---- the nodes from which paths are infinite, and a walk among them
 
 all_marked : (n v : ℕ) → v < n → marked (replicate n true) v ≡ true
 all_marked zero v l = absurd (omega arith)
@@ -186,7 +186,7 @@ module _ (edges : List Edge) (n : ℕ) (between : AreBetween edges n) where
   unfolding left
   left_without s v out = both_false (s v) (on s v) out
 
-  -- nodes that lead to no member are taken away until none is left
+  -- nodes that lead to no member are removed until none is left
   settled : (fuel : ℕ) (s : ℕ → Bool) → count s n ≤ fuel → ((v : ℕ) → s v ≡ true → v < n) → Holds s → CycleCore
   settled zero s few within all = elim (found (λ v. s v && not (on s v)) n) [
     | inr none ↦ done s within all none

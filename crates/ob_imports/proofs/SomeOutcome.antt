@@ -1,4 +1,4 @@
--- Files make something: a graph, or a first refusal.
+-- Files have an outcome: a graph, or a first error.
 use Rattle.std.proofs.Common.{ℕ, ◌+◌, ◌-◌, ◌<◌, ◌≤◌, List, [], ◌++◌, length, get_or, Result, Ok, Err, refl, sym, ◌∙◌, arith, inl, inr, ◌⊎◌, map}
 use Rattle.std.specs.Prelude.{Contains, ◌↔◌}
 use Rattle.std.specs.List.{dedup, IsDistinct}
@@ -28,14 +28,14 @@ use Rattle.ob_imports.proofs.SameNames.{differ_unless_alike, is_two, many_paths}
 use Rattle.ob_imports.proofs.SomeCycle.{found, some_cycle}
 use Rattle.ob_imports.proofs.Sortings.{sorting}
 
--- what files make
+-- the outcome of files
 abbrev Makes : List File → Type 0
 Makes files = (o : Result ImportGraph GraphError) × IsGraphOutcome files o
 
--- ---- lists in order, each element once
+---- sorted lists, each element once
 
-names_in_order : (xs : List (List ℕ)) → (ys : List (List ℕ)) × AreAscending ys × ((n : List ℕ) → Contains ys n ↔ Contains xs n)
-names_in_order xs =
+names_at : (xs : List (List ℕ)) → (ys : List (List ℕ)) × AreAscending ys × ((n : List ℕ) → Contains ys n ↔ Contains xs n)
+names_at xs =
     let (s, moved, sorted) = sorting (slice_cmp nat_cmp) nat_list_cmp_total xs in (
       dedup bytes_eq s,
       IsStrictlySortedBy-dedup nat_list_cmp_total (λ a b. sym (is_eq-slice_cmp a b)) s sorted,
@@ -101,7 +101,7 @@ of_nodes files names are nodes few =
 
 names_of_files : (files : List File) → AreFiles files → Makes files
 names_of_files files are =
-    let (others, up, same) = names_in_order (all_lacked (names_of files) files) in
+    let (others, up, same) = names_at (all_lacked (names_of files) files) in
     let names = names_of files ++ others in
     let nodes : AreNodes files names = are_nodes files (names_of files) (all_lacked (names_of files) files) others refl refl up same names refl in
     elim (cases_lt 8192 (length names)) [

@@ -23,7 +23,7 @@ AreNamesSorted names = IsSorted (slice_cmp nat_cmp) names
 abbrev pub IsRepeat : List (List ℕ) → ℕ → Type 0
 IsRepeat names k = slice_index_or names k [] ≡ slice_index_or names (k + 1) []
 
--- k is the first such index
+-- k is the first index whose name repeats at the next index
 pub record IsFirstRepeat (names : List (List ℕ)) (k : ℕ) : Type 0 where
   pub within : k + 1 < length names
   pub alike : IsRepeat names k
@@ -33,7 +33,7 @@ pub record IsFirstRepeat (names : List (List ℕ)) (k : ℕ) : Type 0 where
 abbrev pub index_in : List (List ℕ) → List ℕ → Option ℕ
 index_in names name = position (bytes_eq name) names
 
--- a relation of names as one of their indices in a list
+-- a relation of names, as a relation of their indices in a list
 abbrev pub LeadsBy : (List ℕ → List ℕ → Type 0) → List (List ℕ) → ℕ → ℕ → Type 0
 LeadsBy Imports names r s = (m n : List ℕ) × (slice_get names r ≡ Some m) × (slice_get names s ≡ Some n) × Imports m n
 

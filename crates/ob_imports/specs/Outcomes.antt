@@ -54,7 +54,7 @@ pub record AreFilesOfGraph (files : List File) (g : ImportGraph) : Type 0 where
   pub few_names : length g.names ≤ 8192
   pub few_pairs : length g.pairs ≤ 65536
 
--- the canonical cycle of modules with these names, by the order of the names
+-- `names` are the names on the canonical cycle of the modules `nodes`, where modules are ordered by name
 pub record IsCycleOf (files : List File) (nodes names : List (List ℕ)) : Type 0 where
   pub order : List (List ℕ)
   pub same : IsPermutation nodes order
@@ -63,7 +63,7 @@ pub record IsCycleOf (files : List File) (nodes names : List (List ℕ)) : Type 
   pub is_cycle : IsCanonicalCycle (LeadsBy (Imports files) order) cycle
   pub are_names : names ≡ map (λ r. slice_index_or order r []) cycle
 
--- the canonical cycle of files within the limits
+-- the files are within the limits, and these are the names on their canonical cycle
 pub record IsCycle (files : List File) (names : List (List ℕ)) : Type 0 where
   pub graph : ImportGraph
   pub kept : AreFilesOfGraph files graph

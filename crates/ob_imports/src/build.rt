@@ -11,21 +11,21 @@ ghost use Rattle.ob_imports.specs.Numbering.{AreEdgesOf};
 ghost use Rattle.ob_imports.specs.Outcomes.{AreFiles, AreFilesOfGraph, GraphError, IsCycleOf, IsGraphOutcome, HasOutcome};
 
 use crate::duplicates::check_distinct;
-use crate::edges::pairs_of;
-use crate::names::nodes_of;
+use crate::edges::import_edges;
+use crate::names::collect_node_names;
 use crate::order::order_by_name;
 use crate::{Edge, Graph, GraphFault, Parsed};
-use digraph::{cycle, ranks_of, renumbered};
+use digraph::{cycle, ranks_of, renumber_edges};
 use indexmap::IndexSet;
 use std::alloc::{AllocError, Global};
 use text_hash::Seed;
 
-const MOST_MODULES: usize = 4096;
+const MAX_MODULES: usize = 4096;
 
-const MOST_PAIRS: usize = 65536;
+const MAX_IMPORTS: usize = 65536;
 
 /// The names of the modules at these indices of an order.
-fn names_in_order(
+fn names_at(
     alloc: Global,
     names: &[String],
     order: &[u32],
@@ -43,8 +43,8 @@ fn names_in_order(
     Ok(named)
 }
 
-/// The names on the canonical cycle, by the order of the names; none if the imports are acyclic.
-fn cycle_in(
+/// The names on the canonical cycle, for which modules are compared by name; `None` if the imports are acyclic.
+fn find_cycle(
     alloc: Global,
     pairs: &[Edge],
     names: &[String],
@@ -58,15 +58,15 @@ fn cycle_in(
     ensures none { IfOk result (λ answer. IfNone answer (IsAcyclic (Leads pairs.now))) }
 {
     let ranks = ranks_of(alloc, order)?;
-    let others = renumbered(alloc, pairs, ranks.as_slice())?;
+    let others = renumber_edges(alloc, pairs, ranks.as_slice())?;
     match cycle(alloc, others.as_slice(), order.len())? {
         None => Ok(None),
-        Some(cycle) => Ok(Some(names_in_order(alloc, names, order, cycle.as_slice())?)),
+        Some(cycle) => Ok(Some(names_at(alloc, names, order, cycle.as_slice())?)),
     }
 }
 
 /// The graph with these names and imports, or its cycle.
-fn from_names(
+fn graph_from_names(
     alloc: Global,
     parsed: &[Parsed],
     names: IndexSet<String, Seed>,
@@ -76,14 +76,14 @@ fn from_names(
     ensures { HasOutcome result (IsGraphOutcome (files_of parsed.now)) }
 {
     let order = order_by_name(alloc, names.as_slice())?;
-    match cycle_in(alloc, pairs.as_slice(), names.as_slice(), order.as_slice())? {
+    match find_cycle(alloc, pairs.as_slice(), names.as_slice(), order.as_slice())? {
         None => Ok(Graph::of(alloc, names, parsed.len() as u32, pairs, order)?),
         Some(names) => Err(GraphFault::Cycle { names }),
     }
 }
 
 /// The outcome of files whose modules have these names: the graph, or the first error.
-fn from_nodes(
+fn graph_from_nodes(
     alloc: Global,
     parsed: &[Parsed],
     names: IndexSet<String, Seed>,
@@ -93,21 +93,21 @@ fn from_nodes(
     requires few { length names.keys ≤ 8192 }
     ensures { HasOutcome result (IsGraphOutcome (files_of parsed.now)) }
 {
-    let pairs = pairs_of(alloc, parsed, &names)?;
-    if pairs.len() > MOST_PAIRS {
+    let pairs = import_edges(alloc, parsed, &names)?;
+    if pairs.len() > MAX_IMPORTS {
         return Err(GraphFault::TooMany);
     }
-    from_names(alloc, parsed, names, pairs)
+    graph_from_names(alloc, parsed, names, pairs)
 }
 
 /// The outcome of files with distinct module names: the graph, or the first error.
-fn from_files(alloc: Global, parsed: &[Parsed]) -> Result<Graph, GraphFault>
+fn graph_from_files(alloc: Global, parsed: &[Parsed]) -> Result<Graph, GraphFault>
     requires { AreFiles (files_of parsed.now) }
     ensures { HasOutcome result (IsGraphOutcome (files_of parsed.now)) }
 {
-    match nodes_of(alloc, parsed)? {
+    match collect_node_names(alloc, parsed)? {
         None => Err(GraphFault::TooMany),
-        Some(names) => from_nodes(alloc, parsed, names),
+        Some(names) => graph_from_nodes(alloc, parsed, names),
     }
 }
 
@@ -115,11 +115,11 @@ fn from_files(alloc: Global, parsed: &[Parsed]) -> Result<Graph, GraphFault>
 fn build_graph(alloc: Global, parsed: &[Parsed]) -> Result<Graph, GraphFault>
     ensures { HasOutcome result (IsGraphOutcome (files_of parsed.now)) }
 {
-    if parsed.len() > MOST_MODULES {
+    if parsed.len() > MAX_MODULES {
         return Err(GraphFault::TooMany);
     }
     check_distinct(alloc, parsed)?;
-    from_files(alloc, parsed)
+    graph_from_files(alloc, parsed)
 }
 
 /// The import graph of the files, or the first error: too many files, then two modules with one name, then too many modules or imports,

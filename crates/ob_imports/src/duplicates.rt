@@ -29,7 +29,7 @@ fn first_repeat(names: &[String]) -> Option<usize>
 }
 
 /// The paths of the files with a module of this name.
-fn paths_with(alloc: Global, parsed: &[Parsed], name: &str) -> Result<Vec<String>, AllocError>
+fn module_paths(alloc: Global, parsed: &[Parsed], name: &str) -> Result<Vec<String>, AllocError>
     ensures { IfOk result (λ paths. texts paths.items ≡ paths_of (files_of parsed.now) name.now) }
 {
     let mut paths = Vec::new(alloc);
@@ -53,7 +53,7 @@ pub(crate) fn check_distinct(alloc: Global, parsed: &[Parsed]) -> Result<(), Gra
         return Ok(());
     };
     let name = String::from_str(alloc, names[place].as_str())?;
-    let mut paths = paths_with(alloc, parsed, name.as_str())?;
+    let mut paths = module_paths(alloc, parsed, name.as_str())?;
     sort_all(&mut paths);
     let first_path = String::from_str(alloc, paths[0].as_str())?;
     let second_path = String::from_str(alloc, paths[1].as_str())?;

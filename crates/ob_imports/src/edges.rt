@@ -8,14 +8,14 @@ ghost use Rattle.ob_imports.specs.Names.{texts, LeadsBy};
 ghost use Rattle.ob_imports.specs.Numbering.{all_pairs, pairs_from};
 ghost use Rattle.digraph.specs.Edges.{IsAscending, Leads};
 
-use crate::names::number_of;
+use crate::names::name_index;
 use crate::{Edge, Parsed};
-use digraph::sort_all;
+use digraph::sort_and_dedup;
 use indexmap::IndexSet;
 use std::alloc::{AllocError, Global};
 use text_hash::Seed;
 
-fn add_pairs(
+fn append_edges(
     pairs: &mut Vec<Edge>,
     file: &Parsed,
     table: &IndexSet<String, Seed>,
@@ -27,9 +27,9 @@ fn add_pairs(
     if file.imports.is_empty() {
         return Ok(());
     }
-    let from = number_of(table, file.name.as_str());
+    let from = name_index(table, file.name.as_str());
     for import in &file.imports {
-        let to = number_of(table, import.as_str());
+        let to = name_index(table, import.as_str());
         pairs.push(Edge { from, to })?;
     }
     Ok(())
@@ -46,13 +46,13 @@ fn all_edges(
 {
     let mut pairs = Vec::new(alloc);
     for file in parsed {
-        add_pairs(&mut pairs, file, table)?;
+        append_edges(&mut pairs, file, table)?;
     }
     Ok(pairs)
 }
 
-/// The imports of the files, by the indices of their names in a table that has all of them, strictly sorted.
-pub(crate) fn pairs_of(
+/// The imports of the files as edges between indices of module names, strictly sorted. The table has all module names.
+pub(crate) fn import_edges(
     alloc: Global,
     parsed: &[Parsed],
     table: &IndexSet<String, Seed>,
@@ -64,6 +64,6 @@ pub(crate) fn pairs_of(
     ensures leads { IfOk result (λ pairs. (v w : ℕ) → Leads pairs.items v w ↔ LeadsBy (Imports (files_of parsed.now)) (texts table.now.keys) v w) }
 {
     let mut pairs = all_edges(alloc, parsed, table)?;
-    sort_all(&mut pairs);
+    sort_and_dedup(&mut pairs);
     Ok(pairs)
 }

@@ -13,7 +13,7 @@ pub enum GraphFault {
         first_path: String,
         second_path: String,
     },
-    /// Each of these modules imports the next, and the last one the first.
+    /// The names of modules each of which imports the next, and the last of which imports the first.
     #[error("the imports have a cycle")]
     Cycle {
         names: Vec<String>,

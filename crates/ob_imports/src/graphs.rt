@@ -6,8 +6,8 @@ ghost use Rattle.ob_imports.specs.Graphs.{graph_with, imported, importing, name_
 ghost use Rattle.ob_imports.specs.Names.{index_in, texts, IsByName};
 
 use crate::Edge;
-use crate::ready::ready_in;
-use digraph::{predecessors_of, transposed};
+use crate::ready::ready_modules;
+use digraph::{predecessor_lists, transposed};
 use indexmap::IndexSet;
 use std::alloc::{AllocError, Global};
 use std::marker::Model;
@@ -41,8 +41,8 @@ fn adjacency_lists(
     ensures importers { IfOk result (λ rows. (v : ℕ) → list_at (lists rows.1.items) v ≡ importing pairs.now v) }
 {
     let others = transposed(alloc, pairs)?;
-    let imports = predecessors_of(alloc, others.as_slice(), nodes)?;
-    let importers = predecessors_of(alloc, pairs, nodes)?;
+    let imports = predecessor_lists(alloc, others.as_slice(), nodes)?;
+    let importers = predecessor_lists(alloc, pairs, nodes)?;
     Ok((imports, importers))
 }
 
@@ -99,7 +99,7 @@ impl Graph {
 
     /// The number of modules, including external ones.
     pub fn nodes(&self) -> u32
-        // It is the number of names.
+        // The result is the number of names.
         ensures { result ≡ length self.now.names }
     {
         self.names.len() as u32
@@ -107,7 +107,7 @@ impl Graph {
 
     /// The number of modules of the tree, whose numbers come first.
     pub fn modules(&self) -> u32
-        // It is the number of modules of the tree.
+        // The result is the number of modules of the tree.
         ensures { result ≡ self.now.modules }
     {
         self.modules
@@ -117,29 +117,29 @@ impl Graph {
     pub fn name(&self, node: u32) -> &str
         // `node` is a module.
         requires { node < length self.now.names }
-        // It is the module's name.
+        // The result is the module's name.
         ensures { result.now ≡ name_of self.now node }
     {
         self.names.as_slice()[node as usize].as_str()
     }
 
-    /// The number of the module with this name; none without one.
+    /// The number of the module with this name; `None` if there is none.
     pub fn node_of(&self, name: &str) -> Option<u32>
-        // It is the index of the name, or none.
+        // The result is the index of the name, or `None`.
         ensures { result ≡ index_in self.now.names name.now }
     {
         let place = self.names.get_index_of(name)?;
         Some(place as u32)
     }
 
-    /// The hash seed of the table of names, for other tables of them. It affects only the running time.
+    /// The hash seed of the table of names, for other hash tables of module names. It affects only the running time.
     pub fn seed(&self) -> Seed {
         *self.names.hasher()
     }
 
     /// The numbers of all modules, sorted by name.
     pub fn by_name(&self) -> &[u32]
-        // They are all numbers, sorted by name.
+        // The result has the numbers of all modules, sorted by name.
         ensures { IsByName self.now.names result.now }
     {
         self.order.as_slice()
@@ -149,7 +149,7 @@ impl Graph {
     pub fn imports_of(&self, node: u32) -> &[u32]
         // `node` is a module.
         requires { node < length self.now.names }
-        // They are the module's imports.
+        // The result has exactly the module's imports.
         ensures { result.now ≡ imported self.now.pairs node }
     {
         self.imports[node as usize].as_slice()
@@ -159,7 +159,7 @@ impl Graph {
     pub fn importers_of(&self, node: u32) -> &[u32]
         // `node` is a module.
         requires { node < length self.now.names }
-        // They are the modules that import it.
+        // The result has exactly the modules that import this one.
         ensures { result.now ≡ importing self.now.pairs node }
     {
         self.importers[node as usize].as_slice()
@@ -170,9 +170,9 @@ impl Graph {
     pub fn ready(&self, done: &[bool]) -> Result<Vec<u32>, AllocError>
         // There is a flag for each module of the tree.
         requires { length done.now ≡ self.now.modules }
-        // They are exactly the ready modules, in ascending order.
+        // The result has exactly the ready modules, in ascending order.
         ensures { IfOk result (λ nodes. IsListOf (IsReady self.now done.now) nodes.items) }
     {
-        ready_in(*self.imports.allocator(), self.imports.as_slice(), done)
+        ready_modules(*self.imports.allocator(), self.imports.as_slice(), done)
     }
 }

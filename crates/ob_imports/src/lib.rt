@@ -1,4 +1,4 @@
-//! Import graphs: modules by number, their imports and importers, and the canonical cycle of imports that have one.
+//! Import graphs: modules by number, their imports and importers, and the canonical import cycle if there is a cycle.
 //! Depends on `digraph` for cycles and adjacency lists, `text_hash` and `indexmap` for tables, `thiserror` for errors.
 //! The main call is `graph`. It returns exactly the graph of the files, which is acyclic, or their first error.
 #![tactic(auto)]

@@ -8,12 +8,12 @@ ghost use Rattle.ob_imports.specs.Numbering.{all_lacked, lacked, index_or_len};
 ghost use Rattle.ob_imports.specs.Outcomes.{AreFiles, ExceedsNodeLimit};
 
 use crate::Parsed;
-use crate::seeds::seed_of;
+use crate::seeds::name_table_seed;
 use indexmap::IndexSet;
 use std::alloc::{AllocError, Global};
 use text_hash::Seed;
 
-const MOST_NODES: usize = 8192;
+const MAX_NODES: usize = 8192;
 
 pub(crate) fn module_names(alloc: Global, parsed: &[Parsed]) -> Result<Vec<String>, AllocError>
     ensures { IfOk result (λ names. texts names.items ≡ names_of (files_of parsed.now)) }
@@ -41,7 +41,7 @@ pub(crate) fn append_names(
 }
 
 /// Appends the names that the table lacks.
-fn add_lacked(
+fn append_missing_names(
     alloc: Global,
     others: &mut Vec<String>,
     names: &[String],
@@ -67,13 +67,13 @@ fn missing_names(
 {
     let mut others = Vec::new(alloc);
     for file in parsed {
-        add_lacked(alloc, &mut others, file.imports.as_slice(), table)?;
+        append_missing_names(alloc, &mut others, file.imports.as_slice(), table)?;
     }
     Ok(others)
 }
 
 /// Sorts the names and removes duplicates.
-fn sort_all(names: &mut Vec<String>)
+fn sort_and_dedup(names: &mut Vec<String>)
     ensures ascending { AreAscending (texts names.new.items) }
     ensures same { (n : List ℕ) → Contains (texts names.new.items) n ↔ Contains (texts names.old.items) n }
 {
@@ -87,7 +87,7 @@ fn names_of_files(alloc: Global, parsed: &[Parsed]) -> Result<IndexSet<String, S
     ensures { IfOk result (λ table. texts table.keys ≡ names_of (files_of parsed.now)) }
 {
     let names = module_names(alloc, parsed)?;
-    let mut table = IndexSet::with_hasher(alloc, seed_of(alloc, parsed)?);
+    let mut table = IndexSet::with_hasher(alloc, name_table_seed(alloc, parsed)?);
     append_names(alloc, &mut table, names.as_slice())?;
     Ok(table)
 }
@@ -102,13 +102,13 @@ fn sorted_missing(
     ensures same { IfOk result (λ others. (n : List ℕ) → Contains (texts others.items) n ↔ Contains (all_lacked (texts table.now.keys) (files_of parsed.now)) n) }
 {
     let mut others = missing_names(alloc, parsed, table)?;
-    sort_all(&mut others);
+    sort_and_dedup(&mut others);
     Ok(others)
 }
 
 /// The names of all modules by number; none if there are too many. External names are counted before they are added to the table, so that
 /// names that were chosen to collide can't slow it down.
-pub(crate) fn nodes_of(
+pub(crate) fn collect_node_names(
     alloc: Global,
     parsed: &[Parsed],
 ) -> Result<Option<IndexSet<String, Seed>>, AllocError>
@@ -119,18 +119,18 @@ pub(crate) fn nodes_of(
 {
     let mut table = names_of_files(alloc, parsed)?;
     let others = sorted_missing(alloc, parsed, &table)?;
-    if others.len() > MOST_NODES {
+    if others.len() > MAX_NODES {
         return Ok(None);
     }
     append_names(alloc, &mut table, others.as_slice())?;
-    if table.len() > MOST_NODES {
+    if table.len() > MAX_NODES {
         return Ok(None);
     }
     Ok(Some(table))
 }
 
 /// The index of a name that the table has.
-pub(crate) fn number_of(table: &IndexSet<String, Seed>, name: &str) -> u32
+pub(crate) fn name_index(table: &IndexSet<String, Seed>, name: &str) -> u32
     requires few { length table.now.keys ≤ 8192 }
     requires known { Contains (texts table.now.keys) name.now }
     ensures { result ≡ index_or_len (texts table.now.keys) name.now }

@@ -8,7 +8,7 @@ ghost use Rattle.ob_imports.specs.Numbering.{IsNumbered};
 use std::alloc::{AllocError, Global};
 
 /// Each name with its number.
-fn with_numbers<'a>(alloc: Global, names: &'a [String]) -> Result<Vec<(&'a str, u32)>, AllocError>
+fn number_names<'a>(alloc: Global, names: &'a [String]) -> Result<Vec<(&'a str, u32)>, AllocError>
     requires few { length names.now ≤ 8192 }
     ensures names { IfOk result (λ pairs. map (λ p. p.0.now) pairs.items ≡ texts names.now) }
     ensures numbers { IfOk result (λ pairs. All (IsNumbered (texts names.now)) pairs.items) }
@@ -37,7 +37,7 @@ pub(crate) fn order_by_name(alloc: Global, names: &[String]) -> Result<Vec<u32>,
     requires once { IsDistinct bytes_eq (texts names.now) }
     ensures { IfOk result (λ order. IsByName (texts names.now) order.items) }
 {
-    let mut pairs = with_numbers(alloc, names)?;
+    let mut pairs = number_names(alloc, names)?;
     pairs.sort_unstable();
     pair_numbers(alloc, pairs.as_slice())
 }

@@ -32,7 +32,7 @@ fn can_start(imports: &[Vec<u32>], done: &[bool], node: usize) -> bool
 }
 
 /// The modules of the tree that aren't done and whose imports in the tree are, given the imports of each module.
-pub(crate) fn ready_in(
+pub(crate) fn ready_modules(
     alloc: Global,
     imports: &[Vec<u32>],
     done: &[bool],

@@ -1,4 +1,4 @@
-//! The hash seed of the table of names, which the authors of the files choose.
+//! The hash seed of the table of names. It depends on the names, as the authors of the files may choose names that collide.
 
 use crate::Parsed;
 use std::alloc::{AllocError, Global};
@@ -8,7 +8,7 @@ use text_hash::Seed;
 const FEW: usize = 1024;
 
 /// An upper bound of the number of names: the module name of each file and its import items.
-fn count_of(parsed: &[Parsed]) -> usize {
+fn name_count(parsed: &[Parsed]) -> usize {
     let mut count = parsed.len();
     for file in parsed {
         count = count.saturating_add(file.imports.len());
@@ -28,7 +28,7 @@ fn append_file_names(text: &mut Vec<u8>, file: &Parsed) -> Result<(), AllocError
 }
 
 /// All names, each with a line end.
-fn text_of(alloc: Global, parsed: &[Parsed]) -> Result<Vec<u8>, AllocError> {
+fn concatenate_names(alloc: Global, parsed: &[Parsed]) -> Result<Vec<u8>, AllocError> {
     let mut text = Vec::new(alloc);
     for file in parsed {
         append_file_names(&mut text, file)?;
@@ -36,12 +36,12 @@ fn text_of(alloc: Global, parsed: &[Parsed]) -> Result<Vec<u8>, AllocError> {
     Ok(text)
 }
 
-/// The seed of the table of names: names that were chosen to collide with one seed get another.
-pub(crate) fn seed_of(alloc: Global, parsed: &[Parsed]) -> Result<Seed, AllocError> {
-    let count = count_of(parsed);
+/// The seed of the table of names: names that were chosen to collide under one seed get a different seed.
+pub(crate) fn name_table_seed(alloc: Global, parsed: &[Parsed]) -> Result<Seed, AllocError> {
+    let count = name_count(parsed);
     if count <= FEW {
         return Ok(Seed::for_keys(&[], count));
     }
-    let text = text_of(alloc, parsed)?;
+    let text = concatenate_names(alloc, parsed)?;
     Ok(Seed::for_keys(text.as_slice(), count))
 }

@@ -5,7 +5,7 @@ use Rattle.std.specs.List.Sorted.{IsSortedBy}
 use Rattle.std.specs.Ordering.{nat_cmp, ordering_then, is_lt}
 use Rattle.std.specs.declared.cmp.Ordering.{Ordering}
 
--- the order of two entries
+-- the order of two entries: by key, then by index
 abbrev pub rank_cmp : {E K : Type 0} → (K → K → Ordering) → (E → K) → (E → ℕ) → E → E → Ordering
 rank_cmp R key index a b = ordering_then (R (key a) (key b)) (nat_cmp (index a) (index b))
 

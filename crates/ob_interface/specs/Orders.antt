@@ -18,7 +18,7 @@ use Rattle.ob_interface.specs.Placed.{is_member}
 use Rattle.ob_interface.specs.IndexEntries.{AreRanked}
 use Rattle.ob_interface.specs.Texts.{text_in}
 
--- a key: a record, or none for the block, and a name in it
+-- a key: a record, or none for the module's block, and the name of a declaration there
 abbrev pub Key : Type 0
 Key = Option ℕ × List ℕ
 

@@ -7,8 +7,8 @@ use Rattle.module_table.specs.declared.rows.Declared.{Declared}
 use Rattle.module_table.specs.Parts.{Rows}
 use Rattle.ob_interface.specs.Interfaces.{declaration, is_exportable, Declaration}
 
--- an entry of the table declares the name in this record, or in the block if no record is given, in a declaration group of the module's
--- block, and other modules can refer to it
+-- an entry of the table declares the name in this record, or outside of records if none is given; its declaration group is in the module's
+-- block, and other modules can refer to its kind
 pub record Declares (bytes : List ℕ) (ts : List Token) (rows : Rows) (of_record : Option ℕ) (name : List ℕ) (row : Declared) (by : DeclGroup) : Type 0 where
   pub is_row : Contains rows.declared row
   pub is_construct : Contains rows.decl_groups by

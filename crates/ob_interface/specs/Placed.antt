@@ -4,11 +4,11 @@ use Rattle.std.specs.Option.{option_eq, option_map, option_and_then}
 use Rattle.std.specs.Str.{bytes_eq}
 use Rattle.ob_interface.specs.Interfaces.{Array, Pointer, Record, Procedure, Named, Base, Declaration, Imported, ModuleInterface, Part}
 
--- whether this declares the name in the record, or in the block if no record is given
+-- whether this declares the name in the record, or in the module's block if no record is given
 abbrev pub is_member : Option ℕ → List ℕ → Declaration → Bool
 is_member of_record name d = option_eq nat_eq d.of_record of_record && bytes_eq d.name name
 
--- the index of the declaration of a name in a record, or in the block
+-- the index of the declaration of a name in a record, or in the module's block if no record is given
 abbrev pub index_of : ModuleInterface → Option ℕ → List ℕ → Option ℕ
 index_of m of_record name = position (is_member of_record name) m.declarations
 

@@ -10,7 +10,7 @@ use ob_scan::TokenTexts;
 use std::alloc::AllocError;
 
 /// Appends bytes to the buffer and returns their span.
-pub(crate) fn add_text(text: &mut Vec<u8>, more: &[u8]) -> Result<BufferSpan, AllocError>
+pub(crate) fn append_text(text: &mut Vec<u8>, more: &[u8]) -> Result<BufferSpan, AllocError>
     ensures grown { IfOk result (λ _. text.new.items ≡ text.old.items ++ more.now) }
     ensures decoded { IfOk result (λ s. DecodesTo text_in text.new.items s more.now) }
 {
@@ -20,8 +20,8 @@ pub(crate) fn add_text(text: &mut Vec<u8>, more: &[u8]) -> Result<BufferSpan, Al
     Ok(BufferSpan { start, end })
 }
 
-/// Appends the one or two identifiers of a name.
-pub(crate) fn add_name(
+/// Appends the one or two identifiers of a name to the buffer. Returns their spans.
+pub(crate) fn append_name(
     text: &mut Vec<u8>,
     source: &TokenTexts,
     head: u32,
@@ -31,11 +31,11 @@ pub(crate) fn add_name(
     ensures grown { IfOk result (λ _. IsGrown text.old.items text.new.items) }
     ensures decoded { IfOk result (λ n. DecodesTo name_in text.new.items n (type_name source.now.bytes.now source.now.tokens.now head member)) }
 {
-    let head = add_text(text, source.of(head))?;
+    let head = append_text(text, source.of(head))?;
     match member {
         None => Ok(NameRow { head, member: None }),
         Some(member) => {
-            let member = add_text(text, source.of(member))?;
+            let member = append_text(text, source.of(member))?;
             Ok(NameRow {
                 head,
                 member: Some(member),
@@ -44,8 +44,8 @@ pub(crate) fn add_name(
     }
 }
 
-/// Appends the name of a component, if it has one.
-pub(crate) fn add_part(
+/// Appends the name of a component to the buffer, if it has one. Returns the component's entry.
+pub(crate) fn append_component(
     text: &mut Vec<u8>,
     source: &TokenTexts,
     part: TypePart,
@@ -63,7 +63,7 @@ pub(crate) fn add_part(
         Part::Procedure => RowPart::Procedure,
         Part::Named(member) => RowPart::Named {
             start: source.start(part.number),
-            name: add_name(text, source, part.number, member)?,
+            name: append_name(text, source, part.number, member)?,
         },
     };
     Ok(PartRow { declared_by, part })

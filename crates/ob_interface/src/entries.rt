@@ -103,7 +103,7 @@ fn owned_record(parts: &[PartRow], row: &DeclarationRow) -> Option<u32>
 }
 
 /// Appends an index entry if the type expression of the declaration ends in a record.
-fn add_owner(
+fn append_owner_entry(
     owners: &mut Vec<RecordIndexEntry>,
     record: Option<u32>,
     at: usize,
@@ -133,7 +133,7 @@ fn owner_entries(
     let mut entries = Vec::new(alloc);
     for i in 0..rows.len() {
         let record = owned_record(parts, &rows[i]);
-        add_owner(&mut entries, record, i)?;
+        append_owner_entry(&mut entries, record, i)?;
     }
     Ok(entries)
 }

@@ -7,10 +7,10 @@ ghost use Rattle.module_table.specs.Tables.{rows_in};
 ghost use Rattle.ob_interface.specs.Interfaces.{interface_of, is_part_by, module_level_by};
 ghost use Rattle.ob_interface.specs.RowValues.{interface_in};
 
-use crate::buffer::add_text;
-use crate::members::{add_bases, add_declarations, add_imports};
+use crate::buffer::append_text;
+use crate::members::{collect_bases, collect_declarations, collect_imports};
 use crate::rows::Rows;
-use crate::type_exprs::{add_parts, sorted_parts};
+use crate::type_exprs::{collect_components, sorted_parts};
 use module_table::{Table, TypePart};
 use ob_scan::{Token, TokenTexts};
 use std::alloc::{AllocError, Global};
@@ -30,11 +30,11 @@ fn fill_rows(
     requires same { (k : ℕ) → IsSome (module_level_by (rows_in table.now).decl_groups k) → filter (is_part_by k) own.now ≡ filter (is_part_by k) (rows_in table.now).parts }
     ensures { OnOk result (interface_in rows.new ≡ interface_of source.now.bytes.now source.now.tokens.now (rows_in table.now)) }
 {
-    rows.name = add_text(&mut rows.text, source.of(1))?;
+    rows.name = append_text(&mut rows.text, source.of(1))?;
     table.invariants();
     let decl_groups = table.decl_groups();
     let declared = table.declared();
-    rows.declarations = add_declarations(
+    rows.declarations = collect_declarations(
         alloc,
         &mut rows.text,
         source,
@@ -42,14 +42,19 @@ fn fill_rows(
         own,
         declared,
     )?;
-    rows.bases = add_bases(alloc, &mut rows.text, source, decl_groups, table.records())?;
-    rows.imports = add_imports(alloc, &mut rows.text, source, table.imports())?;
-    rows.parts = add_parts(alloc, &mut rows.text, source, own)?;
+    rows.bases = collect_bases(alloc, &mut rows.text, source, decl_groups, table.records())?;
+    rows.imports = collect_imports(alloc, &mut rows.text, source, table.imports())?;
+    rows.parts = collect_components(alloc, &mut rows.text, source, own)?;
     Ok(())
 }
 
 /// The entries of the interface of the module with this table.
-fn rows_of(alloc: Global, table: &Table, tokens: &[Token], bytes: &[u8]) -> Result<Rows, AllocError>
+fn read_rows(
+    alloc: Global,
+    table: &Table,
+    tokens: &[Token],
+    bytes: &[u8],
+) -> Result<Rows, AllocError>
     requires { AreInText bytes.now tokens.now }
     ensures { IfOk result (λ rows. interface_in rows ≡ interface_of bytes.now tokens.now (rows_in table.now)) }
 {
@@ -91,6 +96,6 @@ pub fn exports_of(
     ensures exact { IfOk result (λ seen. seen ≡ interface_of bytes.now tokens.now (rows_in table.now)) }
 {
     table.has_bounded_rows();
-    let rows = rows_of(alloc, table, tokens, bytes)?;
+    let rows = read_rows(alloc, table, tokens, bytes)?;
     Ok(Exports { rows })
 }

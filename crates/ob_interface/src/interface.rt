@@ -12,7 +12,7 @@ ghost use Rattle.ob_interface.specs.declared.rows.ImportRow.{ImportRow as Import
 
 use crate::entries::{sorted_aliases, sorted_bases, sorted_members, sorted_owners};
 use crate::export_rows::Exports;
-use crate::order::{first_by_name, first_by_record, text_of};
+use crate::order::{first_by_name, first_by_record, span_text};
 use crate::rows::{DeclarationRow, NameIndexEntry, RecordIndexEntry, Rows};
 use crate::views::{Base, Declaration, Part, base_of, declaration_of, part_of, parts_between};
 use std::alloc::{AllocError, Global};
@@ -21,7 +21,7 @@ use std::marker::Model;
 /// The sorted indexes of the entries.
 #[derive(Drop)]
 struct RowIndexes {
-    /// The declarations by record and name; the block's own come first.
+    /// The declarations by record and name; those of the module's block come first.
     members: Vec<NameIndexEntry>,
     /// The import items by alias.
     aliases: Vec<NameIndexEntry>,
@@ -32,7 +32,7 @@ struct RowIndexes {
 }
 
 /// Builds the indexes.
-fn indexes_of(alloc: Global, rows: &Rows) -> Result<RowIndexes, AllocError>
+fn build_indexes(alloc: Global, rows: &Rows) -> Result<RowIndexes, AllocError>
     requires { HasBoundedLists rows.now }
     ensures { IfOk result (λ x. HasIndexes rows.now x.members.items x.aliases.items x.bases.items x.owners.items) }
 {
@@ -73,8 +73,8 @@ impl Model for Interface {
     ghost invariant = { λ i. HasIndexes i.rows i.indexes.members.items i.indexes.aliases.items i.indexes.bases.items i.indexes.owners.items };
 }
 
-/// The index of the declaration of a name in a record, or in the block.
-fn member_in(
+/// The index of the declaration of a name in a record, or in the module's block if no record is given.
+fn find_member_index(
     rows: &Rows,
     members: &[NameIndexEntry],
     record: Option<u32>,
@@ -97,7 +97,7 @@ fn import_in(rows: &Rows, aliases: &[NameIndexEntry], alias: &[u8]) -> Option<u3
 }
 
 /// The index of the base of a record.
-fn base_index(rows: &Rows, bases: &[RecordIndexEntry], record: u32) -> Option<u32>
+fn find_base_index(rows: &Rows, bases: &[RecordIndexEntry], record: u32) -> Option<u32>
     requires by_record { AreByRecord bases.now }
     requires indexes { Indexes record_key index_by_record fits_base (interface_in rows.now).bases bases.now }
     ensures { result ≡ position (fits_base «record») (interface_in rows.now).bases }
@@ -107,7 +107,7 @@ fn base_index(rows: &Rows, bases: &[RecordIndexEntry], record: u32) -> Option<u3
 }
 
 /// The index of the declaration that owns a record.
-fn owner_in(rows: &Rows, owners: &[RecordIndexEntry], record: u32) -> Option<u32>
+fn find_owner_index(rows: &Rows, owners: &[RecordIndexEntry], record: u32) -> Option<u32>
     requires by_record { AreByRecord owners.now }
     requires indexes { Indexes record_key index_by_record holds (interface_in rows.now).declarations owners.now }
     ensures { result ≡ owner_index (interface_in rows.now) «record» }
@@ -143,15 +143,15 @@ fn part_in(rows: &Rows, index: u32, at: usize) -> Option<Part<'_>>
 }
 
 /// The own name of the module that the import item with this index names.
-fn imported_at(rows: &Rows, index: u32) -> Option<&[u8]>
+fn imported_module_name(rows: &Rows, index: u32) -> Option<&[u8]>
     ensures { option_map (λ m. m.now) result ≡ option_map (λ (r : ImportItem). text_in rows.now.text.items r.imported) (slice_get rows.now.imports.items index) }
 {
     let row = rows.imports.as_slice().get(index as usize)?;
-    Some(text_of(rows.text.as_slice(), row.imported))
+    Some(span_text(rows.text.as_slice(), row.imported))
 }
 
 /// The base with this index.
-fn base_at(rows: &Rows, index: u32) -> Option<Base<'_>>
+fn base_by_index(rows: &Rows, index: u32) -> Option<Base<'_>>
     ensures { option_map base_value result ≡ option_map (base_in rows.now.text.items) (slice_get rows.now.bases.items index) }
 {
     let row = rows.bases.as_slice().get(index as usize)?;
@@ -159,23 +159,27 @@ fn base_at(rows: &Rows, index: u32) -> Option<Base<'_>>
 }
 
 /// The own name of the module that an alias denotes.
-fn module_in<'a>(rows: &'a Rows, aliases: &[NameIndexEntry], alias: &[u8]) -> Option<&'a [u8]>
+fn module_name_by_alias<'a>(
+    rows: &'a Rows,
+    aliases: &[NameIndexEntry],
+    alias: &[u8],
+) -> Option<&'a [u8]>
     requires by_name { AreByName rows.now.text.items aliases.now }
     requires indexes { Indexes (name_key rows.now.text.items) index_by_name fits_alias (interface_in rows.now).imports aliases.now }
     ensures { option_map (λ m. m.now) result ≡ module_named (interface_in rows.now) alias.now }
 {
     let index = import_in(rows, aliases, alias)?;
-    imported_at(rows, index)
+    imported_module_name(rows, index)
 }
 
 /// The base of a record.
-fn based_in<'a>(rows: &'a Rows, bases: &[RecordIndexEntry], record: u32) -> Option<Base<'a>>
+fn find_base<'a>(rows: &'a Rows, bases: &[RecordIndexEntry], record: u32) -> Option<Base<'a>>
     requires by_record { AreByRecord bases.now }
     requires indexes { Indexes record_key index_by_record fits_base (interface_in rows.now).bases bases.now }
     ensures { option_map base_value result ≡ base_named (interface_in rows.now) «record» }
 {
-    let index = base_index(rows, bases, record)?;
-    base_at(rows, index)
+    let index = find_base_index(rows, bases, record)?;
+    base_by_index(rows, index)
 }
 
 impl Interface {
@@ -184,7 +188,7 @@ impl Interface {
         ensures { IfOk result (λ i. i ≡ seen) }
     {
         let Exports { rows } = seen;
-        let indexes = indexes_of(alloc, &rows)?;
+        let indexes = build_indexes(alloc, &rows)?;
         Ok(Interface { rows, indexes })
     }
 
@@ -192,7 +196,7 @@ impl Interface {
     pub fn name(&self) -> &[u8]
         ensures { result.now ≡ self.now.name }
     {
-        text_of(self.rows.text.as_slice(), self.rows.name)
+        span_text(self.rows.text.as_slice(), self.rows.name)
     }
 
     /// The number of declarations, at most 2^32.
@@ -205,11 +209,11 @@ impl Interface {
         self.rows.declarations.len()
     }
 
-    /// The index of the declaration of a name in a record, or in the block if no record is given.
+    /// The index of the declaration of a name in a record, or in the module's block if no record is given.
     pub fn index_of(&self, record: Option<u32>, name: &[u8]) -> Option<u32>
         ensures { result ≡ index_of self.now «record» name.now }
     {
-        member_in(&self.rows, self.indexes.members.as_slice(), record, name)
+        find_member_index(&self.rows, self.indexes.members.as_slice(), record, name)
     }
 
     /// The declaration with this index.
@@ -229,7 +233,7 @@ impl Interface {
         part_in(&self.rows, index, at)
     }
 
-    /// The declaration of this name in the block.
+    /// The declaration of this name in the module's block.
     pub fn declaration(&self, name: &[u8]) -> Option<Declaration<'_>>
         ensures { option_map declaration_value result ≡ option_and_then (declaration_at self.now) (index_of self.now None name.now) }
     {
@@ -249,21 +253,21 @@ impl Interface {
     pub fn module_of(&self, alias: &[u8]) -> Option<&[u8]>
         ensures { option_map (λ m. m.now) result ≡ module_named self.now alias.now }
     {
-        module_in(&self.rows, self.indexes.aliases.as_slice(), alias)
+        module_name_by_alias(&self.rows, self.indexes.aliases.as_slice(), alias)
     }
 
     /// The base of a record.
     pub fn base(&self, record: u32) -> Option<Base<'_>>
         ensures { option_map base_value result ≡ base_named self.now «record» }
     {
-        based_in(&self.rows, self.indexes.bases.as_slice(), record)
+        find_base(&self.rows, self.indexes.bases.as_slice(), record)
     }
 
-    /// The index of the declaration whose type is the record, directly or through arrays and pointers. Of an identifier list it is the
-    /// first identifier.
+    /// The index of the declaration whose type is the record, directly or through arrays and pointers. If an identifier list declares
+    /// several identifiers of this type, it is the index of the first.
     pub fn owner(&self, record: u32) -> Option<u32>
         ensures { result ≡ owner_index self.now «record» }
     {
-        owner_in(&self.rows, self.indexes.owners.as_slice(), record)
+        find_owner_index(&self.rows, self.indexes.owners.as_slice(), record)
     }
 }

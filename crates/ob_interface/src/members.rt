@@ -11,7 +11,7 @@ ghost use Rattle.ob_scan.specs.Spelling.{AreInText};
 ghost use Rattle.ob_interface.specs.Interfaces.{base, base_by, declaration, declaration_by, imported_of, is_exportable, module_level_by};
 ghost use Rattle.ob_interface.specs.Texts.{base_in, declaration_in, type_expr_at, import_in, AllDecodeTo, IsGrown, DecodesTo};
 
-use crate::buffer::{add_name, add_text};
+use crate::buffer::{append_name, append_text};
 use crate::module_level::find_module_level;
 use crate::rows::{BaseRow, DeclarationRow, ImportRow};
 use crate::type_exprs::part_range;
@@ -35,7 +35,7 @@ fn is_exportable(decl_kind: DeclKind) -> bool
 
 /// The declaration group of an identifier, if the group is in the module's block and other modules can refer to its kind. `cursor` is a
 /// hint.
-fn decl_group_of(
+fn exportable_decl_group(
     decl_groups: &[DeclGroup],
     cursor: &mut usize,
     declared: Declared,
@@ -63,8 +63,8 @@ fn base_of(decl_groups: &[DeclGroup], cursor: &mut usize, record: Record) -> Opt
     }
 }
 
-/// Appends the name of a declaration.
-fn add_declaration(
+/// Appends the name of a declaration to the buffer. Returns the declaration's entry.
+fn append_declaration(
     text: &mut Vec<u8>,
     source: &TokenTexts,
     parts: &[TypePart],
@@ -77,7 +77,7 @@ fn add_declaration(
     ensures decoded { IfOk result (λ d. DecodesTo (declaration_in (type_expr_at source.now.bytes.now source.now.tokens.now parts.now)) text.new.items d
         (declaration source.now.bytes.now source.now.tokens.now parts.now declared decl_group)) }
 {
-    let name = add_text(text, source.of(declared.number))?;
+    let name = append_text(text, source.of(declared.number))?;
     let (first_part, parts_end) = part_range(parts, declared.declared_by);
     Ok(DeclarationRow {
         name,
@@ -92,7 +92,7 @@ fn add_declaration(
 }
 
 /// Collects the declarations of the identifiers in the module's block.
-pub(crate) fn add_declarations(
+pub(crate) fn collect_declarations(
     alloc: Global,
     text: &mut Vec<u8>,
     source: &TokenTexts,
@@ -112,9 +112,9 @@ pub(crate) fn add_declarations(
     let mut cursor = 0;
     for i in 0..declared.len() {
         let identifier = declared[i];
-        match decl_group_of(decl_groups, &mut cursor, identifier) {
+        match exportable_decl_group(decl_groups, &mut cursor, identifier) {
             Some(decl_group) => {
-                let row = add_declaration(text, source, parts, identifier, decl_group)?;
+                let row = append_declaration(text, source, parts, identifier, decl_group)?;
                 rows.push(row)?;
             }
             None => {}
@@ -123,8 +123,8 @@ pub(crate) fn add_declarations(
     Ok(rows)
 }
 
-/// Appends the name of a base.
-fn add_base(
+/// Appends the name of a base to the buffer. Returns the base's entry.
+fn append_base(
     text: &mut Vec<u8>,
     source: &TokenTexts,
     record: u32,
@@ -135,7 +135,7 @@ fn add_base(
     ensures decoded { IfOk result (λ b. DecodesTo base_in text.new.items b (base source.now.bytes.now source.now.tokens.now «record» name)) }
 {
     let start = source.start(name.head);
-    let name = add_name(text, source, name.head, name.member)?;
+    let name = append_name(text, source, name.head, name.member)?;
     Ok(BaseRow {
         record,
         start,
@@ -144,7 +144,7 @@ fn add_base(
 }
 
 /// Collects the bases of the records in the module's block.
-pub(crate) fn add_bases(
+pub(crate) fn collect_bases(
     alloc: Global,
     text: &mut Vec<u8>,
     source: &TokenTexts,
@@ -163,7 +163,7 @@ pub(crate) fn add_bases(
         let record = records[i];
         match base_of(decl_groups, &mut cursor, record) {
             Some(base) => {
-                let row = add_base(text, source, record.number, base)?;
+                let row = append_base(text, source, record.number, base)?;
                 rows.push(row)?;
             }
             None => {}
@@ -172,8 +172,8 @@ pub(crate) fn add_bases(
     Ok(rows)
 }
 
-/// Appends the names of an import item.
-fn add_import(
+/// Appends the names of an import item to the buffer. Returns the item's entry.
+fn append_import(
     text: &mut Vec<u8>,
     source: &TokenTexts,
     import: Import,
@@ -182,8 +182,8 @@ fn add_import(
     ensures grown { IfOk result (λ _. IsGrown text.old.items text.new.items) }
     ensures decoded { IfOk result (λ i. DecodesTo import_in text.new.items i (imported_of source.now.bytes.now source.now.tokens.now import)) }
 {
-    let alias = add_text(text, source.of(import.alias))?;
-    let imported = add_text(text, source.of(import.imported))?;
+    let alias = append_text(text, source.of(import.alias))?;
+    let imported = append_text(text, source.of(import.imported))?;
     Ok(ImportRow {
         alias,
         start: source.start(import.alias),
@@ -192,7 +192,7 @@ fn add_import(
 }
 
 /// Collects the import items.
-pub(crate) fn add_imports(
+pub(crate) fn collect_imports(
     alloc: Global,
     text: &mut Vec<u8>,
     source: &TokenTexts,
@@ -204,7 +204,7 @@ pub(crate) fn add_imports(
 {
     let mut rows = Vec::new(alloc);
     for i in 0..imports.len() {
-        let row = add_import(text, source, imports[i])?;
+        let row = append_import(text, source, imports[i])?;
         rows.push(row)?;
     }
     Ok(rows)

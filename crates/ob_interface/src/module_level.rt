@@ -7,15 +7,15 @@ ghost use Rattle.ob_interface.specs.Interfaces.{module_level_by};
 use module_table::{DeclGroup, index_of};
 
 /// The number of indexes that are tried before the binary search.
-const PROBES: usize = 4;
+const MAX_PROBES: usize = 4;
 
-/// The index of the declaration group that begins with this token. Tries `PROBES` indexes from the hint on, then a binary search.
+/// The index of the declaration group that begins with this token. Tries `MAX_PROBES` indexes from the hint on, then a binary search.
 fn index_by_hint(decl_groups: &[DeclGroup], cursor: usize, first: u32) -> Option<usize>
     requires { IsIncreasingBy (λ (d : DeclGroupRow). d.first) decl_groups.now }
     ensures found { IfSome result (IsIndexBy (λ (d : DeclGroupRow). d.first) decl_groups.now first) }
     ensures none { IfNone result (HasNoneBy (λ (d : DeclGroupRow). d.first) decl_groups.now first) }
 {
-    for at in cursor..cursor.saturating_add(PROBES) {
+    for at in cursor..cursor.saturating_add(MAX_PROBES) {
         if let Some(decl_group) = decl_groups.get(at) {
             if decl_group.first == first {
                 return Some(at);

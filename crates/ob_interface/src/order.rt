@@ -11,7 +11,7 @@ use crate::rows::{BufferSpan, NameIndexEntry, RecordIndexEntry};
 use std::cmp::Ordering;
 
 /// The bytes of a span; offsets beyond the buffer are ignored.
-pub(crate) fn text_of(text: &[u8], span: BufferSpan) -> &[u8]
+pub(crate) fn span_text(text: &[u8], span: BufferSpan) -> &[u8]
     ensures { result.now ≡ text_in text.now span }
 {
     let rest = &text[span.start.min(text.len())..];
@@ -19,22 +19,22 @@ pub(crate) fn text_of(text: &[u8], span: BufferSpan) -> &[u8]
     &rest[..length.min(rest.len())]
 }
 
-/// Compares the key of an entry with a record, or the block, and a name.
+/// Compares the key of an entry with a record (`None` for the module's block) and a name.
 fn compare(text: &[u8], entry: &NameIndexEntry, record: Option<u32>, name: &[u8]) -> Ordering
     ensures { result ≡ key_cmp (name_key text.now entry.now) («record», name.now) }
 {
     match entry.record.cmp(&record) {
-        Ordering::Equal => text_of(text, entry.name).cmp(&name),
+        Ordering::Equal => span_text(text, entry.name).cmp(&name),
         Ordering::Less => Ordering::Less,
         Ordering::Greater => Ordering::Greater,
     }
 }
 
 /// Compares two entries by record, name and index.
-fn compare_names(text: &[u8], a: &NameIndexEntry, b: &NameIndexEntry) -> Ordering
+fn compare_name_entries(text: &[u8], a: &NameIndexEntry, b: &NameIndexEntry) -> Ordering
     ensures { result ≡ rank_cmp key_cmp (name_key text.now) index_by_name a.now b.now }
 {
-    match compare(text, a, b.record, text_of(text, b.name)) {
+    match compare(text, a, b.record, span_text(text, b.name)) {
         Ordering::Equal => a.index.cmp(&b.index),
         Ordering::Less => Ordering::Less,
         Ordering::Greater => Ordering::Greater,
@@ -42,7 +42,7 @@ fn compare_names(text: &[u8], a: &NameIndexEntry, b: &NameIndexEntry) -> Orderin
 }
 
 /// Compares two entries by record and index.
-fn compare_records(a: &RecordIndexEntry, b: &RecordIndexEntry) -> Ordering
+fn compare_record_entries(a: &RecordIndexEntry, b: &RecordIndexEntry) -> Ordering
     ensures { result ≡ rank_cmp nat_cmp record_key index_by_record a.now b.now }
 {
     match a.record.cmp(&b.record) {
@@ -57,7 +57,7 @@ pub(crate) fn sort_by_name(text: &[u8], entries: &mut Vec<NameIndexEntry>)
     ensures sorted { AreByName text.now entries.new.items }
     ensures same { IsPermutation entries.old.items entries.new.items }
 {
-    entries.sort_unstable_by(|a, b| compare_names(text, a, b));
+    entries.sort_unstable_by(|a, b| compare_name_entries(text, a, b));
 }
 
 /// Sorts entries by record and index.
@@ -65,10 +65,11 @@ pub(crate) fn sort_by_record(entries: &mut Vec<RecordIndexEntry>)
     ensures sorted { AreByRecord entries.new.items }
     ensures same { IsPermutation entries.old.items entries.new.items }
 {
-    entries.sort_unstable_by(|a, b| compare_records(a, b));
+    entries.sort_unstable_by(|a, b| compare_record_entries(a, b));
 }
 
-/// The smallest index with this name in this record, or in the block, by binary search.
+/// The smallest index of the entries with this record (`None` for the module's block) and this name, by binary search; `None` if no entry
+/// has them.
 pub(crate) fn first_by_name(
     text: &[u8],
     entries: &[NameIndexEntry],
@@ -91,7 +92,7 @@ pub(crate) fn first_by_name(
     }
 }
 
-/// The smallest index with this record, by binary search.
+/// The smallest index of the entries with this record, by binary search; `None` if no entry has it.
 pub(crate) fn first_by_record(entries: &[RecordIndexEntry], record: u32) -> Option<u32>
     requires { AreByRecord entries.now }
     ensures found { IfSome result (IsSmallestIndex record_key index_by_record entries.now «record») }

@@ -8,14 +8,14 @@ ghost use Rattle.module_table.specs.declared.rows.DeclGroup.{DeclGroup as DeclGr
 ghost use Rattle.ob_interface.specs.Interfaces.{is_part_by, module_level_by, part_of};
 ghost use Rattle.ob_interface.specs.Texts.{part_row_in, AllDecodeTo, IsGrown};
 
-use crate::buffer::add_part;
+use crate::buffer::append_component;
 use crate::module_level::find_module_level;
 use crate::rows::PartRow;
 use module_table::{DeclGroup, TypePart};
 use ob_scan::TokenTexts;
 use std::alloc::{AllocError, Global};
 
-/// The components that belong to declaration groups of the module's block, in their order.
+/// The components that belong to declaration groups of the module's block, in the order of `parts`.
 fn module_level_parts(
     alloc: Global,
     decl_groups: &[DeclGroup],
@@ -60,8 +60,8 @@ pub(crate) fn part_range(parts: &[TypePart], declared_by: u32) -> (usize, usize)
     (first, end)
 }
 
-/// Appends the names of the components.
-pub(crate) fn add_parts(
+/// Appends the names of the components to the buffer. Returns the components' entries.
+pub(crate) fn collect_components(
     alloc: Global,
     text: &mut Vec<u8>,
     source: &TokenTexts,
@@ -73,7 +73,7 @@ pub(crate) fn add_parts(
 {
     let mut rows = Vec::new(alloc);
     for i in 0..parts.len() {
-        let row = add_part(text, source, parts[i])?;
+        let row = append_component(text, source, parts[i])?;
         rows.push(row)?;
     }
     Ok(rows)

@@ -5,7 +5,7 @@ ghost use Rattle.ob_interface.specs.Views.{base_value, declaration_value, name_v
 ghost use Rattle.ob_interface.specs.RowValues.{type_expr_in};
 ghost use Rattle.ob_interface.specs.Texts.{base_in, declaration_in, name_in, part_in, part_row_in};
 
-use crate::order::text_of;
+use crate::order::span_text;
 use crate::rows::{BaseRow, DeclarationRow, NameRow, PartRow, RowPart, Rows};
 use module_table::DeclKind;
 use std::marker::Model;
@@ -84,8 +84,8 @@ fn name_of<'a>(text: &'a [u8], name: NameRow) -> TypeName<'a>
     ensures { name_value result ≡ name_in text.now name }
 {
     match name.member {
-        None => TypeName::Simple(text_of(text, name.head)),
-        Some(member) => TypeName::Qualified(text_of(text, name.head), text_of(text, member)),
+        None => TypeName::Simple(span_text(text, name.head)),
+        Some(member) => TypeName::Qualified(span_text(text, name.head), span_text(text, member)),
     }
 }
 
@@ -147,7 +147,7 @@ pub(crate) fn declaration_of<'a>(rows: &'a Rows, row: &DeclarationRow) -> Declar
         parts: parts_between(rows.parts.as_slice(), row.first_part, row.parts_end),
     };
     Declaration {
-        name: text_of(text, row.name),
+        name: span_text(text, row.name),
         start: row.start,
         decl_kind: row.decl_kind,
         exported: row.exported,

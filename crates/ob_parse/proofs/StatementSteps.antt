@@ -1,4 +1,4 @@
--- The equations that steps of reading statements need.
+-- Equations for the steps of reading statements.
 use Rattle.std.proofs.lemmas.List.{append-nil}
 use Rattle.ob_tree.proofs.StatementLayers.{statements_made}
 

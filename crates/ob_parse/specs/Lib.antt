@@ -1,10 +1,1 @@
-pub mod Combinators
-pub mod Ends
-pub mod Lookahead
-pub mod AgreesWith
-pub mod Parsed
-pub mod ReadExpressions
-pub mod ReadModules
-pub mod ReadNames
-pub mod ReadStatements
-pub mod ReadTypes
+pub mod Readings

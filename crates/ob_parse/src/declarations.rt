@@ -1,52 +1,46 @@
-//! Declarations: constants, types, variables and procedures (Oberon-07 report, sections 5, 6, 7 and 10).
+//! Declarations: constants, types, variables and procedures (Oberon-07 report, sections 5, 6, 7 and 10). Each function parses the
+//! production or part that its name states.
 
-ghost use Rattle.std.specs.Prelude.{◌≡◌, ◌++◌, ℕ};
+ghost use Rattle.std.specs.Prelude.{◌++◌, ℕ};
 ghost use Rattle.ob_scan.specs.declared.kind.Kind.TheVariants as kinds;
 ghost use Rattle.ob_tree.specs.TreeEvents.{Events, word, each, if_present, repeated};
 ghost use Rattle.ob_tree.specs.Expressions.{expr_events};
 ghost use Rattle.ob_tree.specs.Statements.{block_events};
 ghost use Rattle.ob_tree.specs.Declaring.{const_events, type_decl_events, variable_events, part, declarations_events, procedure_events};
-ghost use Rattle.ob_parse.specs.Lookahead.{head_is, uncons, is_word};
-ghost use Rattle.ob_parse.specs.Combinators.{Reader, optional, accept_at, expect_at, name_at, many, begins, seq};
-ghost use Rattle.ob_parse.specs.ReadExpressions.{expr_at};
-ghost use Rattle.ob_parse.specs.ReadStatements.{block_at};
-ghost use Rattle.ob_parse.specs.ReadTypes.{type_at};
-ghost use Rattle.ob_parse.specs.ReadModules.{Shortens, is_identifier, with_semicolon, const_with, type_decl_with, variable_with, part_with, procedures_with, body_with, procedure_with, procedure_at, declarations_at};
-ghost use Rattle.ob_parse.specs.AgreesWith.{AgreesWith, remaining};
+ghost use Rattle.ob_grammar.specs.Lookahead.{is_word};
+ghost use Rattle.ob_grammar.specs.Combinators.{Reader, optional, accept_at, expect_at, name_at, many, begins, seq};
+ghost use Rattle.ob_grammar.specs.ReadExpressions.{expr_at};
+ghost use Rattle.ob_grammar.specs.ReadStatements.{block_at};
+ghost use Rattle.ob_grammar.specs.ReadTypes.{type_at};
+ghost use Rattle.ob_grammar.specs.ReadModules.{ConsumesToken, is_identifier, with_semicolon, const_with, type_decl_with, variable_with, section_with, procedures_with, body_with, procedure_with, procedure_at, declarations_at};
+ghost use Rattle.ob_grammar.specs.AgreesWith.{AgreesWith, remaining};
 
-use crate::cursor::Cursor;
 use crate::expressions::{expression, optional_expression};
-use crate::names::identdef;
-use crate::parameters::some_parameters;
+use crate::parameters::optional_parameters;
 use crate::statements::optional_block;
-use crate::stop::{Stop, boxed, push_boxed, push_item, some};
-use crate::tokens::{accept, depth_stop, expect, identifier, is_at, skip};
+use crate::stop::{append_boxed, append_item, boxed, some};
 use crate::types::{type_expression, var_declaration};
+use ob_grammar::cursor::Cursor;
+use ob_grammar::declarations::begins_declaration;
+use ob_grammar::names::identdef;
+use ob_grammar::stop::Stop;
+use ob_grammar::tokens::{accept, depth_stop, expect, identifier, is_at, skip};
 use ob_scan::{Kind, Token};
 use ob_tree::declaration::{ConstDecl, Declarations, ProcDecl, TypeDecl, VarDecl};
 use ob_tree::expression::Expr;
 use ob_tree::name::Identdef;
 use ob_tree::statement::StatementSequence;
-use ob_tree::token::Leaf;
 use std::alloc::Global;
-
-/// Whether a declaration of a constant, a type or variables begins here: whether the next token is an identifier.
-pub fn begins_declaration(tokens: &[Token], input: Cursor) -> bool
-    // Exactly if the next token is an identifier.
-    ensures { result ≡ head_is is_identifier (uncons (remaining tokens.now input)) }
-{
-    matches!(input.next(tokens), Some((Leaf::Name(_), _)))
-}
 
 /// A kind of declarations with a section of its own: constants, types or variables.
 trait Declaration: Drop {
-    // the grammar of one declaration with nested constructs of this depth, and its events, both without the semicolon
+    // the reader of a declaration in which this many levels of nesting are left, and the declaration's events; neither has the semicolon
     ghost read: { ℕ → Reader };
 
     ghost shown: { Self → Events };
 
     /// Parses a declaration and its semicolon.
-    fn ended(
+    fn parse_with_semicolon(
         alloc: Global,
         tokens: &[Token],
         input: Cursor,
@@ -60,8 +54,8 @@ impl Declaration for ConstDecl {
 
     ghost shown = { const_events };
 
-    #[tactic(auto, using(ob_tree::proofs::DeclarationLayers::declaring_made), unfolding(crate::specs::ReadModules::const_with))]
-    fn ended(
+    #[tactic(auto, using(ob_tree::proofs::DeclarationLayers::declaring_made), unfolding(ob_grammar::specs::ReadModules::const_with))]
+    fn parse_with_semicolon(
         alloc: Global,
         tokens: &[Token],
         input: Cursor,
@@ -81,8 +75,8 @@ impl Declaration for TypeDecl {
 
     ghost shown = { type_decl_events };
 
-    #[tactic(auto, using(ob_tree::proofs::DeclarationLayers::declaring_made), unfolding(crate::specs::ReadModules::type_decl_with))]
-    fn ended(
+    #[tactic(auto, using(ob_tree::proofs::DeclarationLayers::declaring_made), unfolding(ob_grammar::specs::ReadModules::type_decl_with))]
+    fn parse_with_semicolon(
         alloc: Global,
         tokens: &[Token],
         input: Cursor,
@@ -102,8 +96,8 @@ impl Declaration for VarDecl {
 
     ghost shown = { variable_events };
 
-    #[tactic(auto, using(ob_tree::proofs::DeclarationLayers::declaring_made), unfolding(crate::specs::ReadModules::variable_with))]
-    fn ended(
+    #[tactic(auto, using(ob_tree::proofs::DeclarationLayers::declaring_made), unfolding(ob_grammar::specs::ReadModules::variable_with))]
+    fn parse_with_semicolon(
         alloc: Global,
         tokens: &[Token],
         input: Cursor,
@@ -122,20 +116,23 @@ fn declared<D: Declaration>(
     input: Cursor,
     depth: u32,
 ) -> Result<(Vec<D>, Cursor), Stop>
-    requires { Shortens (D.read depth) }
+    requires { ConsumesToken (D.read depth) }
     ensures { AgreesWith tokens.now (λ x. (each (λ d. D.shown d ++ word kinds.Semicolon) x.0.items, remaining tokens.now x.1)) result
         (many (begins is_identifier) (with_semicolon (D.read depth)) (remaining tokens.now input)) }
 {
     let mut declared = Vec::new(alloc);
     let mut here = input;
     'more: while begins_declaration(tokens, here) {
-        here = push_item(&mut declared, D::ended(alloc, tokens, here, depth))?;
+        here = append_item(
+            &mut declared,
+            D::parse_with_semicolon(alloc, tokens, here, depth),
+        )?;
     }
     Ok((declared, here))
 }
 
 /// Parses the section of declarations after this keyword, if the keyword is next.
-#[tactic(auto, unfolding(crate::specs::ReadModules::part_with))]
+#[tactic(auto, unfolding(ob_grammar::specs::ReadModules::section_with))]
 fn declaration_section<D: Declaration>(
     alloc: Global,
     tokens: &[Token],
@@ -143,8 +140,8 @@ fn declaration_section<D: Declaration>(
     depth: u32,
     keyword: Kind,
 ) -> Result<(Option<Vec<D>>, Cursor), Stop>
-    requires { Shortens (D.read depth) }
-    ensures { AgreesWith tokens.now (λ x. (if_present (λ v. part keyword D.shown v.items) x.0, remaining tokens.now x.1)) result (part_with keyword (D.read depth) (remaining tokens.now input)) }
+    requires { ConsumesToken (D.read depth) }
+    ensures { AgreesWith tokens.now (λ x. (if_present (λ v. part keyword D.shown v.items) x.0, remaining tokens.now x.1)) result (section_with keyword (D.read depth) (remaining tokens.now input)) }
 {
     match accept(tokens, input, keyword) {
         Some(rest) => some(declared(alloc, tokens, rest, depth)),
@@ -166,14 +163,17 @@ fn procedures(
     let mut declared = Vec::new(alloc);
     let mut here = input;
     'more: while is_at(tokens, here, Kind::Procedure) {
-        here = push_boxed(&mut declared, ended_procedure(alloc, tokens, here, depth))?;
+        here = append_boxed(
+            &mut declared,
+            procedure_with_semicolon(alloc, tokens, here, depth),
+        )?;
     }
     Ok((declared, here))
 }
 
 /// Parses a procedure and its semicolon.
 #[cycle(declarations)]
-fn ended_procedure(
+fn procedure_with_semicolon(
     alloc: Global,
     tokens: &[Token],
     input: Cursor,
@@ -188,7 +188,7 @@ fn ended_procedure(
 
 /// Parses a procedure, for which `depth` levels of nesting are left. It is a level itself.
 #[cycle(declarations)]
-#[tactic(auto, unfolding(crate::specs::ReadModules::procedure_at, crate::specs::Combinators::limit_at))]
+#[tactic(auto, unfolding(ob_grammar::specs::ReadModules::procedure_at, ob_grammar::specs::Combinators::limit_at))]
 fn procedure(
     alloc: Global,
     tokens: &[Token],
@@ -205,7 +205,7 @@ fn procedure(
 
 /// Parses a procedure, in whose parts `depth` levels of nesting are left.
 #[cycle(declarations)]
-#[tactic(auto, using(ob_tree::proofs::DeclarationLayers::declaring_made, ob_tree::proofs::NameLayers::names_made, crate::proofs::Stars::star_read), unfolding(crate::specs::ReadModules::procedure_with, crate::specs::ReadModules::procedure_named, crate::specs::ReadNames::identdef_after))]
+#[tactic(auto, using(ob_tree::proofs::DeclarationLayers::declaring_made, ob_tree::proofs::NameLayers::names_made, ob_grammar::proofs::Stars::star_read), unfolding(ob_grammar::specs::ReadModules::procedure_with, ob_grammar::specs::ReadModules::procedure_named, ob_grammar::specs::ReadNames::identdef_after))]
 fn procedure_within(
     alloc: Global,
     tokens: &[Token],
@@ -217,9 +217,9 @@ fn procedure_within(
     let here = expect(tokens, input, Kind::Procedure)?;
     let (name, here) = identifier(tokens, here)?;
     let (starred, here) = skip(tokens, here, Kind::Star);
-    let (parameters, here) = some_parameters(alloc, tokens, here)?;
+    let (parameters, here) = optional_parameters(alloc, tokens, here)?;
     let here = expect(tokens, here, Kind::Semicolon)?;
-    let ((declarations, (body, returned, end_name)), here) = remainder(
+    let ((declarations, (body, returned, end_name)), here) = procedure_remainder(
         alloc, tokens, here, depth, name,
     )?;
     let procedure = ProcDecl {
@@ -235,7 +235,7 @@ fn procedure_within(
 
 /// Parses the part of a procedure after its heading. `name` is the index of the name that has to be repeated after END.
 #[cycle(declarations)]
-fn remainder(
+fn procedure_remainder(
     alloc: Global,
     tokens: &[Token],
     input: Cursor,
@@ -251,16 +251,16 @@ fn remainder(
         (seq (expect_at kinds.End) (name_at (repeated name))))) (remaining tokens.now input)) }
 {
     let (declarations, here) = declarations(alloc, tokens, input, depth)?;
-    let (ending, here) = ending(alloc, tokens, here, depth, name)?;
-    Ok(((declarations, ending), here))
+    let (procedure_ending, here) = procedure_ending(alloc, tokens, here, depth, name)?;
+    Ok(((declarations, procedure_ending), here))
 }
 
 /// The statements of a procedure, the expression after RETURN, and the index of the name after END.
 type Ending = (Option<Box<StatementSequence>>, Option<Box<Expr>>, u32);
 
 /// Parses the part of a procedure after its declarations. `name` is the index of the name that has to be repeated after END.
-#[tactic(auto, unfolding(crate::specs::Combinators::name_at, crate::specs::ReadModules::body_with))]
-fn ending(
+#[tactic(auto, unfolding(ob_grammar::specs::Combinators::name_at, ob_grammar::specs::ReadModules::body_with))]
+fn procedure_ending(
     alloc: Global,
     tokens: &[Token],
     input: Cursor,
@@ -284,7 +284,7 @@ fn ending(
 
 /// Parses the declarations of a module or a procedure, in which `depth` levels of nesting are left.
 #[cycle(declarations)]
-#[tactic(auto, using(ob_tree::proofs::DeclarationLayers::declaring_made), unfolding(crate::specs::ReadModules::declarations_with, crate::specs::ReadModules::procedures_with))]
+#[tactic(auto, using(ob_tree::proofs::DeclarationLayers::declaring_made), unfolding(ob_grammar::specs::ReadModules::declarations_with, ob_grammar::specs::ReadModules::procedures_with))]
 pub(crate) fn declarations(
     alloc: Global,
     tokens: &[Token],

@@ -1,40 +1,19 @@
 //! Comparison of the names after END.
 
-ghost use Rattle.std.specs.Prelude.{◌≡◌, ◌<◌, ◌≤◌, length};
 ghost use Rattle.std.specs.List.{All};
-ghost use Rattle.ob_parse.specs.Ends.{FirstWrong, IsEnd, AreTokenNumbers, IsInText};
-ghost use Rattle.ob_scan.specs.Texts.{bytes_of};
+ghost use Rattle.ob_grammar.specs.Ends.{HasFirstWrongEnd, AreTokenNumbers, IsInText};
 
+use ob_grammar::ends::names_match;
 use ob_scan::Token;
 
-/// The bytes of a token.
-fn text<'a>(bytes: &'a [u8], token: Token) -> &'a [u8]
-    requires { (token.start ≤ token.end) × (token.end ≤ length bytes.now) }
-    ensures { result.now ≡ bytes_of bytes.now token }
-{
-    &bytes[token.start as usize..token.end as usize]
-}
-
-/// Whether a name after END is right: whether the bytes of the tokens with these indices are equal.
-pub fn is_right(bytes: &[u8], tokens: &[Token], name: u32, end: u32) -> bool
-    // Both are indices of tokens.
-    requires in_range { (name < length tokens.now) × (end < length tokens.now) }
-    // The tokens are in the bounds of the bytes.
-    requires in_text { All (IsInText bytes.now) tokens.now }
-    // True exactly if the two tokens have equal bytes.
-    ensures { IsEnd bytes.now tokens.now result (name, end) }
-{
-    text(bytes, tokens[name as usize]) == text(bytes, tokens[end as usize])
-}
-
 /// The offset of the first name after END that differs from the name that it has to repeat.
-pub(crate) fn wrong_end(bytes: &[u8], tokens: &[Token], ends: &[(u32, u32)]) -> Option<u32>
+pub(crate) fn first_wrong_end(bytes: &[u8], tokens: &[Token], ends: &[(u32, u32)]) -> Option<u32>
     requires in_range { All (AreTokenNumbers tokens.now) ends.now }
     requires in_text { All (IsInText bytes.now) tokens.now }
-    ensures { FirstWrong bytes.now tokens.now ends.now result }
+    ensures { HasFirstWrongEnd bytes.now tokens.now ends.now result }
 {
     'ends: for (name, end) in ends {
-        if !is_right(bytes, tokens, *name, *end) {
+        if !names_match(bytes, tokens, *name, *end) {
             return Some(tokens[*end as usize].start);
         }
     }

@@ -1,5 +1,5 @@
-//! Expressions and designators (Oberon-07 report, section 8). `depth` is the number of nested levels that are left for what a function
-//! parses.
+//! Expressions and designators (Oberon-07 report, section 8). Each function parses the production or part that its name states. `depth`
+//! is the number of nested levels that are left for it.
 
 ghost use Rattle.std.specs.Prelude.{◌++◌};
 ghost use Rattle.ob_scan.specs.declared.kind.Kind.TheVariants as kinds;
@@ -7,16 +7,17 @@ ghost use Rattle.ob_tree.specs.Constructs as constructs;
 ghost use Rattle.ob_tree.specs.TreeEvents as marks;
 ghost use Rattle.ob_tree.specs.TreeEvents.{word, if_present, each, each_after};
 ghost use Rattle.ob_tree.specs.Expressions.{relation_kind, mul_kind, add_kind, expr_events, expr_list_events, sum_events, term_events, factor_events, element_events, element_list_events, designator_events, selector_events};
-ghost use Rattle.ob_parse.specs.Combinators.{many, several, optional, unless, begins, accept_at, expect_at, name_at, seq, prefixed, node};
-ghost use Rattle.ob_parse.specs.AgreesWith.{AgreesWith, remaining};
-ghost use Rattle.ob_parse.specs.ReadExpressions.{relation_start, mul_start, add_start, selector_first, element_with, selector_with, designator_with, factor_at, negated_at, term_at, sum_at, expr_at};
+ghost use Rattle.ob_grammar.specs.Combinators.{many, several, optional, unless, begins, accept_at, expect_at, name_at, seq, prefixed, node};
+ghost use Rattle.ob_grammar.specs.AgreesWith.{AgreesWith, remaining};
+ghost use Rattle.ob_grammar.specs.ReadExpressions.{relation_start, mul_start, add_start, selector_first, element_with, selector_with, designator_with, factor_at, negated_at, term_at, sum_at, expr_at};
 
-use crate::cursor::Cursor;
-use crate::operators::{
+use crate::stop::{append_boxed, append_item, boxed, some};
+use ob_grammar::cursor::Cursor;
+use ob_grammar::operators::{
     add_operator, begins_expression, begins_factor, begins_selector, mul_operator, relation, sign,
 };
-use crate::stop::{Stop, boxed, push_boxed, push_item, some};
-use crate::tokens::{accept, depth_stop, expect, identifier, is_at};
+use ob_grammar::stop::Stop;
+use ob_grammar::tokens::{accept, depth_stop, expect, identifier, is_at};
 use ob_scan::{Kind, Token};
 use ob_tree::expression::{
     AddOperator, Designator, Element, ElementList, Expr, ExprList, Factor, MulOperator, Relation,
@@ -27,7 +28,7 @@ use std::alloc::Global;
 
 /// Parses an expression, which is a level itself.
 #[cycle(expressions)]
-#[tactic(auto, using(ob_tree::proofs::ExpressionLayers::expressions_made), unfolding(crate::specs::ReadExpressions::expr_at, crate::specs::ReadExpressions::expr_with, crate::specs::Combinators::limit_at))]
+#[tactic(auto, using(ob_tree::proofs::ExpressionLayers::expressions_made), unfolding(ob_grammar::specs::ReadExpressions::expr_at, ob_grammar::specs::ReadExpressions::expr_with, ob_grammar::specs::Combinators::limit_at))]
 pub(crate) fn expression(
     alloc: Global,
     tokens: &[Token],
@@ -83,7 +84,7 @@ fn compared(
 
 /// Parses one expression or more, separated by commas.
 #[cycle(expressions)]
-#[tactic(auto, using(ob_tree::proofs::ExpressionLayers::expressions_made), unfolding(crate::specs::Combinators::several))]
+#[tactic(auto, using(ob_tree::proofs::ExpressionLayers::expressions_made), unfolding(ob_grammar::specs::Combinators::several))]
 pub(crate) fn expression_list(
     alloc: Global,
     tokens: &[Token],
@@ -114,14 +115,14 @@ fn more_expressions(
     let mut rest = Vec::new(alloc);
     let mut here = input;
     'more: while let Some(after) = accept(tokens, here, Kind::Comma) {
-        here = push_boxed(&mut rest, expression(alloc, tokens, after, depth))?;
+        here = append_boxed(&mut rest, expression(alloc, tokens, after, depth))?;
     }
     Ok((rest, here))
 }
 
 /// Parses a simple expression.
 #[cycle(expressions)]
-#[tactic(auto, using(ob_tree::proofs::ExpressionLayers::expressions_made), unfolding(crate::specs::ReadExpressions::sum_with))]
+#[tactic(auto, using(ob_tree::proofs::ExpressionLayers::expressions_made), unfolding(ob_grammar::specs::ReadExpressions::sum_with))]
 fn sum(
     alloc: Global,
     tokens: &[Token],
@@ -158,7 +159,7 @@ fn more_terms(
 
 /// Parses a term.
 #[cycle(expressions)]
-#[tactic(auto, using(ob_tree::proofs::ExpressionLayers::expressions_made), unfolding(crate::specs::ReadExpressions::term_with))]
+#[tactic(auto, using(ob_tree::proofs::ExpressionLayers::expressions_made), unfolding(ob_grammar::specs::ReadExpressions::term_with))]
 fn term(alloc: Global, tokens: &[Token], input: Cursor, depth: u32) -> Result<(Term, Cursor), Stop>
     ensures { AgreesWith tokens.now (λ x. (term_events x.0, remaining tokens.now x.1)) result (term_at depth (remaining tokens.now input)) }
 {
@@ -189,7 +190,7 @@ fn more_factors(
 
 /// Parses a factor.
 #[cycle(expressions)]
-#[tactic(auto, using(ob_tree::proofs::ExpressionLayers::expressions_made), unfolding(crate::specs::ReadExpressions::factor_with))]
+#[tactic(auto, using(ob_tree::proofs::ExpressionLayers::expressions_made), unfolding(ob_grammar::specs::ReadExpressions::factor_with))]
 fn factor(
     alloc: Global,
     tokens: &[Token],
@@ -199,13 +200,15 @@ fn factor(
     ensures { AgreesWith tokens.now (λ x. (factor_events x.0, remaining tokens.now x.1)) result (factor_at depth (remaining tokens.now input)) }
 {
     match input.next(tokens) {
-        Some((Leaf::Name(number), rest)) => named(alloc, tokens, number, rest, depth),
+        Some((Leaf::Name(number), rest)) => named_factor(alloc, tokens, number, rest, depth),
         Some((Leaf::Value(literal, number), rest)) => Ok((Factor::Value(literal, number), rest)),
         Some((Leaf::Word(Kind::Nil), rest)) => Ok((Factor::Nil, rest)),
         Some((Leaf::Word(Kind::True), rest)) => Ok((Factor::True, rest)),
         Some((Leaf::Word(Kind::False), rest)) => Ok((Factor::False, rest)),
         Some((Leaf::Word(Kind::LeftBrace), rest)) => set(alloc, tokens, rest, depth),
-        Some((Leaf::Word(Kind::LeftParen), rest)) => group(alloc, tokens, rest, depth),
+        Some((Leaf::Word(Kind::LeftParen), rest)) => parenthesized_factor(
+            alloc, tokens, rest, depth,
+        ),
         Some((Leaf::Word(Kind::Tilde), rest)) => negated(alloc, tokens, rest, depth),
         _ => Err(Stop::Unexpected(input)),
     }
@@ -214,7 +217,7 @@ fn factor(
 /// Parses a designator as a factor, after its first identifier, which has this index.
 #[cycle(expressions)]
 #[tactic(auto, using(ob_tree::proofs::ExpressionLayers::expressions_made))]
-fn named(
+fn named_factor(
     alloc: Global,
     tokens: &[Token],
     number: u32,
@@ -242,7 +245,7 @@ fn set(alloc: Global, tokens: &[Token], input: Cursor, depth: u32) -> Result<(Fa
 /// Parses the part of a factor in parentheses after the opening parenthesis.
 #[cycle(expressions)]
 #[tactic(auto, using(ob_tree::proofs::ExpressionLayers::expressions_made))]
-fn group(
+fn parenthesized_factor(
     alloc: Global,
     tokens: &[Token],
     input: Cursor,
@@ -258,7 +261,7 @@ fn group(
 
 /// Parses the factor after a `~`, which is a level itself.
 #[cycle(expressions)]
-#[tactic(auto, using(ob_tree::proofs::ExpressionLayers::expressions_made), unfolding(crate::specs::ReadExpressions::negated_at, crate::specs::Combinators::limit_at))]
+#[tactic(auto, using(ob_tree::proofs::ExpressionLayers::expressions_made), unfolding(ob_grammar::specs::ReadExpressions::negated_at, ob_grammar::specs::Combinators::limit_at))]
 fn negated(
     alloc: Global,
     tokens: &[Token],
@@ -278,7 +281,7 @@ fn negated(
 
 /// Parses the elements of a set, if it has any.
 #[cycle(expressions)]
-#[tactic(auto, unfolding(crate::specs::Combinators::unless))]
+#[tactic(auto, unfolding(ob_grammar::specs::Combinators::unless))]
 fn elements(
     alloc: Global,
     tokens: &[Token],
@@ -295,7 +298,7 @@ fn elements(
 
 /// Parses one element or more, separated by commas.
 #[cycle(expressions)]
-#[tactic(auto, using(ob_tree::proofs::ExpressionLayers::expressions_made), unfolding(crate::specs::Combinators::several))]
+#[tactic(auto, using(ob_tree::proofs::ExpressionLayers::expressions_made), unfolding(ob_grammar::specs::Combinators::several))]
 fn element_list(
     alloc: Global,
     tokens: &[Token],
@@ -326,14 +329,14 @@ fn more_elements(
     let mut rest = Vec::new(alloc);
     let mut here = input;
     'more: while let Some(after) = accept(tokens, here, Kind::Comma) {
-        here = push_boxed(&mut rest, element(alloc, tokens, after, depth))?;
+        here = append_boxed(&mut rest, element(alloc, tokens, after, depth))?;
     }
     Ok((rest, here))
 }
 
 /// Parses an element of a set: an expression or a range.
 #[cycle(expressions)]
-#[tactic(auto, using(ob_tree::proofs::ExpressionLayers::expressions_made), unfolding(crate::specs::ReadExpressions::element_with))]
+#[tactic(auto, using(ob_tree::proofs::ExpressionLayers::expressions_made), unfolding(ob_grammar::specs::ReadExpressions::element_with))]
 fn element(
     alloc: Global,
     tokens: &[Token],
@@ -372,7 +375,7 @@ fn high(
 
 /// Parses a designator after its first identifier, which has the index `head`.
 #[cycle(expressions)]
-#[tactic(auto, using(ob_tree::proofs::ExpressionLayers::expressions_made), unfolding(crate::specs::ReadExpressions::designator_with))]
+#[tactic(auto, using(ob_tree::proofs::ExpressionLayers::expressions_made), unfolding(ob_grammar::specs::ReadExpressions::designator_with))]
 pub(crate) fn designator(
     alloc: Global,
     tokens: &[Token],
@@ -399,14 +402,14 @@ fn more_selectors(
     let mut selectors = Vec::new(alloc);
     let mut here = input;
     'more: while begins_selector(tokens, here) {
-        here = push_item(&mut selectors, selector(alloc, tokens, here, depth))?;
+        here = append_item(&mut selectors, selector(alloc, tokens, here, depth))?;
     }
     Ok((selectors, here))
 }
 
 /// Parses a selector.
 #[cycle(expressions)]
-#[tactic(auto, using(ob_tree::proofs::ExpressionLayers::expressions_made), unfolding(crate::specs::ReadExpressions::selector_with, crate::specs::Combinators::name_at))]
+#[tactic(auto, using(ob_tree::proofs::ExpressionLayers::expressions_made), unfolding(ob_grammar::specs::ReadExpressions::selector_with, ob_grammar::specs::Combinators::name_at))]
 fn selector(
     alloc: Global,
     tokens: &[Token],
@@ -425,7 +428,7 @@ fn selector(
 }
 
 /// Parses the name of a field after its dot.
-#[tactic(auto, using(ob_tree::proofs::ExpressionLayers::expressions_made), unfolding(crate::specs::Combinators::name_at))]
+#[tactic(auto, using(ob_tree::proofs::ExpressionLayers::expressions_made), unfolding(ob_grammar::specs::Combinators::name_at))]
 fn field(tokens: &[Token], input: Cursor) -> Result<(Selector, Cursor), Stop>
     ensures { AgreesWith tokens.now (λ x. (selector_events x.0, remaining tokens.now x.1)) result (node constructs.Selector (prefixed (word kinds.Dot) (name_at marks.selected)) (remaining tokens.now input)) }
 {
@@ -469,7 +472,7 @@ fn call(
 
 /// Parses the arguments of a call, if it has any.
 #[cycle(expressions)]
-#[tactic(auto, unfolding(crate::specs::Combinators::unless))]
+#[tactic(auto, unfolding(ob_grammar::specs::Combinators::unless))]
 fn arguments(
     alloc: Global,
     tokens: &[Token],

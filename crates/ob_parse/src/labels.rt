@@ -1,18 +1,17 @@
-//! The labels of a case (Oberon-07 report, section 9.5).
+//! The labels of a case (Oberon-07 report, section 9.5). Each function parses the production or part that its name states.
 
-ghost use Rattle.std.specs.Prelude.{◌≡◌};
-ghost use Rattle.ob_parse.specs.Combinators.{accept_at, many, several};
-ghost use Rattle.ob_parse.specs.Lookahead.{uncons, head_is};
-ghost use Rattle.ob_parse.specs.AgreesWith.{AgreesWith, remaining};
-ghost use Rattle.ob_parse.specs.ReadStatements.{case_label_at, label_first, label_range_at};
+ghost use Rattle.ob_grammar.specs.Combinators.{accept_at, many, several};
+ghost use Rattle.ob_grammar.specs.AgreesWith.{AgreesWith, remaining};
+ghost use Rattle.ob_grammar.specs.ReadStatements.{case_label_at, label_range_at};
 ghost use Rattle.ob_scan.specs.declared.kind.Kind.TheVariants as kinds;
 ghost use Rattle.ob_tree.specs.TreeEvents.{each_after, separated};
 ghost use Rattle.ob_tree.specs.Statements.{label_events, label_range_events};
 
-use crate::cursor::Cursor;
-use crate::names::qualident_after;
-use crate::stop::{Stop, push_item};
-use crate::tokens::accept;
+use crate::stop::append_item;
+use ob_grammar::cursor::Cursor;
+use ob_grammar::names::qualident_after;
+use ob_grammar::stop::Stop;
+use ob_grammar::tokens::accept;
 use ob_scan::{Kind, Token};
 use ob_tree::expression::Literal;
 use ob_tree::name::OneOrMore;
@@ -20,21 +19,8 @@ use ob_tree::statement::{Label, LabelRange};
 use ob_tree::token::Leaf;
 use std::alloc::Global;
 
-/// Whether a label begins here.
-pub fn begins_label(tokens: &[Token], input: Cursor) -> bool
-    // Exactly if the next token is an identifier, an integer or a string.
-    ensures { result ≡ head_is label_first (uncons (remaining tokens.now input)) }
-{
-    match input.next(tokens) {
-        Some((Leaf::Name(_), _)) => true,
-        Some((Leaf::Value(Literal::Integer, _), _)) => true,
-        Some((Leaf::Value(Literal::Text, _), _)) => true,
-        _ => false,
-    }
-}
-
 /// Parses a label.
-#[tactic(auto, using(crate::proofs::StatementSteps::made), unfolding(crate::specs::ReadStatements::case_label_at))]
+#[tactic(auto, using(crate::proofs::StatementSteps::made), unfolding(ob_grammar::specs::ReadStatements::case_label_at))]
 fn label(tokens: &[Token], input: Cursor) -> Result<(Label, Cursor), Stop>
     ensures { AgreesWith tokens.now (λ x. (label_events x.0, remaining tokens.now x.1)) result (case_label_at (remaining tokens.now input)) }
 {
@@ -50,7 +36,7 @@ fn label(tokens: &[Token], input: Cursor) -> Result<(Label, Cursor), Stop>
 }
 
 /// Parses a label, or a range of two labels.
-#[tactic(auto, using(crate::proofs::StatementSteps::made), unfolding(crate::specs::ReadStatements::label_range_at))]
+#[tactic(auto, using(crate::proofs::StatementSteps::made), unfolding(ob_grammar::specs::ReadStatements::label_range_at))]
 fn label_range(tokens: &[Token], input: Cursor) -> Result<(LabelRange, Cursor), Stop>
     ensures { AgreesWith tokens.now (λ x. (label_range_events x.0, remaining tokens.now x.1)) result (label_range_at (remaining tokens.now input)) }
 {
@@ -71,7 +57,7 @@ fn label_range(tokens: &[Token], input: Cursor) -> Result<(LabelRange, Cursor), 
 }
 
 /// Parses one label range or more, separated by commas.
-#[tactic(auto, unfolding(crate::specs::Combinators::several))]
+#[tactic(auto, unfolding(ob_grammar::specs::Combinators::several))]
 pub(crate) fn label_ranges(
     alloc: Global,
     tokens: &[Token],
@@ -95,7 +81,7 @@ fn more_label_ranges(
     let mut rest = Vec::new(alloc);
     let mut here = input;
     'more: while let Some(after) = accept(tokens, here, Kind::Comma) {
-        here = push_item(&mut rest, label_range(tokens, after))?;
+        here = append_item(&mut rest, label_range(tokens, after))?;
     }
     Ok((rest, here))
 }

@@ -1,54 +1,27 @@
-//! Modules (Oberon-07 report, section 11).
+//! Modules (Oberon-07 report, section 11). Each function parses the production or part that its name states.
 
-ghost use Rattle.std.specs.Prelude.{◌≡◌, ◌+◌, ◌++◌, IfOk};
-ghost use Rattle.ob_tree.specs.Widths.{name_width};
+ghost use Rattle.std.specs.Prelude.{◌≡◌, ◌++◌};
 ghost use Rattle.ob_scan.specs.declared.kind.Kind.TheVariants as kinds;
-ghost use Rattle.ob_tree.specs.TreeEvents.{word, each_after, separated, if_present, imported, repeated};
+ghost use Rattle.ob_tree.specs.TreeEvents.{word, each_after, separated, if_present, repeated};
 ghost use Rattle.ob_tree.specs.Statements.{block_events};
 ghost use Rattle.ob_tree.specs.Declaring.{declarations_events, import_events, module_events};
-ghost use Rattle.ob_parse.specs.Combinators.{optional, accept_at, expect_at, name_at, several, many, seq};
-ghost use Rattle.ob_parse.specs.ReadStatements.{block_at};
-ghost use Rattle.ob_parse.specs.ReadModules.{import_item_at, imports_at, declarations_at, body_with, module_at, read_all};
-ghost use Rattle.ob_parse.specs.AgreesWith.{AgreesWith, remaining};
+ghost use Rattle.ob_grammar.specs.Combinators.{accept_at, expect_at, name_at, several, many, seq};
+ghost use Rattle.ob_grammar.specs.ReadStatements.{block_at};
+ghost use Rattle.ob_grammar.specs.ReadModules.{import_item_at, imports_at, declarations_at, body_with, module_at, read_all};
+ghost use Rattle.ob_grammar.specs.AgreesWith.{AgreesWith, remaining};
 
-use crate::cursor::Cursor;
 use crate::declarations::declarations;
 use crate::statements::optional_block;
-use crate::stop::{Stop, boxed, push_item};
-use crate::tokens::{accept, expect, identifier};
+use crate::stop::{append_item, boxed};
+use ob_grammar::cursor::Cursor;
+use ob_grammar::modules::import;
+use ob_grammar::stop::Stop;
+use ob_grammar::tokens::{accept, expect, identifier};
 use ob_scan::{Kind, Token};
 use ob_tree::declaration::{Declarations, ImportItem, Module};
 use ob_tree::name::OneOrMore;
 use ob_tree::statement::StatementSequence;
 use std::alloc::Global;
-
-/// Parses `:=` and the name of a module that is imported with an alias, if `:=` is next.
-#[tactic(auto, unfolding(crate::specs::Combinators::name_at))]
-fn alias_target(tokens: &[Token], input: Cursor) -> Result<(Option<u32>, Cursor), Stop>
-    ensures read { AgreesWith tokens.now (λ x. (if_present (λ m. word kinds.Assign ++ imported m) x.0, remaining tokens.now x.1)) result (optional (accept_at kinds.Assign) (name_at imported) (remaining tokens.now input)) }
-    ensures number { IfOk result (λ x. x.1.at + 1 ≡ input.at + name_width x.0) }
-{
-    match accept(tokens, input, Kind::Assign) {
-        Some(rest) => {
-            let (of, rest) = identifier(tokens, rest)?;
-            Ok((Some(of), rest))
-        }
-        None => Ok((None, input)),
-    }
-}
-
-/// Parses an import item.
-#[tactic(auto, using(ob_tree::proofs::DeclarationLayers::declaring_made), unfolding(crate::specs::ReadModules::import_item_at, crate::specs::Combinators::name_at))]
-pub fn import(tokens: &[Token], input: Cursor) -> Result<(ImportItem, Cursor), Stop>
-    // What it returns is what the grammar reads, or the error is.
-    ensures read { AgreesWith tokens.now (λ x. (import_events x.0, remaining tokens.now x.1)) result (import_item_at (remaining tokens.now input)) }
-    // The cursor is advanced by the tokens of the item.
-    ensures number { IfOk result (λ x. x.1.at ≡ input.at + name_width x.0.of) }
-{
-    let (name, here) = identifier(tokens, input)?;
-    let (of, here) = alias_target(tokens, here)?;
-    Ok((ImportItem { name, of }, here))
-}
 
 /// Parses the further import items, each after a comma.
 fn more_imports(
@@ -61,13 +34,13 @@ fn more_imports(
     let mut rest = Vec::new(alloc);
     let mut here = input;
     'more: while let Some(after) = accept(tokens, here, Kind::Comma) {
-        here = push_item(&mut rest, import(tokens, after))?;
+        here = append_item(&mut rest, import(tokens, after))?;
     }
     Ok((rest, here))
 }
 
 /// Parses one import item or more, separated by commas.
-#[tactic(auto, unfolding(crate::specs::Combinators::several))]
+#[tactic(auto, unfolding(ob_grammar::specs::Combinators::several))]
 fn import_list(
     alloc: Global,
     tokens: &[Token],
@@ -81,7 +54,7 @@ fn import_list(
 }
 
 /// Parses the imports, if IMPORT is next.
-#[tactic(auto, unfolding(crate::specs::ReadModules::imports_at))]
+#[tactic(auto, unfolding(ob_grammar::specs::ReadModules::imports_at))]
 fn imports(
     alloc: Global,
     tokens: &[Token],
@@ -100,7 +73,7 @@ fn imports(
 }
 
 /// The statements of a module, moved out of their box.
-fn unboxed(body: Option<Box<StatementSequence>>) -> Option<StatementSequence>
+fn unbox_body(body: Option<Box<StatementSequence>>) -> Option<StatementSequence>
     ensures { if_present (λ b. word kinds.Begin ++ block_events b) result ≡ if_present (λ b. word kinds.Begin ++ block_events b.value) body }
 {
     match body {
@@ -110,7 +83,7 @@ fn unboxed(body: Option<Box<StatementSequence>>) -> Option<StatementSequence>
 }
 
 /// Parses a module, in which `depth` levels of nesting are left.
-#[tactic(auto, using(ob_tree::proofs::DeclarationLayers::declaring_made), unfolding(crate::specs::ReadModules::module_at, crate::specs::ReadModules::module_after_name))]
+#[tactic(auto, using(ob_tree::proofs::DeclarationLayers::declaring_made), unfolding(ob_grammar::specs::ReadModules::module_at, ob_grammar::specs::ReadModules::module_after_name))]
 pub(crate) fn module(
     alloc: Global,
     tokens: &[Token],
@@ -123,20 +96,22 @@ pub(crate) fn module(
     let (name, here) = identifier(tokens, here)?;
     let here = expect(tokens, here, Kind::Semicolon)?;
     let (imports, here) = imports(alloc, tokens, here)?;
-    let ((declarations, body, end_name), here) = remainder(alloc, tokens, here, depth, name)?;
+    let ((declarations, body, end_name), here) = module_remainder(
+        alloc, tokens, here, depth, name,
+    )?;
     let module = Module {
         name,
         imports,
         declarations: Box::into_inner(declarations),
-        body: unboxed(body),
+        body: unbox_body(body),
         end_name,
     };
     boxed(alloc, module, here)
 }
 
 /// Parses the part of a module after its imports. `name` is the index of the name that has to be repeated after END.
-#[tactic(auto, unfolding(crate::specs::ReadModules::body_with))]
-fn remainder(
+#[tactic(auto, unfolding(ob_grammar::specs::ReadModules::body_with))]
+fn module_remainder(
     alloc: Global,
     tokens: &[Token],
     input: Cursor,
@@ -159,13 +134,13 @@ fn remainder(
 {
     let (declarations, here) = declarations(alloc, tokens, input, depth)?;
     let (body, here) = optional_block(alloc, tokens, here, depth, Kind::Begin)?;
-    let (end_name, here) = ending(tokens, here, name)?;
+    let (end_name, here) = module_ending(tokens, here, name)?;
     Ok(((declarations, body, end_name), here))
 }
 
 /// Parses the end of a module after its statements. `name` is the index of the name that has to be repeated after END.
-#[tactic(auto, unfolding(crate::specs::Combinators::name_at))]
-fn ending(tokens: &[Token], input: Cursor, name: u32) -> Result<(u32, Cursor), Stop>
+#[tactic(auto, unfolding(ob_grammar::specs::Combinators::name_at))]
+fn module_ending(tokens: &[Token], input: Cursor, name: u32) -> Result<(u32, Cursor), Stop>
     ensures { AgreesWith tokens.now (λ x. (word kinds.End ++ (repeated name x.0 ++ word kinds.Dot), remaining tokens.now x.1)) result
         (seq (expect_at kinds.End) (seq (name_at (repeated name)) (expect_at kinds.Dot)) (remaining tokens.now input)) }
 {
@@ -176,8 +151,8 @@ fn ending(tokens: &[Token], input: Cursor, name: u32) -> Result<(u32, Cursor), S
 }
 
 /// Parses all remaining tokens as one module. A token after the final dot is an error.
-#[tactic(auto, unfolding(crate::specs::ReadModules::read_all))]
-pub(crate) fn all_tokens(
+#[tactic(auto, unfolding(ob_grammar::specs::ReadModules::read_all))]
+pub(crate) fn parse_all_tokens(
     alloc: Global,
     tokens: &[Token],
     input: Cursor,

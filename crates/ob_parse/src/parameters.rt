@@ -1,26 +1,27 @@
-//! Formal parameters (Oberon-07 report, section 10.1).
+//! Formal parameters (Oberon-07 report, section 10.1). Each function parses the production or part that its name states.
 
 ghost use Rattle.std.specs.Prelude.{◌++◌, false};
 ghost use Rattle.ob_scan.specs.declared.kind.Kind.TheVariants as kinds;
 ghost use Rattle.ob_tree.specs.TreeEvents.{word, declared, if_present, each_after, separated, times};
 ghost use Rattle.ob_tree.specs.Names.{qualident_events};
 ghost use Rattle.ob_tree.specs.Types.{section_events, parameters_events};
-ghost use Rattle.ob_parse.specs.Combinators.{optional, accept_at, expect_at, name_at, many, several, unless};
-ghost use Rattle.ob_parse.specs.ReadNames.{qualident_at};
-ghost use Rattle.ob_parse.specs.ReadTypes.{section_at, parameters_at, some_parameters_at};
-ghost use Rattle.ob_parse.specs.AgreesWith.{AgreesWith, remaining};
+ghost use Rattle.ob_grammar.specs.Combinators.{optional, accept_at, expect_at, name_at, many, several, unless};
+ghost use Rattle.ob_grammar.specs.ReadNames.{qualident_at};
+ghost use Rattle.ob_grammar.specs.ReadTypes.{section_at, parameters_at, optional_parameters_at};
+ghost use Rattle.ob_grammar.specs.AgreesWith.{AgreesWith, remaining};
 
-use crate::cursor::Cursor;
-use crate::names::qualident;
-use crate::stop::{Stop, push_item, some};
-use crate::tokens::{accept, expect, identifier, is_at, skip};
+use crate::stop::{append_item, some};
+use ob_grammar::cursor::Cursor;
+use ob_grammar::names::qualident;
+use ob_grammar::stop::Stop;
+use ob_grammar::tokens::{accept, expect, identifier, is_at, skip};
 use ob_scan::{Kind, Token};
 use ob_tree::declaration::{ParameterSection, Parameters};
 use ob_tree::name::{OneOrMore, Qualident};
 use std::alloc::Global;
 
 /// Parses the name of a parameter.
-#[tactic(auto, unfolding(crate::specs::Combinators::name_at))]
+#[tactic(auto, unfolding(ob_grammar::specs::Combinators::name_at))]
 fn name(tokens: &[Token], input: Cursor) -> Result<(u32, Cursor), Stop>
     ensures { AgreesWith tokens.now (λ x. (declared false x.0, remaining tokens.now x.1)) result (name_at (declared false) (remaining tokens.now input)) }
 {
@@ -34,13 +35,13 @@ fn more_names(alloc: Global, tokens: &[Token], input: Cursor) -> Result<(Vec<u32
     let mut rest = Vec::new(alloc);
     let mut here = input;
     'more: while let Some(after) = accept(tokens, here, Kind::Comma) {
-        here = push_item(&mut rest, name(tokens, after))?;
+        here = append_item(&mut rest, name(tokens, after))?;
     }
     Ok((rest, here))
 }
 
 /// Parses one name or more, separated by commas.
-#[tactic(auto, unfolding(crate::specs::Combinators::several))]
+#[tactic(auto, unfolding(ob_grammar::specs::Combinators::several))]
 fn names(alloc: Global, tokens: &[Token], input: Cursor) -> Result<(OneOrMore<u32>, Cursor), Stop>
     ensures { AgreesWith tokens.now (λ x. (separated kinds.Comma (declared false) x.0, remaining tokens.now x.1)) result (several kinds.Comma (name_at (declared false)) (remaining tokens.now input)) }
 {
@@ -63,7 +64,7 @@ fn open_arrays(tokens: &[Token], input: Cursor) -> Result<(u32, Cursor), Stop>
 }
 
 /// Parses a section: parameters of one formal type.
-#[tactic(auto, using(ob_tree::proofs::TypeLayers::types_made), unfolding(crate::specs::ReadTypes::section_at))]
+#[tactic(auto, using(ob_tree::proofs::TypeLayers::types_made), unfolding(ob_grammar::specs::ReadTypes::section_at))]
 fn section(
     alloc: Global,
     tokens: &[Token],
@@ -98,13 +99,13 @@ fn more_sections(
     let mut rest = Vec::new(alloc);
     let mut here = input;
     'more: while let Some(after) = accept(tokens, here, Kind::Semicolon) {
-        here = push_item(&mut rest, section(alloc, tokens, after))?;
+        here = append_item(&mut rest, section(alloc, tokens, after))?;
     }
     Ok((rest, here))
 }
 
 /// Parses the sections of formal parameters, if the closing parenthesis is not next.
-#[tactic(auto, unfolding(crate::specs::Combinators::several, crate::specs::Combinators::unless))]
+#[tactic(auto, unfolding(ob_grammar::specs::Combinators::several, ob_grammar::specs::Combinators::unless))]
 fn sections(
     alloc: Global,
     tokens: &[Token],
@@ -131,7 +132,7 @@ fn result_type(tokens: &[Token], input: Cursor) -> Result<(Option<Qualident>, Cu
 }
 
 /// Parses formal parameters.
-#[tactic(auto, using(ob_tree::proofs::TypeLayers::types_made), unfolding(crate::specs::ReadTypes::parameters_at))]
+#[tactic(auto, using(ob_tree::proofs::TypeLayers::types_made), unfolding(ob_grammar::specs::ReadTypes::parameters_at))]
 fn parameters(alloc: Global, tokens: &[Token], input: Cursor) -> Result<(Parameters, Cursor), Stop>
     ensures { AgreesWith tokens.now (λ x. (parameters_events x.0, remaining tokens.now x.1)) result (parameters_at (remaining tokens.now input)) }
 {
@@ -143,13 +144,13 @@ fn parameters(alloc: Global, tokens: &[Token], input: Cursor) -> Result<(Paramet
 }
 
 /// Parses formal parameters, if an opening parenthesis is next.
-#[tactic(auto, unfolding(crate::specs::Combinators::begins, crate::specs::ReadTypes::some_parameters_at))]
-pub(crate) fn some_parameters(
+#[tactic(auto, unfolding(ob_grammar::specs::Combinators::begins, ob_grammar::specs::ReadTypes::optional_parameters_at))]
+pub(crate) fn optional_parameters(
     alloc: Global,
     tokens: &[Token],
     input: Cursor,
 ) -> Result<(Option<Parameters>, Cursor), Stop>
-    ensures { AgreesWith tokens.now (λ x. (if_present parameters_events x.0, remaining tokens.now x.1)) result (some_parameters_at (remaining tokens.now input)) }
+    ensures { AgreesWith tokens.now (λ x. (if_present parameters_events x.0, remaining tokens.now x.1)) result (optional_parameters_at (remaining tokens.now input)) }
 {
     if is_at(tokens, input, Kind::LeftParen) {
         return some(parameters(alloc, tokens, input));

@@ -1,11 +1,10 @@
-//! Statements (Oberon-07 report, section 9).
+//! Statements (Oberon-07 report, section 9). Each function parses the production or part that its name states.
 
 ghost use Rattle.std.specs.Prelude.{◌≡◌, ◌++◌};
-ghost use Rattle.ob_parse.specs.Combinators.{accept_at, expect_at, many, node, optional, prefixed, seq};
-ghost use Rattle.ob_parse.specs.Lookahead.{uncons, head_is};
-ghost use Rattle.ob_parse.specs.AgreesWith.{AgreesWith, remaining};
-ghost use Rattle.ob_parse.specs.ReadExpressions.{expr_at};
-ghost use Rattle.ob_parse.specs.ReadStatements.{assign_with, block_at, branch_with, case_with, cases_with, for_with, if_with, repeat_with, statement_at, statement_first, statement_with, while_with};
+ghost use Rattle.ob_grammar.specs.Combinators.{accept_at, expect_at, many, node, optional, prefixed, seq};
+ghost use Rattle.ob_grammar.specs.AgreesWith.{AgreesWith, remaining};
+ghost use Rattle.ob_grammar.specs.ReadExpressions.{expr_at};
+ghost use Rattle.ob_grammar.specs.ReadStatements.{assign_with, block_at, branch_with, case_with, cases_with, for_with, if_with, repeat_with, statement_at, statement_with, while_with};
 ghost use Rattle.ob_scan.specs.declared.kind.Kind.TheVariants as kinds;
 ghost use Rattle.ob_tree.specs.Constructs as constructs;
 ghost use Rattle.ob_tree.specs.Expressions.{expr_events};
@@ -13,35 +12,22 @@ ghost use Rattle.ob_tree.specs.TreeEvents as marks;
 ghost use Rattle.ob_tree.specs.TreeEvents.{each_after, if_present, word};
 ghost use Rattle.ob_tree.specs.Statements.{block_events, branch_events, case_events, stmt_events};
 
-use crate::cursor::Cursor;
 use crate::expressions::{designator, expression, optional_expression};
-use crate::labels::{begins_label, label_ranges};
-use crate::stop::{Stop, boxed, push_boxed, some};
-use crate::tokens::{accept, expect, identifier};
+use crate::labels::label_ranges;
+use crate::stop::{append_boxed, boxed, some};
+use ob_grammar::cursor::Cursor;
+use ob_grammar::labels::begins_label;
+use ob_grammar::statements::begins_statement;
+use ob_grammar::stop::Stop;
+use ob_grammar::tokens::{accept, expect, identifier};
 use ob_scan::{Kind, Token};
 use ob_tree::expression::Expr;
 use ob_tree::statement::{Branch, Case, For, StatementSequence, Stmt};
 use ob_tree::token::Leaf;
 use std::alloc::Global;
 
-/// Whether a statement that is not empty begins here.
-pub fn begins_statement(tokens: &[Token], input: Cursor) -> bool
-    // Exactly if the next token is one of those that begin a statement.
-    ensures { result ≡ head_is statement_first (uncons (remaining tokens.now input)) }
-{
-    match input.next(tokens) {
-        Some((Leaf::Name(_), _)) => true,
-        Some((Leaf::Word(Kind::If), _)) => true,
-        Some((Leaf::Word(Kind::Case), _)) => true,
-        Some((Leaf::Word(Kind::While), _)) => true,
-        Some((Leaf::Word(Kind::Repeat), _)) => true,
-        Some((Leaf::Word(Kind::For), _)) => true,
-        _ => false,
-    }
-}
-
 /// Parses a statement when no level is left: it has to be empty.
-#[tactic(auto, using(crate::proofs::StatementSteps::made), unfolding(crate::specs::ReadStatements::statement_at, crate::specs::ReadStatements::empty_at))]
+#[tactic(auto, using(crate::proofs::StatementSteps::made), unfolding(ob_grammar::specs::ReadStatements::statement_at, ob_grammar::specs::ReadStatements::empty_at))]
 fn empty_statement(
     alloc: Global,
     tokens: &[Token],
@@ -57,7 +43,7 @@ fn empty_statement(
 
 /// Parses a statement, for which `depth` levels of nesting are left. It is a level itself.
 #[cycle(statements)]
-#[tactic(auto, unfolding(crate::specs::ReadStatements::statement_at))]
+#[tactic(auto, unfolding(ob_grammar::specs::ReadStatements::statement_at))]
 fn statement(
     alloc: Global,
     tokens: &[Token],
@@ -75,7 +61,7 @@ fn statement(
 
 /// Parses a statement, in whose parts `depth` levels of nesting are left.
 #[cycle(statements)]
-#[tactic(auto, using(crate::proofs::StatementSteps::made), unfolding(crate::specs::ReadStatements::statement_with))]
+#[tactic(auto, using(crate::proofs::StatementSteps::made), unfolding(ob_grammar::specs::ReadStatements::statement_with))]
 fn statement_within(
     alloc: Global,
     tokens: &[Token],
@@ -96,7 +82,7 @@ fn statement_within(
 }
 
 /// Parses an assignment or a call after its first identifier, which has the index `head`.
-#[tactic(auto, using(crate::proofs::StatementSteps::made), unfolding(crate::specs::ReadStatements::assign_with))]
+#[tactic(auto, using(crate::proofs::StatementSteps::made), unfolding(ob_grammar::specs::ReadStatements::assign_with))]
 fn assignment(
     alloc: Global,
     tokens: &[Token],
@@ -118,7 +104,7 @@ fn assignment(
 
 /// Parses one statement or more, separated by semicolons.
 #[cycle(statements)]
-#[tactic(auto, using(crate::proofs::StatementSteps::made), unfolding(crate::specs::ReadStatements::block_with, crate::specs::Combinators::several))]
+#[tactic(auto, using(crate::proofs::StatementSteps::made), unfolding(ob_grammar::specs::ReadStatements::block_with, ob_grammar::specs::Combinators::several))]
 pub(crate) fn block(
     alloc: Global,
     tokens: &[Token],
@@ -149,14 +135,14 @@ fn more_statements(
     let mut rest = Vec::new(alloc);
     let mut here = input;
     'more: while let Some(after) = accept(tokens, here, Kind::Semicolon) {
-        here = push_boxed(&mut rest, statement(alloc, tokens, after, depth))?;
+        here = append_boxed(&mut rest, statement(alloc, tokens, after, depth))?;
     }
     Ok((rest, here))
 }
 
 /// Parses a condition, a keyword, and the statements after it.
 #[cycle(statements)]
-#[tactic(auto, using(crate::proofs::StatementSteps::made), unfolding(crate::specs::ReadStatements::branch_with))]
+#[tactic(auto, using(crate::proofs::StatementSteps::made), unfolding(ob_grammar::specs::ReadStatements::branch_with))]
 fn branch(
     alloc: Global,
     tokens: &[Token],
@@ -178,7 +164,7 @@ fn branch(
 
 /// Parses the ELSIF branches, with `keyword` between each condition and its statements.
 #[cycle(statements)]
-fn more_branches(
+fn elsif_branches(
     alloc: Global,
     tokens: &[Token],
     input: Cursor,
@@ -191,7 +177,7 @@ fn more_branches(
     let mut rest = Vec::new(alloc);
     let mut here = input;
     'more: while let Some(after) = accept(tokens, here, Kind::Elsif) {
-        here = push_boxed(&mut rest, branch(alloc, tokens, after, depth, keyword))?;
+        here = append_boxed(&mut rest, branch(alloc, tokens, after, depth, keyword))?;
     }
     Ok((rest, here))
 }
@@ -215,7 +201,7 @@ pub(crate) fn optional_block(
 
 /// Parses a statement after its IF.
 #[cycle(statements)]
-#[tactic(auto, using(crate::proofs::StatementSteps::made), unfolding(crate::specs::ReadStatements::if_with))]
+#[tactic(auto, using(crate::proofs::StatementSteps::made), unfolding(ob_grammar::specs::ReadStatements::if_with))]
 fn if_statement(
     alloc: Global,
     tokens: &[Token],
@@ -225,7 +211,7 @@ fn if_statement(
     ensures { AgreesWith tokens.now (λ x. (stmt_events x.0, remaining tokens.now x.1)) result (node constructs.Statement (prefixed (word kinds.If) (if_with (expr_at depth) (block_at depth))) (remaining tokens.now input)) }
 {
     let (first, input) = branch(alloc, tokens, input, depth, Kind::Then)?;
-    let (rest, input) = more_branches(alloc, tokens, input, depth, Kind::Then)?;
+    let (rest, input) = elsif_branches(alloc, tokens, input, depth, Kind::Then)?;
     let (otherwise, input) = optional_block(alloc, tokens, input, depth, Kind::Else)?;
     let input = expect(tokens, input, Kind::End)?;
     Ok((Stmt::If(first, rest, otherwise), input))
@@ -233,7 +219,7 @@ fn if_statement(
 
 /// Parses a statement after its CASE.
 #[cycle(statements)]
-#[tactic(auto, using(crate::proofs::StatementSteps::made), unfolding(crate::specs::ReadStatements::cases_with))]
+#[tactic(auto, using(crate::proofs::StatementSteps::made), unfolding(ob_grammar::specs::ReadStatements::cases_with))]
 fn case_statement(
     alloc: Global,
     tokens: &[Token],
@@ -267,7 +253,7 @@ fn cases(
 
 /// Parses one case, which may be empty.
 #[cycle(statements)]
-#[tactic(auto, using(crate::proofs::StatementSteps::made), unfolding(crate::specs::ReadStatements::case_with, crate::specs::Combinators::begins))]
+#[tactic(auto, using(crate::proofs::StatementSteps::made), unfolding(ob_grammar::specs::ReadStatements::case_with, ob_grammar::specs::Combinators::begins))]
 fn case(
     alloc: Global,
     tokens: &[Token],
@@ -298,14 +284,14 @@ fn more_cases(
     let mut rest = Vec::new(alloc);
     let mut here = input;
     'more: while let Some(after) = accept(tokens, here, Kind::Bar) {
-        here = push_boxed(&mut rest, case(alloc, tokens, after, depth))?;
+        here = append_boxed(&mut rest, case(alloc, tokens, after, depth))?;
     }
     Ok((rest, here))
 }
 
 /// Parses a statement after its WHILE.
 #[cycle(statements)]
-#[tactic(auto, using(crate::proofs::StatementSteps::made), unfolding(crate::specs::ReadStatements::while_with))]
+#[tactic(auto, using(crate::proofs::StatementSteps::made), unfolding(ob_grammar::specs::ReadStatements::while_with))]
 fn while_statement(
     alloc: Global,
     tokens: &[Token],
@@ -315,14 +301,14 @@ fn while_statement(
     ensures { AgreesWith tokens.now (λ x. (stmt_events x.0, remaining tokens.now x.1)) result (node constructs.Statement (prefixed (word kinds.While) (while_with (expr_at depth) (block_at depth))) (remaining tokens.now input)) }
 {
     let (first, input) = branch(alloc, tokens, input, depth, Kind::Do)?;
-    let (rest, input) = more_branches(alloc, tokens, input, depth, Kind::Do)?;
+    let (rest, input) = elsif_branches(alloc, tokens, input, depth, Kind::Do)?;
     let input = expect(tokens, input, Kind::End)?;
     Ok((Stmt::While(first, rest), input))
 }
 
 /// Parses a statement after its REPEAT.
 #[cycle(statements)]
-#[tactic(auto, using(crate::proofs::StatementSteps::made), unfolding(crate::specs::ReadStatements::repeat_with))]
+#[tactic(auto, using(crate::proofs::StatementSteps::made), unfolding(ob_grammar::specs::ReadStatements::repeat_with))]
 fn repeat_statement(
     alloc: Global,
     tokens: &[Token],
@@ -339,7 +325,7 @@ fn repeat_statement(
 
 /// Parses a statement after its FOR.
 #[cycle(statements)]
-#[tactic(auto, using(crate::proofs::StatementSteps::made), unfolding(crate::specs::ReadStatements::for_with, crate::specs::Combinators::name_at))]
+#[tactic(auto, using(crate::proofs::StatementSteps::made), unfolding(ob_grammar::specs::ReadStatements::for_with, ob_grammar::specs::Combinators::name_at))]
 fn for_statement(
     alloc: Global,
     tokens: &[Token],
@@ -351,12 +337,12 @@ fn for_statement(
     let (variable, input) = identifier(tokens, input)?;
     let input = expect(tokens, input, Kind::Assign)?;
     let (from, input) = expression(alloc, tokens, input, depth)?;
-    let ((to, by, body), input) = for_rest(alloc, tokens, input, depth)?;
+    let ((to, by, body), input) = for_limit_and_body(alloc, tokens, input, depth)?;
     let statement = For {
         variable,
         from: Box::into_inner(from),
         to: Box::into_inner(to),
-        by: unboxed(by),
+        by: unbox_step(by),
         body: Box::into_inner(body),
     };
     let (statement, input) = boxed(alloc, statement, input)?;
@@ -365,7 +351,7 @@ fn for_statement(
 
 /// Parses a FOR statement from its TO on: the limit, the step and the body.
 #[cycle(statements)]
-fn for_rest(
+fn for_limit_and_body(
     alloc: Global,
     tokens: &[Token],
     input: Cursor,
@@ -409,7 +395,7 @@ fn for_body(
 }
 
 /// The step of a FOR statement, moved out of its box.
-fn unboxed(step: Option<Box<Expr>>) -> Option<Expr>
+fn unbox_step(step: Option<Box<Expr>>) -> Option<Expr>
     ensures { if_present (λ e. word kinds.By ++ expr_events e) result ≡ if_present (λ e. word kinds.By ++ expr_events e.value) step }
 {
     match step {

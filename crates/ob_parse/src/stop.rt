@@ -1,38 +1,12 @@
-//! The errors inside the parser, and helpers that pass them on.
+//! Helpers that pass on the errors inside the parser.
 
 ghost use Rattle.std.specs.Prelude.{◌≡◌, IfOk, IfErr};
-ghost use Rattle.ob_parse.specs.AgreesWith.{some_of, Collects};
-ghost use Rattle.ob_parse.specs.declared.stop.Stop.TheVariants.{Memory};
+ghost use Rattle.ob_grammar.specs.AgreesWith.{some_of, AppendsItem};
+ghost use Rattle.ob_grammar.specs.declared.stop.Stop.TheVariants.{Memory};
 
-use crate::cursor::Cursor;
-use std::alloc::{AllocError, AllocFailed, Global};
-
-/// Why the parser stops, with the cursor at the token at which it stops.
-#[derive(Clone, Copy)]
-pub enum Stop {
-    /// The next token is wrong, or missing.
-    Unexpected(Cursor),
-    /// The next token begins a construct that is nested too deep.
-    TooDeep(Cursor),
-    /// An allocation failed.
-    Memory,
-}
-
-impl From<AllocError> for Stop {
-    ghost from_gives = { λ _ stop. stop ≡ Memory };
-
-    fn from(_error: AllocError) -> Stop {
-        Stop::Memory
-    }
-}
-
-impl<T: Drop> From<AllocFailed<T>> for Stop {
-    ghost from_gives = { λ _ stop. stop ≡ Memory };
-
-    fn from(_error: AllocFailed<T>) -> Stop {
-        Stop::Memory
-    }
-}
+use ob_grammar::cursor::Cursor;
+use ob_grammar::stop::Stop;
+use std::alloc::Global;
 
 /// The value in a box, and the cursor after its tokens.
 pub(crate) fn boxed<T: Drop>(
@@ -47,11 +21,11 @@ pub(crate) fn boxed<T: Drop>(
 }
 
 /// Appends the parsed item to the list, and returns the cursor after its tokens.
-pub(crate) fn push_item<T: Drop>(
+pub(crate) fn append_item<T: Drop>(
     list: &mut Vec<T>,
     read: Result<(T, Cursor), Stop>,
 ) -> Result<Cursor, Stop>
-    ensures { Collects (λ x. x) list.old.items list.new.items read result }
+    ensures { AppendsItem (λ x. x) list.old.items list.new.items read result }
 {
     let (item, rest) = read?;
     list.push(item)?;
@@ -59,11 +33,11 @@ pub(crate) fn push_item<T: Drop>(
 }
 
 /// Appends the parsed item to the list, moved out of its box, and returns the cursor after its tokens.
-pub(crate) fn push_boxed<T: Drop>(
+pub(crate) fn append_boxed<T: Drop>(
     list: &mut Vec<T>,
     read: Result<(Box<T>, Cursor), Stop>,
 ) -> Result<Cursor, Stop>
-    ensures { Collects (λ b. b.value) list.old.items list.new.items read result }
+    ensures { AppendsItem (λ b. b.value) list.old.items list.new.items read result }
 {
     let (item, rest) = read?;
     list.push(Box::into_inner(item))?;

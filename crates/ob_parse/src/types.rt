@@ -1,46 +1,30 @@
-//! Types (Oberon-07 report, section 6).
+//! Types (Oberon-07 report, section 6). Each function parses the production or part that its name states.
 
-ghost use Rattle.std.specs.Prelude.{◌≡◌, ◌+◌, ◌++◌, IfOk, IfSome};
 ghost use Rattle.ob_scan.specs.declared.kind.Kind.TheVariants as kinds;
 ghost use Rattle.ob_tree.specs.Constructs as constructs;
 ghost use Rattle.ob_tree.specs.TreeEvents.{construct, word, if_present, each_after, separated};
-ghost use Rattle.ob_tree.specs.Names.{qualident_events, identdef_events};
+ghost use Rattle.ob_tree.specs.Names.{identdef_events};
 ghost use Rattle.ob_tree.specs.Types.{type_events, fields_events, var_events};
-ghost use Rattle.ob_tree.specs.Widths.{base_width};
-ghost use Rattle.ob_parse.specs.Lookahead.{head_is, uncons};
-ghost use Rattle.ob_parse.specs.Combinators.{optional, accept_at, expect_at, many, several, unless, seq, node, prefixed};
-ghost use Rattle.ob_parse.specs.ReadExpressions.{expr_at};
-ghost use Rattle.ob_parse.specs.ReadNames as names;
-ghost use Rattle.ob_parse.specs.ReadNames.{qualident_at, identdef_at};
-ghost use Rattle.ob_parse.specs.ReadTypes.{some_parameters_at, type_first, var_with, field_start, fields_with, record_with, type_with, type_at};
-ghost use Rattle.ob_parse.specs.AgreesWith.{AgreesWith, remaining, skipped};
+ghost use Rattle.ob_grammar.specs.Combinators.{optional, accept_at, expect_at, many, several, unless, seq, node, prefixed};
+ghost use Rattle.ob_grammar.specs.ReadExpressions.{expr_at};
+ghost use Rattle.ob_grammar.specs.ReadNames as names;
+ghost use Rattle.ob_grammar.specs.ReadNames.{identdef_at};
+ghost use Rattle.ob_grammar.specs.ReadTypes.{optional_parameters_at, var_with, field_start, fields_with, record_with, type_with, type_at};
+ghost use Rattle.ob_grammar.specs.AgreesWith.{AgreesWith, remaining};
 
-use crate::cursor::Cursor;
 use crate::expressions::expression_list;
-use crate::names::{identdef, qualident, qualident_after};
-use crate::parameters::some_parameters;
-use crate::stop::{Stop, boxed, push_boxed, push_item, some};
-use crate::tokens::{accept, depth_stop, expect, is_at, skip};
+use crate::parameters::optional_parameters;
+use crate::stop::{append_boxed, append_item, boxed, some};
+use ob_grammar::cursor::Cursor;
+use ob_grammar::names::{identdef, qualident_after};
+use ob_grammar::stop::Stop;
+use ob_grammar::tokens::{accept, depth_stop, expect, is_at, skip};
+use ob_grammar::types::{accept_field_separator, base, begins_type};
 use ob_scan::{Kind, Token};
 use ob_tree::declaration::{Fields, Record, TypeForm, VarDecl};
-use ob_tree::name::{Identdef, OneOrMore, Qualident};
+use ob_tree::name::{Identdef, OneOrMore};
 use ob_tree::token::Leaf;
 use std::alloc::Global;
-
-/// Whether a type begins here.
-pub fn begins_type(tokens: &[Token], input: Cursor) -> bool
-    // Exactly if the next token is one of those that begin a type.
-    ensures { result ≡ head_is type_first (uncons (remaining tokens.now input)) }
-{
-    match input.next(tokens) {
-        Some((Leaf::Name(_), _)) => true,
-        Some((Leaf::Word(Kind::Array), _)) => true,
-        Some((Leaf::Word(Kind::Record), _)) => true,
-        Some((Leaf::Word(Kind::Pointer), _)) => true,
-        Some((Leaf::Word(Kind::Procedure), _)) => true,
-        _ => false,
-    }
-}
 
 /// Parses the further declaring identifiers, each after a comma.
 fn more_identdefs(
@@ -53,13 +37,13 @@ fn more_identdefs(
     let mut rest = Vec::new(alloc);
     let mut here = input;
     'more: while let Some(after) = accept(tokens, here, Kind::Comma) {
-        here = push_item(&mut rest, identdef(tokens, after))?;
+        here = append_item(&mut rest, identdef(tokens, after))?;
     }
     Ok((rest, here))
 }
 
 /// Parses one declaring identifier or more, separated by commas.
-#[tactic(auto, unfolding(crate::specs::Combinators::several))]
+#[tactic(auto, unfolding(ob_grammar::specs::Combinators::several))]
 fn identdefs(
     alloc: Global,
     tokens: &[Token],
@@ -74,7 +58,7 @@ fn identdefs(
 
 /// Parses variables or fields of one type.
 #[cycle(types)]
-#[tactic(auto, using(ob_tree::proofs::TypeLayers::types_made), unfolding(crate::specs::ReadTypes::var_with))]
+#[tactic(auto, using(ob_tree::proofs::TypeLayers::types_made), unfolding(ob_grammar::specs::ReadTypes::var_with))]
 pub(crate) fn var_declaration(
     alloc: Global,
     tokens: &[Token],
@@ -88,24 +72,6 @@ pub(crate) fn var_declaration(
     let (type_expr, here) = type_expression(alloc, tokens, here, depth)?;
     let type_expr = Box::into_inner(type_expr);
     boxed(alloc, VarDecl { names, type_expr }, here)
-}
-
-/// The cursor after a semicolon, if a field list follows it: the second token of look-ahead that the grammar needs.
-#[inline(always)]
-#[tactic(auto, unfolding(crate::specs::ReadTypes::field_start))]
-pub fn accept_fields(tokens: &[Token], input: Cursor) -> Option<Cursor>
-    // Exactly what the grammar reads.
-    ensures read { skipped tokens.now kinds.Semicolon result ≡ field_start (remaining tokens.now input) }
-    // The cursor is one token further.
-    ensures number { IfSome result (λ rest. rest.at ≡ input.at + 1) }
-{
-    match input.next(tokens) {
-        Some((Leaf::Word(Kind::Semicolon), rest)) => match rest.next(tokens) {
-            Some((Leaf::Name(_), _)) => Some(rest),
-            _ => None,
-        },
-        _ => None,
-    }
 }
 
 /// Parses the fields of one type.
@@ -123,7 +89,7 @@ fn field_list(
 
 /// Parses the further field lists, each after a semicolon.
 #[cycle(types)]
-fn more_fields(
+fn more_field_lists(
     alloc: Global,
     tokens: &[Token],
     input: Cursor,
@@ -134,15 +100,15 @@ fn more_fields(
 {
     let mut rest = Vec::new(alloc);
     let mut here = input;
-    'more: while let Some(after) = accept_fields(tokens, here) {
-        here = push_boxed(&mut rest, field_list(alloc, tokens, after, depth))?;
+    'more: while let Some(after) = accept_field_separator(tokens, here) {
+        here = append_boxed(&mut rest, field_list(alloc, tokens, after, depth))?;
     }
     Ok((rest, here))
 }
 
 /// Parses the field lists of a record.
 #[cycle(types)]
-#[tactic(auto, using(ob_tree::proofs::TypeLayers::types_made), unfolding(crate::specs::ReadTypes::fields_with))]
+#[tactic(auto, using(ob_tree::proofs::TypeLayers::types_made), unfolding(ob_grammar::specs::ReadTypes::fields_with))]
 fn fields(
     alloc: Global,
     tokens: &[Token],
@@ -152,7 +118,7 @@ fn fields(
     ensures { AgreesWith tokens.now (λ x. (fields_events x.0.value, remaining tokens.now x.1)) result (fields_with (type_at depth) (remaining tokens.now input)) }
 {
     let (first, here) = field_list(alloc, tokens, input, depth)?;
-    let (rest, here) = more_fields(alloc, tokens, here, depth)?;
+    let (rest, here) = more_field_lists(alloc, tokens, here, depth)?;
     let (closing_semicolon, here) = skip(tokens, here, Kind::Semicolon);
     let fields = Fields {
         first: Box::into_inner(first),
@@ -162,29 +128,10 @@ fn fields(
     boxed(alloc, fields, here)
 }
 
-/// Parses the base of a record in parentheses, if an opening parenthesis is next.
-#[inline(always)]
-pub fn base(tokens: &[Token], input: Cursor) -> Result<(Option<Qualident>, Cursor), Stop>
-    // What it returns is what the grammar reads, or the error is.
-    ensures read { AgreesWith tokens.now (λ x. (if_present (λ q. word kinds.LeftParen ++ (qualident_events q ++ word kinds.RightParen)) x.0, remaining tokens.now x.1)) result
-        (optional (accept_at kinds.LeftParen) (seq qualident_at (expect_at kinds.RightParen)) (remaining tokens.now input)) }
-    // The cursor is advanced by these tokens.
-    ensures number { IfOk result (λ x. x.1.at ≡ input.at + base_width x.0) }
-{
-    match accept(tokens, input, Kind::LeftParen) {
-        Some(rest) => {
-            let (base, rest) = qualident(tokens, rest)?;
-            let rest = expect(tokens, rest, Kind::RightParen)?;
-            Ok((Some(base), rest))
-        }
-        None => Ok((None, input)),
-    }
-}
-
 /// Parses the field lists of a record, if its END is not next.
 #[cycle(types)]
-#[tactic(auto, unfolding(crate::specs::Combinators::unless))]
-fn some_fields(
+#[tactic(auto, unfolding(ob_grammar::specs::Combinators::unless))]
+fn optional_fields(
     alloc: Global,
     tokens: &[Token],
     input: Cursor,
@@ -200,7 +147,7 @@ fn some_fields(
 
 /// Parses a type, in whose parts `depth` levels of nesting are left.
 #[cycle(types)]
-#[tactic(auto, using(ob_tree::proofs::TypeLayers::types_made), unfolding(crate::specs::ReadTypes::type_with))]
+#[tactic(auto, using(ob_tree::proofs::TypeLayers::types_made), unfolding(ob_grammar::specs::ReadTypes::type_with))]
 fn type_within(
     alloc: Global,
     tokens: &[Token],
@@ -210,7 +157,7 @@ fn type_within(
     ensures { AgreesWith tokens.now (λ x. (type_events x.0, remaining tokens.now x.1)) result (type_with (expr_at depth) (type_at depth) (remaining tokens.now input)) }
 {
     match input.next(tokens) {
-        Some((Leaf::Name(head), rest)) => named(tokens, head, rest),
+        Some((Leaf::Name(head), rest)) => named_type(tokens, head, rest),
         Some((Leaf::Word(Kind::Array), rest)) => array(alloc, tokens, rest, depth),
         Some((Leaf::Word(Kind::Record), rest)) => record(alloc, tokens, rest, depth),
         Some((Leaf::Word(Kind::Pointer), rest)) => pointer(alloc, tokens, rest, depth),
@@ -221,7 +168,7 @@ fn type_within(
 
 /// Parses a type name after its first identifier, which has the index `head`.
 #[tactic(auto, using(ob_tree::proofs::TypeLayers::types_made))]
-fn named(tokens: &[Token], head: u32, input: Cursor) -> Result<(TypeForm, Cursor), Stop>
+fn named_type(tokens: &[Token], head: u32, input: Cursor) -> Result<(TypeForm, Cursor), Stop>
     ensures { AgreesWith tokens.now (λ x. (type_events x.0, remaining tokens.now x.1)) result (node constructs.NamedType (names.qualident_after head) (remaining tokens.now input)) }
 {
     let (name, rest) = qualident_after(tokens, head, input)?;
@@ -248,7 +195,7 @@ fn array(
 
 /// Parses a type after its RECORD.
 #[cycle(types)]
-#[tactic(auto, using(ob_tree::proofs::TypeLayers::types_made), unfolding(crate::specs::ReadTypes::record_with))]
+#[tactic(auto, using(ob_tree::proofs::TypeLayers::types_made), unfolding(ob_grammar::specs::ReadTypes::record_with))]
 fn record(
     alloc: Global,
     tokens: &[Token],
@@ -259,7 +206,7 @@ fn record(
         (node constructs.RecordType (prefixed (word kinds.Record) (record_with (type_at depth))) (remaining tokens.now input)) }
 {
     let (base, here) = base(tokens, input)?;
-    let (fields, here) = some_fields(alloc, tokens, here, depth)?;
+    let (fields, here) = optional_fields(alloc, tokens, here, depth)?;
     let here = expect(tokens, here, Kind::End)?;
     Ok((TypeForm::RecordOf(Record { base, fields }), here))
 }
@@ -285,15 +232,15 @@ fn pointer(
 #[tactic(auto, using(ob_tree::proofs::TypeLayers::types_made))]
 fn procedure(alloc: Global, tokens: &[Token], input: Cursor) -> Result<(TypeForm, Cursor), Stop>
     ensures { AgreesWith tokens.now (λ x. (type_events x.0, remaining tokens.now x.1)) result
-        (node constructs.ProcedureType (prefixed (word kinds.Procedure) some_parameters_at) (remaining tokens.now input)) }
+        (node constructs.ProcedureType (prefixed (word kinds.Procedure) optional_parameters_at) (remaining tokens.now input)) }
 {
-    let (parameters, rest) = some_parameters(alloc, tokens, input)?;
+    let (parameters, rest) = optional_parameters(alloc, tokens, input)?;
     Ok((TypeForm::ProcOf(parameters), rest))
 }
 
 /// Parses a type, for which `depth` levels of nesting are left. It is a level itself.
 #[cycle(types)]
-#[tactic(auto, unfolding(crate::specs::ReadTypes::type_at, crate::specs::Combinators::limit_at))]
+#[tactic(auto, unfolding(ob_grammar::specs::ReadTypes::type_at, ob_grammar::specs::Combinators::limit_at))]
 pub(crate) fn type_expression(
     alloc: Global,
     tokens: &[Token],

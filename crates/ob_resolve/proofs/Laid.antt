@@ -1,4 +1,4 @@
--- Marks of all kinds of rows.
+-- The positions that all kinds of entries set.
 use Rattle.std.proofs.Common.{◌≡◌, ℕ, ◌<◌, ◌≤◌, ◌==◌, inl, inr, List, length, set, true, false, Some, cond, sym, ap, ◌∙◌, arith, eq-eqb}
 use Rattle.std.specs.Prelude.{slice_get}
 use Rattle.std.proofs.lemmas.Bool.{cases_eq}
@@ -11,7 +11,7 @@ use Rattle.ob_targets.specs.SyntaxPosition.{first, is_alias, is_imported_name, i
 use Rattle.ob_resolve.specs.Positions.{ArePositionsSet}
 use Rattle.ob_resolve.proofs.Marks.{not_same, slice_get-set_same, slice_get-set_other}
 
--- where a token stands, but for the module's own name
+-- the syntactic position of a token, but for the module's own name
 abbrev pub elsewhere : Rows → ℕ → SyntaxPosition → SyntaxPosition
 elsewhere rows k s =
     first (is_alias k) syntax_positions.Item rows.imports (
@@ -33,7 +33,7 @@ all_laid rows a b c d e f g h second selected used end declared imported alias k
     alias k _ (imported k _ (declared k _ (end k _ (used k _ (selected k _ (second k s is))))))
 
 module _ (rows : Rows) (old new : List SyntaxPosition) where
-  -- the module's own name goes before all else
+  -- the module's own name has priority over all entries
   pub own_laid : 1 < length new → AreLaid rows old new → (k : ℕ) (s : SyntaxPosition) → slice_get old k ≡ Some s → slice_get (set new 1 syntax_positions.OwnName) k ≡ Some (syntax_position_or rows k s)
   unfolding AreLaid
   own_laid room laid k s is = elim (cases_eq k module_name_token) [

@@ -1,4 +1,4 @@
--- Marks that are laid row by row, from the last row to the first.
+-- Positions that are set entry by entry, from the last entry to the first.
 use Rattle.std.proofs.Common.{◌≡◌, ℕ, zero, suc, ◌<◌, ◌≤◌, ◌+◌, ◌==◌, inl, inr, List, [], ◌∷◌, length, get_or, set, drop, ◌-◌, Bool, true, false, Some, cond, refl, sym, ap, ◌∙◌, subst, arith, eq-eqb, length-set}
 use Rattle.std.specs.Prelude.{slice_get}
 use Rattle.std.specs.List.{position_from}
@@ -28,7 +28,7 @@ slice_get-set_other (x ∷ xs) (suc i) zero v ne = refl
 slice_get-set_other (x ∷ xs) (suc i) (suc j) v ne = slice_get-set_other xs i j v (λ e. ne (ap suc e))
 
 module _ {X : Type 0} (has : ℕ → X → Bool) (at : ℕ → SyntaxPosition) where
-  -- the rows from this place on have left their marks
+  -- the entries from this index on have set their positions
   pub record AreMarkedFrom (position : ℕ) (rows : List X) (old new : List SyntaxPosition) : Type 0 where
     pub as_many : length new ≡ length old
     pub each : (k : ℕ) (s : SyntaxPosition) → slice_get old k ≡ Some s → slice_get new k ≡ Some (option_map_or at (position_from (has k) position rows) s)
@@ -36,7 +36,7 @@ module _ {X : Type 0} (has : ℕ → X → Bool) (at : ℕ → SyntaxPosition) w
   pub unmarked : (position : ℕ) (old : List SyntaxPosition) → AreMarkedFrom position [] old old
   unmarked position old = record { as_many = refl; each = λ k s e. e }
 
-  -- a row in which no marked token stands
+  -- an entry without a token in the list
   pub marked_as_before : (position : ℕ) (row : X) (rest : List X) (old new : List SyntaxPosition) → ((k : ℕ) → k < length old → has k row ≡ false) →
       AreMarkedFrom (position + 1) rest old new → AreMarkedFrom position (row ∷ rest) old new
   marked_as_before position row rest old new nowhere m = record {
@@ -44,7 +44,7 @@ module _ {X : Type 0} (has : ℕ → X → Bool) (at : ℕ → SyntaxPosition) w
     each = λ k s e. m.each k s e ∙ ap (λ b. Some (option_map_or at (cond b (Some position) (position_from (has k) (position + 1) rest)) s)) (sym (nowhere k (slice_get_within old k s e)));
   }
 
-  -- a row in which this token stands alone
+  -- an entry with exactly this token
   pub marked_by_row : (position : ℕ) (row : X) (rest : List X) (old new : List SyntaxPosition) (n : ℕ) → ((k : ℕ) → has k row ≡ (n == k)) → n < length old →
       AreMarkedFrom (position + 1) rest old new → AreMarkedFrom position (row ∷ rest) old (set new n (at position))
   marked_by_row position row rest old new n alone l m =
@@ -58,7 +58,7 @@ module _ {X : Type 0} (has : ℕ → X → Bool) (at : ℕ → SyntaxPosition) w
         ];
       }
 
-  -- the row before this place
+  -- the entry before this index
   row_before : (rows : List X) (position : ℕ) (row : X) → 0 < position → position ≤ length rows → row ≡ get_or rows (position - 1) row → drop (position - 1) rows ≡ row ∷ drop position rows
   row_before rows position row some within is =
       let next : position - 1 + 1 ≡ position = omega arith in
@@ -77,10 +77,10 @@ module _ {X : Type 0} (has : ℕ → X → Bool) (at : ℕ → SyntaxPosition) w
       let next : position ≡ position - 1 + 1 = omega arith in
       rw (row_before rows position row some within is, made) (marked_by_row (position - 1) row (drop position rows) old new n alone l (subst (λ p. AreMarkedFrom p (drop position rows) old new) next m))
 
-  -- a token beyond the last is no marked one
+  -- a token after the last one has no element in the list
   pub beyond : (row : X) (old : List SyntaxPosition) (n : ℕ) → ((k : ℕ) → has k row ≡ is_token k (Some n)) → length old ≤ n → (k : ℕ) → k < length old → has k row ≡ false
   beyond row old n alone l k h = alone k ∙ not_same n k (omega arith)
 
-  -- marks that all rows have left
+  -- all entries have set their positions
   pub all_marked : (rows : List X) (old new : List SyntaxPosition) → AreMarkedFrom 0 rows old new → ArePositionsSet has at rows old new
   all_marked rows old new m k s e = m.each k s e ∙ ap (λ o. Some (option_map_or at o s)) (sym (position_from-zero (has k) rows))

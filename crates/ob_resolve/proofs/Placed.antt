@@ -1,4 +1,4 @@
--- Where a token stands there is a row.
+-- A token with a syntactic position has an entry.
 use Rattle.std.proofs.Common.{◌≡◌, ℕ, ◌<◌, ◌==◌, List, [], ◌∷◌, length, get_or, Bool, true, false, cond, Option, Some, None, refl, ap, eqb-true}
 use Rattle.std.specs.Prelude.{slice_get, position}
 use Rattle.std.specs.Option.{option_map_or}
@@ -13,7 +13,7 @@ use Rattle.ob_targets.specs.declared.syntax_position.SyntaxPosition.{SyntaxPosit
 use Rattle.ob_targets.specs.declared.syntax_position.SyntaxPosition.TheVariants as syntax_positions
 use Rattle.ob_targets.specs.SyntaxPosition.{first, is_alias, is_imported_name, is_declared, is_end_name, is_use, is_selected, is_second, is_token, name_of, syntax_position}
 
--- a selector of this name stands at this place
+-- a selector with this name is at this index
 pub record SelectsAt (rows : Rows) (k at : ℕ) : Type 0 where
   pub selector : Selector
   pub there : slice_get rows.selectors at ≡ Some selector

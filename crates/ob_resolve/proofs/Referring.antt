@@ -1,4 +1,4 @@
--- What identifiers stand for, one by one, and all of them in order.
+-- What identifiers denote, one by one, and all of them in order.
 use Rattle.std.proofs.Common.{◌≡◌, ℕ, ◌+◌, ◌<◌, ◌≤◌, List, [], ◌∷◌, ◌++◌, length, get_or, drop, map, Bool, true, false, cond, Option, Some, None, refl, sym, ap, ◌∙◌, subst}
 use Rattle.std.specs.Prelude.{slice_get}
 use Rattle.std.specs.List.{All, cons_option, filter_map, enumerate_from}
@@ -13,7 +13,7 @@ use Rattle.ob_scan.specs.declared.kind.Kind.{Kind}
 use Rattle.ob_scan.specs.declared.kind.Kind.TheVariants as kinds
 use Rattle.ob_scan.specs.declared.token.Token.{Token}
 use Rattle.ob_types.specs.World.{World}
-use Rattle.ob_targets.specs.declared.known.DesignatorType.{DesignatorType}
+use Rattle.ob_targets.specs.declared.designator_type.DesignatorType.{DesignatorType}
 use Rattle.ob_targets.specs.declared.syntax_position.SyntaxPosition.{SyntaxPosition}
 use Rattle.ob_targets.specs.declared.syntax_position.SyntaxPosition.TheVariants as syntax_positions
 use Rattle.ob_targets.specs.declared.target.Target.{Target}
@@ -22,19 +22,19 @@ use Rattle.ob_targets.specs.declared.target.Reference.{Reference}
 use Rattle.ob_targets.specs.SyntaxPosition.{syntax_position}
 use Rattle.ob_targets.specs.Targets.{end_target, is_written, second_target, use_role, used_target}
 use Rattle.ob_targets.specs.Steps.{IsTypeBefore, Selects}
-use Rattle.ob_targets.specs.Refers.{identifiers, is_identifier, identifier_number, AreReferences, Refers, module_name_token, item, declaration, end, used, selected, second, nowhere}
-use Rattle.ob_resolve.specs.declared.found.Precomputed.{Precomputed}
+use Rattle.ob_targets.specs.Refers.{identifiers, is_identifier, identifier_number, AreReferences, Refers, own_name, item, declaration, end, used, selected, second, nowhere}
+use Rattle.ob_resolve.specs.declared.precomputed.Precomputed.{Precomputed}
 use Rattle.ob_resolve.specs.Precomputed.{IsPrecomputed, IsReference}
 use Rattle.ob_resolve.specs.Selected.{IsNamed, Names}
 use Rattle.ob_resolve.proofs.WrittenNames.{drop_past}
 use Rattle.ob_resolve.proofs.Placed.{placed, IsPlaced, SelectsAt}
 
--- a row, by reading it
+-- an entry, by the index that is read
 pub read_row : {X : Type 0} (xs ys : List X) (i : ℕ) (d : X) → xs ≡ ys → i < length ys → slice_get ys i ≡ Some (get_or xs i d)
 read_row xs ys i d are l = rw are (slice_get-get_or ys i d l)
 
 module _ (w : World) where
-  -- there is a row where an identifier stands
+  -- the entry at the index of an identifier's position exists
   pub stands_placed : (k : ℕ) (s : SyntaxPosition) → syntax_position w.rows k ≡ s → IsPlaced w.rows k s
   stands_placed k s is = subst (IsPlaced w.rows k) is (placed w.rows k)
 
@@ -45,7 +45,7 @@ module _ (w : World) where
   written_as f k b d found l read = read ∙ get_or_from_slice_get f.written.items k (is_written w.rows k) d (found.written k l)
 
   pub own_refers : (k : ℕ) → syntax_position w.rows k ≡ syntax_positions.OwnName → IsReference w k (record { number = k; target = targets.Own; role = 1 })
-  own_refers k is = record { number = refl; refers = module_name_token is }
+  own_refers k is = record { number = refl; refers = own_name is }
 
   pub item_refers : (k at : ℕ) (t : Target) → syntax_position w.rows k ≡ syntax_positions.Item at → t ≡ targets.«Module» at → IsReference w k (record { number = k; target = t; role = 2 })
   item_refers k at t is made = rw made (record { number = refl; refers = item is })
@@ -68,7 +68,7 @@ module _ (w : World) where
       t ≡ second_target w k (used_target w u.number) → r ≡ use_role w t false → IsReference w k (record { number = k; target = t; role = r })
   second_refers k at u t r is there made role = rw (role, made) (record { number = refl; refers = second is there })
 
-  -- what the name of a selector stands for
+  -- what the name of a selector denotes
   record NamedAt (k at : ℕ) (t : Target) : Type 0 where
     before : DesignatorType
     is_type_before : IsTypeBefore w at before
@@ -95,18 +95,18 @@ module _ (w : World) where
       let n : NamedAt k at (get_or f.selected.items at d) = selected_named f k at d found (stands_placed k (syntax_positions.Selected at) is) in
       rw (role, read, written) (record { number = refl; refers = selected is n.is_type_before n.selects })
 
--- ---- all of them
+---- all identifiers
 
 pub not_identifier : (k : Kind) → (k ≡ kinds.Ident → ⊥) → false ≡ is_identifier k
 not_identifier kinds.Ident other = absurd (other refl)
 not_identifier _ other = refl
 
--- the numbers of the identifiers from this place on
+-- the numbers of the identifiers from this index on
 abbrev pub numbers_from : ℕ → List Token → List ℕ
 numbers_from i ts = filter_map identifier_number (enumerate_from i (drop i ts))
 
 module _ (w : World) where
-  -- the identifiers before this place are gone through
+  -- the identifiers before this index have been processed
   pub record AreGone (i : ℕ) (rs : List Reference) : Type 0 where
     pub numbers : map (λ (r : Reference). r.number) rs ++ numbers_from i w.tokens ≡ identifiers w.tokens
     pub each : All (λ (r : Reference). Refers w r.number r.target r.role) rs
@@ -141,7 +141,7 @@ module _ (w : World) where
       numbers_step i d l ∙ ap (λ (o : Option ℕ). cons_option o (numbers_from (i + 1) w.tokens)) (told i (get_or w.tokens i d) b test ∙ ap (λ (v : Bool). cond v (Some i) None) is) in
       record { numbers = ap (λ (ns : List ℕ). map (λ (x : Reference). x.number) rs ++ ns) (sym here) ∙ g.numbers; each = g.each }
 
-  -- the same, as a loop over the tokens has it
+  -- the same for a loop over the tokens
   pub identifier_step : (ts : List Token) (i n : ℕ) (d : Token) (b : Bool) (rs out : List Reference) (r : Reference) → ts ≡ w.tokens → i < length ts → n ≡ i →
       b ≡ is_identifier (get_or ts i d).kind → b ≡ true → IsReference w n r → out ≡ rs ++ r ∷ [] → AreGone i rs → AreGone (i + 1) out
   identifier_step ts i n d b rs out r are l same_place test is made pushed g =

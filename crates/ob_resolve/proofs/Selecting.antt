@@ -1,20 +1,20 @@
--- The pass along all selectors.
+-- The pass over all selectors.
 use Rattle.std.proofs.Common.{◌≡◌, ℕ, zero, suc, ◌+◌, ◌⊎◌, inl, inr, List, [], ◌∷◌, ◌++◌, length, Bool, true, false, Option, Some, None, refl, sym, ap, ◌∙◌, subst, arith, add-one, length-append}
 use Rattle.std.specs.Prelude.{slice_get}
 use Rattle.module_table.specs.declared.rows.Selector.{Selector}
 use Rattle.module_table.specs.declared.rows.Step.{Step}
 use Rattle.module_table.specs.declared.rows.Step.TheVariants as steps
 use Rattle.module_table.specs.declared.rows.TypeName.{TypeName}
-use Rattle.ob_types.specs.Same.{same}
+use Rattle.ob_types.specs.SameDeclaration.{same}
 use Rattle.ob_types.specs.Shapes.{shape}
 use Rattle.ob_types.specs.World.{World}
 use Rattle.type_graph.specs.Searches.{HasTarget}
-use Rattle.ob_targets.specs.declared.known.DesignatorType.{DesignatorType}
+use Rattle.ob_targets.specs.declared.designator_type.DesignatorType.{DesignatorType}
 use Rattle.ob_targets.specs.declared.target.Target.{Target}
 use Rattle.ob_targets.specs.Targets.{target_type, used_target}
-use Rattle.ob_targets.specs.Steps.{begins_designator, guard_of, Follows, IsTypeBefore, Levels, Selects, at_head, behind, to_field, to_elements, to_target, by_guard}
+use Rattle.ob_targets.specs.Steps.{begins_designator, guard_type, Follows, IsTypeBefore, Levels, Selects, at_head, behind, to_field, to_elements, to_target, by_guard}
 use Rattle.ob_resolve.specs.declared.selectors.SelectorResult.{SelectorResult}
-use Rattle.ob_resolve.specs.Selected.{AreNamed, IsTypeAfter, IsSelectorResult}
+use Rattle.ob_resolve.specs.Selected.{AreNamedTargets, IsTypeAfter, IsSelectorResult}
 
 -- an element of a list with one more is an element of the list or the new one
 get_push : {X : Type 0} (xs : List X) (x y : X) (i : ℕ) → slice_get (xs ++ x ∷ []) i ≡ Some y → (slice_get xs i ≡ Some y) ⊎ ((i ≡ length xs) × (x ≡ y))
@@ -24,7 +24,7 @@ get_push (z ∷ xs) x y zero e = inl e
 get_push (z ∷ xs) x y (suc i) e = elim (get_push xs x y i e) [ inl h ↦ inl h | inr h ↦ inr (ap suc h.0, h.1) ]
 
 module _ (w : World) where
-  -- what is known before the first selector of a designator
+  -- the designator type before the first selector of a designator
   pub known_at_head : (selectors : List Selector) (position : ℕ) (s : Selector) (b : Bool) (t : Target) (o : DesignatorType) → selectors ≡ w.rows.selectors → slice_get selectors position ≡ Some s →
       b ≡ begins_designator selectors position s → b ≡ true → t ≡ used_target w s.of → o ≡ target_type w t → IsTypeBefore w position o
   known_at_head selectors position s b t o are there test is_first made known =
@@ -36,7 +36,7 @@ module _ (w : World) where
   knows_next zero s o there other b = absurd (let f : true ≡ false = other in cc)
   knows_next (suc i) s o there other b = behind b.there there other b.is_type_before b.leads
 
-  -- what is known before another one is what is known behind the one before it
+  -- the designator type before another selector is the one after the selector before it
   pub known_behind : (selectors : List Selector) (position : ℕ) (s : Selector) (b : Bool) (o : DesignatorType) → selectors ≡ w.rows.selectors → slice_get selectors position ≡ Some s →
       b ≡ begins_designator selectors position s → b ≡ false → IsTypeAfter w position o → IsTypeBefore w position o
   known_behind selectors position s b o are there test is_other known =
@@ -54,12 +54,12 @@ module _ (w : World) where
   pub led_to_target : (o : DesignatorType) (s : Step) (t : Target) (known : DesignatorType) → s ≡ steps.Target → Follows (HasTarget same (shape w)) o known → IsSelectorResult w o s (record { target = t; known = known })
   led_to_target o s t known is follows = rw is (record { names = tt; leads = to_target follows })
 
-  pub led_by_guard : (o : DesignatorType) (s : Step) (g : Option TypeName) (t : Target) (known : DesignatorType) → s ≡ steps.Arguments g → known ≡ guard_of w g → IsSelectorResult w o s (record { target = t; known = known })
+  pub led_by_guard : (o : DesignatorType) (s : Step) (g : Option TypeName) (t : Target) (known : DesignatorType) → s ≡ steps.Arguments g → known ≡ guard_type w g → IsSelectorResult w o s (record { target = t; known = known })
   led_by_guard o s g t known is made = rw (is, made) (record { names = tt; leads = by_guard })
 
   -- the pass
   pub record Passed (position : ℕ) (ts : List Target) (o : DesignatorType) : Type 0 where
-    pub named : AreNamed w position ts
+    pub named : AreNamedTargets w position ts
     pub known : IsTypeAfter w position o
 
   pub nothing_passed : (ts : List Target) (o : DesignatorType) → ts ≡ [] → Passed 0 ts o

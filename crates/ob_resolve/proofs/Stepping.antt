@@ -7,13 +7,13 @@ use Rattle.ob_types.specs.declared.nodes.Named.{Named}
 use Rattle.ob_types.specs.declared.nodes.Field.{Field}
 use Rattle.ob_types.specs.World.{World, text}
 use Rattle.ob_types.specs.contracts.nodes.NamedPartialEq.TheImpl as derived
-use Rattle.ob_types.specs.Same.{same}
+use Rattle.ob_types.specs.SameDeclaration.{same}
 use Rattle.ob_types.specs.Shapes.{shape, field_of, base_of}
-use Rattle.ob_types.proofs.Same.{eq_is_same}
+use Rattle.ob_types.proofs.SameDeclaration.{eq_is_same}
 use Rattle.ob_targets.specs.declared.target.Target.{Target}
 use Rattle.ob_targets.specs.declared.target.Target.TheVariants as targets
-use Rattle.ob_targets.specs.declared.known.DesignatorType.{DesignatorType}
-use Rattle.ob_targets.specs.declared.known.DesignatorType.TheVariants as knowns
+use Rattle.ob_targets.specs.declared.designator_type.DesignatorType.{DesignatorType}
+use Rattle.ob_targets.specs.declared.designator_type.DesignatorType.TheVariants as knowns
 use Rattle.ob_targets.specs.Targets.{field_target, exported_target}
 use Rattle.ob_targets.specs.Steps.{Follows, Selects, exported, field, no_field, unknown, there, nowhere, of_module, of_nothing}
 

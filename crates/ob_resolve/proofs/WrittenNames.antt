@@ -1,4 +1,4 @@
--- Names that are written, marked designator by designator.
+-- Flags of names that are written, set designator by designator.
 use Rattle.std.proofs.Common.{◌≡◌, ℕ, zero, suc, ◌<◌, ◌≤◌, ◌==◌, ◌||◌, inl, inr, List, [], ◌∷◌, length, drop, set, replicate, Bool, true, false, Option, Some, None, refl, sym, ap, ◌∙◌, subst, arith, eq-eqb, length-set, get_or}
 use Rattle.std.specs.Prelude.{slice_get}
 use Rattle.std.specs.List.{list_any}
@@ -15,7 +15,7 @@ drop_past (x ∷ xs) zero l = absurd (omega arith)
 drop_past (x ∷ xs) (suc i) l = drop_past xs i (omega arith)
 
 module _ {X : Type 0} (has : ℕ → X → Bool) (all : List X) (count : ℕ) where
-  -- so many tokens are marked if a row that was passed has them
+  -- the flags are set that the processed designators set
   pub record AreWritten (rest : List X) (positions : List Bool) : Type 0 where
     pub as_many : length positions ≡ count
     pub each : (k : ℕ) (b : Bool) → slice_get positions k ≡ Some b → (b || list_any (has k) rest) ≡ list_any (has k) all
@@ -31,7 +31,7 @@ module _ {X : Type 0} (has : ℕ → X → Bool) (all : List X) (count : ℕ) wh
     each = λ k b e. ap (λ x. x || list_any (has k) all) (always_false count k b (ap (λ m. slice_get m k) (sym are) ∙ e));
   }
 
-  -- a row that has no marked token
+  -- a designator that sets no flag
   pub passed : (x : X) (rest : List X) (positions : List Bool) → ((k : ℕ) → k < count → has k x ≡ false) → AreWritten (x ∷ rest) positions → AreWritten rest positions
   passed x rest positions nowhere m = record {
     as_many = m.as_many;
@@ -49,7 +49,7 @@ module _ {X : Type 0} (has : ℕ → X → Bool) (all : List X) (count : ℕ) wh
   or_false true = refl
   or_false false = refl
 
-  -- a row that has this token alone
+  -- a designator that sets the flag of this token
   pub written : (x : X) (rest : List X) (positions : List Bool) (n : ℕ) → ((k : ℕ) → has k x ≡ (n == k)) → n < count → AreWritten (x ∷ rest) positions → AreWritten rest (set positions n true)
   written x rest positions n alone l m =
       let room : n < length positions = subst (λ c. n < c) (sym m.as_many) l in
@@ -73,7 +73,7 @@ module _ {X : Type 0} (has : ℕ → X → Bool) (all : List X) (count : ℕ) wh
   set_past (b ∷ positions) zero l = absurd (omega arith)
   set_past (b ∷ positions) (suc n) l = ap (λ m. b ∷ m) (set_past positions n (omega arith))
 
-  -- a row, with the token that it has, if any
+  -- a designator, with the token whose flag it sets, if any
   pub stepped : (x : X) (rest : List X) (positions : List Bool) (name : Option ℕ) → ((k : ℕ) → has k x ≡ is_token k name) → AreWritten (x ∷ rest) positions → AreWritten rest (with_flag name positions)
   stepped x rest positions None has_none m = passed x rest positions (λ k l. has_none k) m
   stepped x rest positions (Some n) alone m = elim (cases_lt n count) [
@@ -83,7 +83,7 @@ module _ {X : Type 0} (has : ℕ → X → Bool) (all : List X) (count : ℕ) wh
         rw (set_past positions n room) (passed x rest positions (λ k l. alone k ∙ not_same n k (omega arith)) m))
   ]
 
-  -- marks when all rows were passed
+  -- the flags after all designators
   pub done : (positions : List Bool) → AreWritten [] positions → (k : ℕ) → k < count → slice_get positions k ≡ Some (list_any (has k) all)
   done positions m k l =
       let there = slice_get-get_or positions k false (subst (λ c. k < c) (sym m.as_many) l) in

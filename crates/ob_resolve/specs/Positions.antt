@@ -3,7 +3,7 @@ use Rattle.std.specs.Prelude.{◌≡◌, ℕ, List, Bool, true, Option, Some, No
 use Rattle.ob_targets.specs.declared.syntax_position.SyntaxPosition.{SyntaxPosition}
 use Rattle.ob_targets.specs.SyntaxPosition.{first}
 
--- each token that one of these entries has gets the position by the first such entry, and all other positions are unchanged
+-- each token that one of these entries has gets the position of the first entry that has it; all other positions are unchanged
 abbrev pub ArePositionsSet : {X : Type 0} → (ℕ → X → Bool) → (ℕ → SyntaxPosition) → List X → List SyntaxPosition → List SyntaxPosition → Type 0
 ArePositionsSet has at rows old new = (k : ℕ) (s : SyntaxPosition) → slice_get old k ≡ Some s → slice_get new k ≡ Some (first (has k) at rows s)
 

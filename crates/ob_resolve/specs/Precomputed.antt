@@ -5,18 +5,19 @@ use Rattle.ob_targets.specs.Refers.{Refers}
 use Rattle.ob_targets.specs.SyntaxPosition.{syntax_position}
 use Rattle.ob_targets.specs.Targets.{is_written}
 use Rattle.ob_targets.specs.declared.target.Reference.{Reference}
-use Rattle.ob_resolve.specs.declared.found.Precomputed.{Precomputed}
-use Rattle.ob_resolve.specs.Selected.{AreNamed}
-use Rattle.ob_resolve.specs.StoredKinds.{AreKinds}
-use Rattle.ob_resolve.specs.Used.{AreUsed}
+use Rattle.ob_resolve.specs.declared.precomputed.Precomputed.{Precomputed}
+use Rattle.ob_resolve.specs.Selected.{AreNamedTargets}
+use Rattle.ob_resolve.specs.StoredKinds.{AreStoredKinds}
+use Rattle.ob_resolve.specs.Used.{AreUsedTargets}
 
--- the lists have, by token, the syntactic position, whether it is written and the kind of its declaration, and the targets of uses and selectors
+-- the lists have, for each token, its syntactic position, whether it is written and the kind of its declaration; and the targets of uses
+-- and selectors
 pub record IsPrecomputed (w : World) (f : Precomputed) : Type 0 where
   pub syntax_positions : (k : ℕ) → k < length w.tokens → slice_get f.syntax_positions.items k ≡ Some (syntax_position w.rows k)
   pub written : (k : ℕ) → k < length w.tokens → slice_get f.written.items k ≡ Some (is_written w.rows k)
-  pub decl_kinds : AreKinds w f.decl_kinds.items
-  pub used : AreUsed w f.used.items
-  pub selected : AreNamed w (length w.rows.selectors) f.selected.items
+  pub decl_kinds : AreStoredKinds w f.decl_kinds.items
+  pub used : AreUsedTargets w f.used.items
+  pub selected : AreNamedTargets w (length w.rows.selectors) f.selected.items
 
 -- the reference has this token number, and the target and the role that the rules give its identifier
 pub record IsReference (w : World) (k : ℕ) (r : Reference) : Type 0 where

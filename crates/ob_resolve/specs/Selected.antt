@@ -4,7 +4,7 @@ use Rattle.module_table.specs.declared.rows.Selector.{Selector}
 use Rattle.module_table.specs.declared.rows.Step.{Step}
 use Rattle.module_table.specs.declared.rows.Step.TheVariants as steps
 use Rattle.ob_types.specs.World.{World}
-use Rattle.ob_targets.specs.declared.known.DesignatorType.{DesignatorType}
+use Rattle.ob_targets.specs.declared.designator_type.DesignatorType.{DesignatorType}
 use Rattle.ob_targets.specs.declared.target.Target.{Target}
 use Rattle.ob_targets.specs.Steps.{IsTypeBefore, StepsTo, Selects}
 use Rattle.ob_resolve.specs.declared.selectors.SelectorResult.{SelectorResult}
@@ -16,7 +16,7 @@ Names w o (steps.Elements n) t = Unit {0}
 Names w o steps.Target t = Unit {0}
 Names w o (steps.Arguments g) t = Unit {0}
 
--- the name of a selector denotes this target, and this is known after it, by what is known before it
+-- given the designator type before a selector: the target that its name denotes, if it has a name, and the designator type after it
 pub record IsSelectorResult (w : World) (o : DesignatorType) (s : Step) (step_result : SelectorResult) : Type 0 where
   pub names : Names w o s step_result.target
   pub leads : StepsTo w o s step_result.known
@@ -27,12 +27,12 @@ pub record IsNamed (w : World) (i : ℕ) (s : Step) (t : Target) : Type 0 where
   pub is_type_before : IsTypeBefore w i before
   pub names : Names w before s t
 
--- the list has a target for each of the first selectors, which the name of that selector denotes
-pub record AreNamed (w : World) (count : ℕ) (ts : List Target) : Type 0 where
+-- the list has, for each of the first `count` selectors, the target that the selector's name denotes
+pub record AreNamedTargets (w : World) (count : ℕ) (ts : List Target) : Type 0 where
   pub as_many : length ts ≡ count
   pub each : (i : ℕ) (s : Selector) (t : Target) → slice_get w.rows.selectors i ≡ Some s → slice_get ts i ≡ Some t → IsNamed w i s.step t
 
--- this is known after the selector at this index
+-- the designator type after the selector at this index
 pub record IsTypeAfterSelector (w : World) (i : ℕ) (o : DesignatorType) : Type 0 where
   pub selector : Selector
   pub there : slice_get w.rows.selectors i ≡ Some selector
@@ -40,7 +40,7 @@ pub record IsTypeAfterSelector (w : World) (i : ℕ) (o : DesignatorType) : Type
   pub is_type_before : IsTypeBefore w i before
   pub leads : StepsTo w before selector.step o
 
--- this is known after the selector before this index, if there is one
+-- the designator type after the selector before this index; any, if there is no such selector
 abbrev pub IsTypeAfter : World → ℕ → DesignatorType → Type 0
 IsTypeAfter w zero o = Unit {0}
 IsTypeAfter w (suc i) o = IsTypeAfterSelector w i o

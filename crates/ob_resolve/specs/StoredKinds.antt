@@ -4,5 +4,5 @@ use Rattle.module_table.specs.declared.rows.DeclKind.{DeclKind}
 use Rattle.ob_types.specs.World.{World, decl_kind_of}
 
 -- each stored kind is that of the token's declaration
-pub record AreKinds (w : World) (decl_kinds : List (Option DeclKind)) : Type 0 where
+pub record AreStoredKinds (w : World) (decl_kinds : List (Option DeclKind)) : Type 0 where
   pub kept : (k : ℕ) (s : DeclKind) → slice_get decl_kinds k ≡ Some (Some s) → decl_kind_of w k ≡ Some s

@@ -6,5 +6,5 @@ use Rattle.ob_targets.specs.declared.target.Target.{Target}
 use Rattle.ob_targets.specs.Targets.{used_target}
 
 -- the list has the targets of all uses, in order
-abbrev pub AreUsed : World → List Target → Type 0
-AreUsed w targets = targets ≡ map (λ (u : Used). used_target w u.number) w.rows.uses
+abbrev pub AreUsedTargets : World → List Target → Type 0
+AreUsedTargets w targets = targets ≡ map (λ (u : Used). used_target w u.number) w.rows.uses

@@ -1,7 +1,7 @@
 //! The kinds of the module's own declarations, looked up once for all their uses.
 ghost use Rattle.std.specs.Prelude.{◌≡◌, IfOk, None, length, replicate};
 ghost use Rattle.ob_types.specs.World.{decl_kind_of};
-ghost use Rattle.ob_resolve.specs.StoredKinds.{AreKinds};
+ghost use Rattle.ob_resolve.specs.StoredKinds.{AreStoredKinds};
 
 use module_table::DeclKind;
 use ob_types::Types;
@@ -9,8 +9,8 @@ use std::alloc::{AllocError, Global};
 
 /// Stores the kind of a token's declaration, if the token has an element in the list.
 fn store_kind(types: &Types<'_>, decl_kinds: &mut [Option<DeclKind>], declared: u32)
-    requires { AreKinds types.now decl_kinds.old }
-    ensures { AreKinds types.now decl_kinds.new }
+    requires { AreStoredKinds types.now decl_kinds.old }
+    ensures { AreStoredKinds types.now decl_kinds.new }
 {
     if (declared as usize) < decl_kinds.len() {
         decl_kinds[declared as usize] = types.decl_kind(declared);
@@ -20,7 +20,7 @@ fn store_kind(types: &Types<'_>, decl_kinds: &mut [Option<DeclKind>], declared: 
 /// Stores the kind of each declared identifier.
 fn store_kinds(types: &Types<'_>, decl_kinds: &mut [Option<DeclKind>])
     requires { decl_kinds.old ≡ replicate (length decl_kinds.old) None }
-    ensures { AreKinds types.now decl_kinds.new }
+    ensures { AreStoredKinds types.now decl_kinds.new }
 {
     for row in types.table().declared() {
         store_kind(types, decl_kinds, row.number);
@@ -29,12 +29,12 @@ fn store_kinds(types: &Types<'_>, decl_kinds: &mut [Option<DeclKind>])
 
 /// The kinds of the declarations of the first `count` tokens, by token number.
 /// A module has many more uses than declarations, and each use would repeat the lookup.
-pub(crate) fn kinds_of(
+pub(crate) fn declaration_kinds(
     alloc: Global,
     types: &Types<'_>,
     count: usize,
 ) -> Result<Vec<Option<DeclKind>>, AllocError>
-    ensures { IfOk result (λ v. AreKinds types.now v.items) }
+    ensures { IfOk result (λ v. AreStoredKinds types.now v.items) }
 {
     let mut decl_kinds = vec![in alloc; None; count]?;
     store_kinds(types, decl_kinds.as_mut_slice());
@@ -47,7 +47,7 @@ pub(crate) fn decl_kind_of(
     decl_kinds: &[Option<DeclKind>],
     declared: u32,
 ) -> Option<DeclKind>
-    requires { AreKinds types.now decl_kinds.now }
+    requires { AreStoredKinds types.now decl_kinds.now }
     ensures { result ≡ decl_kind_of types.now declared }
 {
     match decl_kinds.get(declared as usize) {

@@ -8,9 +8,9 @@ ghost use Rattle.ob_targets.specs.declared.syntax_position.SyntaxPosition.TheVar
 ghost use Rattle.ob_targets.specs.declared.target.Target.TheVariants as targets;
 ghost use Rattle.ob_resolve.specs.Precomputed.{IsPrecomputed, IsReference};
 
-use crate::found::Precomputed;
-use crate::meaning::{end_target, second_target, use_role};
-use crate::used::used_at;
+use crate::precomputed::Precomputed;
+use crate::targets::{end_target, second_target, use_role};
+use crate::used::use_target_at;
 use module_table::Import;
 use ob_targets::{Reference, SyntaxPosition, Target};
 use ob_types::Types;
@@ -27,7 +27,7 @@ fn item_number(imports: &[Import], position: usize) -> u32
 }
 
 /// The module that the import item at this index names, as a target.
-fn module_at(types: &Types<'_>, position: usize) -> Target
+fn module_target(types: &Types<'_>, position: usize) -> Target
     requires { position < length types.now.rows.imports }
     ensures { result ≡ targets.«Module» position }
 {
@@ -37,19 +37,19 @@ fn module_at(types: &Types<'_>, position: usize) -> Target
 }
 
 /// The reference of an identifier in an import item.
-fn imported(types: &Types<'_>, number: u32, item: usize) -> Reference
+fn import_reference(types: &Types<'_>, number: u32, item: usize) -> Reference
     requires { syntax_position types.now.rows number ≡ syntax_positions.Item item }
     ensures { IsReference types.now number result }
 {
     Reference {
         number,
-        target: module_at(types, item),
+        target: module_target(types, item),
         role: 2,
     }
 }
 
 /// The reference of the name after END.
-fn ending(types: &Types<'_>, number: u32, end: usize) -> Reference
+fn end_reference(types: &Types<'_>, number: u32, end: usize) -> Reference
     requires { syntax_position types.now.rows number ≡ syntax_positions.End end }
     ensures { IsReference types.now number result }
 {
@@ -73,7 +73,7 @@ fn used(
     requires written { written ≡ is_written types.now.rows number }
     ensures { (at : ℕ) → syntax_position types.now.rows number ≡ syntax_positions.Use at → IsReference types.now number result }
 {
-    let target = used_at(types, found.used.as_slice(), position, number);
+    let target = use_target_at(types, found.used.as_slice(), position, number);
     Reference {
         number,
         target,
@@ -103,13 +103,13 @@ fn selected(
 }
 
 /// The reference of a name after a dot in a qualident, by the index of the use before the dot.
-fn second(types: &Types<'_>, found: &Precomputed, number: u32, first: usize) -> Reference
+fn second_reference(types: &Types<'_>, found: &Precomputed, number: u32, first: usize) -> Reference
     requires found { IsPrecomputed types.now found.now }
     requires position_is { syntax_position types.now.rows number ≡ syntax_positions.Second first }
     ensures { IsReference types.now number result }
 {
     let uses = types.table().uses();
-    let before = used_at(types, found.used.as_slice(), first, uses[first].number);
+    let before = use_target_at(types, found.used.as_slice(), first, uses[first].number);
     let target = second_target(types, number, before);
     Reference {
         number,
@@ -132,16 +132,16 @@ pub(crate) fn reference_of(types: &Types<'_>, found: &Precomputed, number: u32) 
             target: Target::Own,
             role: 1,
         },
-        SyntaxPosition::Item(item) => imported(types, number, item),
+        SyntaxPosition::Item(item) => import_reference(types, number, item),
         SyntaxPosition::Declaration(_) => Reference {
             number,
             target: Target::Declared(number),
             role: 1,
         },
-        SyntaxPosition::End(end) => ending(types, number, end),
+        SyntaxPosition::End(end) => end_reference(types, number, end),
         SyntaxPosition::Use(position) => used(types, found, number, position, written),
         SyntaxPosition::Selected(selector) => selected(types, found, number, selector, written),
-        SyntaxPosition::Second(first) => second(types, found, number, first),
+        SyntaxPosition::Second(first) => second_reference(types, found, number, first),
         SyntaxPosition::Nowhere => Reference {
             number,
             target: Target::Unresolved,

@@ -4,8 +4,8 @@ ghost use Rattle.module_table.specs.Order.{IsIncreasingBy};
 ghost use Rattle.ob_scan.specs.declared.token.Token.{Token as TokenSeen};
 ghost use Rattle.ob_targets.specs.Refers.{is_identifier, unresolved, AreReferences};
 
-use crate::found::precompute;
 use crate::identifier_reference::reference_of;
+use crate::precomputed::precompute;
 use ob_scan::{Kind, Token};
 use ob_targets::Reference;
 use ob_types::Types;

@@ -2,20 +2,20 @@
 ghost use Rattle.std.specs.Prelude.{◌≡◌, ◌<◌, IfOk, Some, length};
 ghost use Rattle.module_table.specs.declared.rows.Step.TheVariants as steps;
 ghost use Rattle.ob_targets.specs.Steps.{begins_designator, IsTypeBefore};
-ghost use Rattle.ob_resolve.specs.Selected.{AreNamed, IsTypeAfter, IsSelectorResult};
-ghost use Rattle.ob_resolve.specs.StoredKinds.{AreKinds};
-ghost use Rattle.ob_resolve.specs.Used.{AreUsed};
+ghost use Rattle.ob_resolve.specs.Selected.{AreNamedTargets, IsTypeAfter, IsSelectorResult};
+ghost use Rattle.ob_resolve.specs.StoredKinds.{AreStoredKinds};
+ghost use Rattle.ob_resolve.specs.Used.{AreUsedTargets};
 
-use crate::meaning::{guard_of, target_type};
-use crate::steps::{elements_of, selected, target_of};
-use crate::used::used_by;
+use crate::steps::{elements_type, pointed_type, selected};
+use crate::targets::{guard_type, target_type};
+use crate::used::use_target_by_token;
 use module_table::{DeclKind, Selector, Step};
 use ob_targets::{DesignatorType, SyntaxPosition, Target};
 use ob_types::Types;
 use std::alloc::{AllocError, Global};
 use type_graph::Finder;
 
-/// The result of following a selector: the target of its name, `Unresolved` if it has none, and what is known after it.
+/// The result of following a selector: the target of its name, `Unresolved` if it has no name, and the designator type after it.
 #[derive(Clone, Copy, Drop)]
 pub(crate) struct SelectorResult {
     pub(crate) target: Target,
@@ -42,7 +42,7 @@ fn select_by_name(
     before: DesignatorType,
     name: u32,
 ) -> Result<SelectorResult, AllocError>
-    requires { AreKinds finder.old decl_kinds.now }
+    requires { AreStoredKinds finder.old decl_kinds.now }
     ensures types { finder.new ≡ finder.old }
     ensures step_result { IfOk result (IsSelectorResult finder.old before (steps.Field name)) }
 {
@@ -60,15 +60,15 @@ fn follow_selector(
     before: DesignatorType,
     step: Step,
 ) -> Result<SelectorResult, AllocError>
-    requires { AreKinds finder.old decl_kinds.now }
+    requires { AreStoredKinds finder.old decl_kinds.now }
     ensures types { finder.new ≡ finder.old }
     ensures step_result { IfOk result (IsSelectorResult finder.old before step) }
 {
     let known = match step {
         Step::Field(name) => return select_by_name(finder, decl_kinds, before, name),
-        Step::Elements(count) => elements_of(finder, before, count)?,
-        Step::Target => target_of(finder, before)?,
-        Step::Arguments(guard) => guard_of(finder.graph(), guard),
+        Step::Elements(count) => elements_type(finder, before, count)?,
+        Step::Target => pointed_type(finder, before)?,
+        Step::Arguments(guard) => guard_type(finder.graph(), guard),
     };
     Ok(SelectorResult {
         target: Target::Unresolved,
@@ -76,7 +76,7 @@ fn follow_selector(
     })
 }
 
-/// What is known before the selector at this index, by what is known after the selector before it.
+/// The designator type before the selector at this index. `behind` is the designator type after the selector before it.
 fn type_before(
     types: &Types<'_>,
     decl_kinds: &[Option<DeclKind>],
@@ -86,8 +86,8 @@ fn type_before(
     position: usize,
     behind: DesignatorType,
 ) -> DesignatorType
-    requires decl_kinds { AreKinds types.now decl_kinds.now }
-    requires used { AreUsed types.now used.now }
+    requires decl_kinds { AreStoredKinds types.now decl_kinds.now }
+    requires used { AreUsedTargets types.now used.now }
     requires same { selectors.now ≡ types.now.rows.selectors }
     requires within { position < length selectors.now }
     requires behind { IsTypeAfter types.now position behind }
@@ -98,7 +98,7 @@ fn type_before(
         target_type(
             types,
             decl_kinds,
-            used_by(types, syntax_positions, used, selector.of),
+            use_target_by_token(types, syntax_positions, used, selector.of),
         )
     } else {
         behind
@@ -113,9 +113,9 @@ pub(crate) fn selected_targets(
     syntax_positions: &[SyntaxPosition],
     used: &[Target],
 ) -> Result<Vec<Target>, AllocError>
-    requires decl_kinds { AreKinds types.now decl_kinds.now }
-    requires used { AreUsed types.now used.now }
-    ensures { IfOk result (λ v. AreNamed types.now (length types.now.rows.selectors) v.items) }
+    requires decl_kinds { AreStoredKinds types.now decl_kinds.now }
+    requires used { AreUsedTargets types.now used.now }
+    ensures { IfOk result (λ v. AreNamedTargets types.now (length types.now.rows.selectors) v.items) }
 {
     let selectors = types.table().selectors();
     let mut finder = Finder::new(alloc, types, types.bytes(), selectors.len());

@@ -1,19 +1,23 @@
-//! What is known after the selectors of a designator.
+//! The designator types after the selectors of a designator.
 ghost use Rattle.std.specs.Prelude.{◌≡◌, IfOk};
 ghost use Rattle.type_graph.specs.Searches.{HasElement, HasTarget};
-ghost use Rattle.ob_types.specs.Same.{same};
+ghost use Rattle.ob_types.specs.SameDeclaration.{same};
 ghost use Rattle.ob_types.specs.Shapes.{shape};
-ghost use Rattle.ob_targets.specs.declared.known.DesignatorType.TheVariants as knowns;
+ghost use Rattle.ob_targets.specs.declared.designator_type.DesignatorType.TheVariants as knowns;
 ghost use Rattle.ob_targets.specs.Steps.{Follows, Levels, Selects};
 
-use crate::meaning::{exported_target, field_target};
+use crate::targets::{exported_target, field_target};
 use ob_targets::{DesignatorType, Target};
 use ob_types::{Node, Types};
 use std::alloc::AllocError;
 use type_graph::Finder;
 
 /// The target of a field's name at a type, `Unresolved` if the type has no field of this name.
-fn field_at(finder: &mut Finder<'_, Types<'_>>, node: Node, name: u32) -> Result<Target, AllocError>
+fn field_target_at(
+    finder: &mut Finder<'_, Types<'_>>,
+    node: Node,
+    name: u32,
+) -> Result<Target, AllocError>
     ensures types { finder.new ≡ finder.old }
     ensures selects { IfOk result (Selects finder.old (knowns.Typed node) name) }
 {
@@ -24,7 +28,7 @@ fn field_at(finder: &mut Finder<'_, Types<'_>>, node: Node, name: u32) -> Result
     }
 }
 
-/// The target of the name after a dot, by what is known before the dot.
+/// The target of the name after a dot, by the designator type before the dot.
 pub(crate) fn selected(
     finder: &mut Finder<'_, Types<'_>>,
     known: DesignatorType,
@@ -36,12 +40,12 @@ pub(crate) fn selected(
     match known {
         DesignatorType::Nothing => Ok(Target::Unresolved),
         DesignatorType::Module(item) => Ok(exported_target(finder.graph(), item, name)),
-        DesignatorType::Typed(node) => field_at(finder, node, name),
+        DesignatorType::Typed(node) => field_target_at(finder, node, name),
     }
 }
 
-/// What is known of an element, by what is known of the array.
-fn element_of(
+/// The designator type of an array's element, by the designator type of the array.
+fn element_type(
     finder: &mut Finder<'_, Types<'_>>,
     known: DesignatorType,
 ) -> Result<DesignatorType, AllocError>
@@ -58,8 +62,8 @@ fn element_of(
     }
 }
 
-/// What is known after `count` index expressions, by what is known before them.
-pub(crate) fn elements_of(
+/// The designator type after `count` index expressions, by the designator type before them.
+pub(crate) fn elements_type(
     finder: &mut Finder<'_, Types<'_>>,
     known: DesignatorType,
     count: u32,
@@ -69,13 +73,13 @@ pub(crate) fn elements_of(
 {
     let mut at = known;
     for _level in 0..count {
-        at = element_of(finder, at)?;
+        at = element_type(finder, at)?;
     }
     Ok(at)
 }
 
-/// What is known of a pointer's target, by what is known of the pointer.
-pub(crate) fn target_of(
+/// The designator type of a pointer's target, by the designator type of the pointer.
+pub(crate) fn pointed_type(
     finder: &mut Finder<'_, Types<'_>>,
     known: DesignatorType,
 ) -> Result<DesignatorType, AllocError>

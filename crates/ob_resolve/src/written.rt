@@ -5,7 +5,7 @@ ghost use Rattle.ob_resolve.specs.Positions.{with_flag};
 ghost use Rattle.ob_targets.specs.SyntaxPosition.{is_token};
 ghost use Rattle.ob_targets.specs.Targets.{is_written, last_name, writes};
 
-use crate::groups::selectors_by_hint;
+use crate::selector_groups::selectors_by_hint;
 use crate::syntax_positions::name_of;
 use module_table::{Designator, Selector, Table};
 use std::alloc::{AllocError, Global};
@@ -23,8 +23,8 @@ fn last_name(head: u32, selectors: &[Selector]) -> u32
     last
 }
 
-/// The name that a designator writes, if it is written. Designators are requested in the order of their heads.
-fn written_by(table: &Table, hint: &mut usize, designator: Designator) -> Option<u32>
+/// The name that is written, if the designator is written: its last name. Designators are passed in the order of their heads.
+fn written_name(table: &Table, hint: &mut usize, designator: Designator) -> Option<u32>
     ensures { (k : ℕ) → writes (rows_in table.now) k designator ≡ is_token k result }
 {
     if designator.is_written {
@@ -37,7 +37,7 @@ fn written_by(table: &Table, hint: &mut usize, designator: Designator) -> Option
     }
 }
 
-/// Sets the flag of this token, if there is one and the list has an element for it.
+/// Sets the flag of token `name`, if there is a token and the list has an element for it.
 fn set_flag(written: &mut [bool], name: Option<u32>)
     ensures { written.new ≡ with_flag name written.old }
 {
@@ -56,7 +56,7 @@ fn set_written_flags(written: &mut [bool], table: &Table)
     let designators = table.designators();
     let mut hint = 0;
     for designator in designators {
-        let name = written_by(table, &mut hint, *designator);
+        let name = written_name(table, &mut hint, *designator);
         set_flag(written, name);
     }
 }

@@ -7,7 +7,7 @@ use Rattle.std.proofs.lemmas.Slice.Eq.{bytes_eq-Decides}
 use Rattle.ob_scan.specs.declared.kind.Kind.{Kind}
 use Rattle.ob_scan.specs.declared.kind.Kind.TheVariants.{Ident}
 use Rattle.ob_scan.specs.Lexemes.{has_second_capital}
-use Rattle.ob_scan.specs.Tables.{word_of_two, word_of_three, word_of_four, word_of_five, long_word_of, word_of}
+use Rattle.ob_scan.specs.Tables.{two_letter_word, three_letter_word, four_letter_word, five_letter_word, longer_word, reserved_word}
 
 -- one test of a table, which a text without a second capital doesn't pass, and the ones after it
 skip : (text t : List ℕ) (k : Kind) (o : Option Kind) → has_second_capital text ≡ false → has_second_capital t ≡ true → o ≡ None → cond (bytes_eq text t) (Some k) o ≡ None
@@ -17,31 +17,31 @@ skip text t k o e f next =
       | inr differs ↦ rw differs next
     ]
 
-no_word_of_two : (text : List ℕ) → has_second_capital text ≡ false → word_of_two text ≡ None
+no_word_of_two : (text : List ℕ) → has_second_capital text ≡ false → two_letter_word text ≡ None
 no_word_of_two text e = skip text _ _ _ e refl (skip text _ _ _ e refl (skip text _ _ _ e refl (skip text _ _ _ e refl (skip text _ _ _ e refl (skip text _ _ _ e refl (skip text _ _ _ e refl (skip text _ _ _ e refl refl)))))))
 
-no_word_of_three : (text : List ℕ) → has_second_capital text ≡ false → word_of_three text ≡ None
+no_word_of_three : (text : List ℕ) → has_second_capital text ≡ false → three_letter_word text ≡ None
 no_word_of_three text e = skip text _ _ _ e refl (skip text _ _ _ e refl (skip text _ _ _ e refl (skip text _ _ _ e refl (skip text _ _ _ e refl (skip text _ _ _ e refl refl)))))
 
-no_word_of_four : (text : List ℕ) → has_second_capital text ≡ false → word_of_four text ≡ None
+no_word_of_four : (text : List ℕ) → has_second_capital text ≡ false → four_letter_word text ≡ None
 no_word_of_four text e = skip text _ _ _ e refl (skip text _ _ _ e refl (skip text _ _ _ e refl (skip text _ _ _ e refl (skip text _ _ _ e refl refl))))
 
-no_word_of_five : (text : List ℕ) → has_second_capital text ≡ false → word_of_five text ≡ None
+no_word_of_five : (text : List ℕ) → has_second_capital text ≡ false → five_letter_word text ≡ None
 no_word_of_five text e = skip text _ _ _ e refl (skip text _ _ _ e refl (skip text _ _ _ e refl (skip text _ _ _ e refl (skip text _ _ _ e refl (skip text _ _ _ e refl (skip text _ _ _ e refl refl))))))
 
-no_long_word_of : (text : List ℕ) → has_second_capital text ≡ false → long_word_of text ≡ None
+no_long_word_of : (text : List ℕ) → has_second_capital text ≡ false → longer_word text ≡ None
 no_long_word_of text e = skip text _ _ _ e refl (skip text _ _ _ e refl (skip text _ _ _ e refl (skip text _ _ _ e refl (skip text _ _ _ e refl (skip text _ _ _ e refl (skip text _ _ _ e refl refl))))))
 
 either : (t : Bool) (x y : Option Kind) → x ≡ None → y ≡ None → cond t x y ≡ None
 either true x y e f = e
 either false x y e f = f
 
-pub no_word : (text : List ℕ) → has_second_capital text ≡ false → word_of text ≡ None
+pub no_word : (text : List ℕ) → has_second_capital text ≡ false → reserved_word text ≡ None
 no_word text e =
     either (eqb (length text) 2) _ _ (no_word_of_two text e)
     (either (eqb (length text) 3) _ _ (no_word_of_three text e)
     (either (eqb (length text) 4) _ _ (no_word_of_four text e) (either (eqb (length text) 5) _ _ (no_word_of_five text e) (no_long_word_of text e))))
 
--- such a text is an identifier's
-pub plain_name : (text : List ℕ) → has_second_capital text ≡ false → Ident ≡ unwrap_or (word_of text) Ident
+-- such a text is an identifier
+pub plain_name : (text : List ℕ) → has_second_capital text ≡ false → Ident ≡ unwrap_or (reserved_word text) Ident
 plain_name text e = sym (ap (λ (o : Option Kind). unwrap_or o Ident) (no_word text e))

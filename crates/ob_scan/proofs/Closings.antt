@@ -4,7 +4,7 @@ use Rattle.std.proofs.lemmas.Bool.{cases_Bool, and_parts, or_parts, or_from, eqb
 use Rattle.ob_scan.specs.Comments.{begins_comment, ends_comment, Closes, closed, nested, other}
 use Rattle.ob_scan.specs.Lexemes.{after_comment}
 
--- that many comments are closed, and then there is this rest
+-- this many comments are closed, and then this rest follows
 data ClosesAll : ℕ → List ℕ → List ℕ → Type 0 where
   none : {bs : List ℕ} → ClosesAll zero bs bs
   more : {n : ℕ} {bs after rest : List ℕ} → Closes bs after → ClosesAll n after rest → ClosesAll (suc n) bs rest
@@ -37,7 +37,7 @@ found (suc n) (b ∷ c ∷ bs) rest e =
           ]
     ]
 
--- if that many brackets are open and one comment is closed, one fewer is open after it
+-- if this many brackets are open and one comment is closed, one fewer is open after it
 counted : {bs rest : List ℕ} → Closes bs rest → (n : ℕ) → after_comment (suc n) bs ≡ after_comment n rest
 counted (closed e) n = rw e refl
 counted (nested e x y) n = rw e (counted x (suc n) ∙ counted y n)

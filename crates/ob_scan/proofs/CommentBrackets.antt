@@ -9,7 +9,7 @@ use Rattle.ob_scan.proofs.Lexemes.{rest_is}
 some_is : (x y : CommentBracket) → Some x ≡ Some y → x ≡ y
 some_is x y e = cc
 
--- the bytes are two and more where a bracket is read
+-- there are at least two bytes if a bracket is read
 pub long : (bs : List ℕ) (m : CommentBracket) → bracket_at bs ≡ Some m → 2 ≤ length bs
 long [] m e = absurd cc
 long (b ∷ []) m e = absurd cc
@@ -37,7 +37,7 @@ passes_at (suc n) [] e h = absurd cc
 passes_at (suc n) (b ∷ []) e h = absurd cc
 passes_at (suc n) (b ∷ c ∷ bs) e h = rw (some_is _ _ e) refl
 
--- what is dropped in two steps
+-- bytes dropped in two steps
 pub drop-drop : (a b : ℕ) (bs : List ℕ) → drop b (drop a bs) ≡ drop (a + b) bs
 drop-drop a b bs = grind (arith, common_steps)
 

@@ -1,4 +1,4 @@
--- At each place of a text a piece begins, or there is a reason why none does. So each text has an outcome.
+-- At each offset of a text a blank, comment or token begins, or there is a reason why none does. So each text has an outcome.
 use Rattle.std.proofs.Common.{◌≡◌, ℕ, zero, suc, ◌+◌, ◌-◌, ◌≤◌, ◌<◌, Bool, true, false, cond, eqb, List, [], ◌∷◌, ◌++◌, length, drop, Option, Some, None, Result, Ok, Err, refl, sym, ap, subst, ◌∙◌, inl, inr, length-drop, length-append, arith}
 use Rattle.std.specs.Prelude.{IfSome}
 use Rattle.std.specs.List.{prefix_len}
@@ -80,7 +80,7 @@ token_within {k} {n} {bs} (longest {text = text} c x s l h) =
     let whole : length bs ≡ length text + length s.rest = ap length s.front ∙ length-append text s.rest in
     omega arith
 
--- what is after a comment is an end of the bytes
+-- the bytes after a comment are a suffix of the bytes
 record IsRest (bs rest : List ℕ) : Type 0 where
   count : ℕ
   within : count ≤ length bs

@@ -1,4 +1,4 @@
--- One more piece.
+-- One more blank, comment or token.
 use Rattle.std.proofs.Common.{◌≡◌, ℕ, ◌+◌, ◌-◌, ◌≤◌, List, [], ◌∷◌, ◌++◌, length, drop, take, sym, ap, subst, arith, length-drop}
 use Rattle.std.proofs.lemmas.Grind.{common_steps}
 use Rattle.ob_scan.specs.declared.kind.Kind.{Kind}
@@ -6,7 +6,7 @@ use Rattle.ob_scan.specs.declared.token.Token.{Token}
 use Rattle.ob_scan.specs.Spelling.{Scanned, start, gap, token, IsGap}
 use Rattle.ob_scan.specs.Tokens.{IsToken}
 
--- the rest of the bytes from a place on
+-- the rest of the bytes from an offset on
 pub rest_is : (bs : List ℕ) (at : ℕ) → at ≤ length bs → take (length bs - at) (drop at bs) ≡ drop at bs
 rest_is bs at h = grind (arith, common_steps)
 

@@ -1,4 +1,4 @@
--- The line of an offset, by where the lines begin.
+-- The line of an offset, by the line starts.
 use Rattle.std.proofs.Common.{◌≡◌, ℕ, ◌+◌, ◌-◌, ◌≤◌, ◌<◌, true, false, List, length, get_or, arith, leb}
 use Rattle.std.specs.List.Sorted.{IsPartitionPoint}
 use Rattle.std.proofs.lemmas.Bool.{leb-false, le-leb, lt-leb}
@@ -22,7 +22,7 @@ line_found starts offset i table bound point =
           rw next above;
     }
 
--- it parts the lines that begin up to an offset from those behind it
+-- it separates the lines that begin up to an offset from those that begin after it
 module _ (starts : List ℕ) (line offset : ℕ) (table : IsLineTable starts) (here : IsInLine starts line offset) where
   begun_before : (k d : ℕ) → 0 ≤ k → k < line + 1 → leb (get_or starts k d) offset ≡ true
   begun_before k d le lt =

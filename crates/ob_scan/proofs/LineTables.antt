@@ -14,7 +14,7 @@ use Rattle.std.proofs.lemmas.List.Sums.{length-filter, count_by-le-length}
 use Rattle.ob_scan.specs.Position.{begins_line, ends_line, line_starts, IsLineTable, IsPosition}
 use Rattle.ob_scan.proofs.LineStarts.{AtLine, range_last, line_ends, line_goes, line_is}
 
--- where the lines begin that begin at this offset or before it
+-- the starts of the lines that begin at this offset or before it
 abbrev pub starts_to : List ℕ → ℕ → List ℕ
 starts_to bytes at = filter (begins_line bytes) (range_with_len 0 (at + 1))
 
@@ -35,14 +35,14 @@ start_more bytes at e = one_more bytes at true e
 pub start_same : (bytes : List ℕ) (at : ℕ) → ends_line bytes at ≡ false → starts_to bytes (at + 1) ≡ starts_to bytes at
 start_same bytes at e = one_more bytes at false e ∙ append-nil _
 
--- if no line ends between two places, no more lines begin
+-- if no line ends between two offsets, no more lines begin
 pub start_none : (bytes : List ℕ) (at more : ℕ) → ((k : ℕ) → at ≤ k → k < at + more → ends_line bytes k ≡ false) → starts_to bytes (at + more) ≡ starts_to bytes at
 start_none bytes at zero none = rw add-zero refl
 start_none bytes at (suc more) none =
     let next : (at + more) + 1 ≡ at + suc more = omega arith in
     rw (sym next) (start_same bytes (at + more) (none (at + more) (omega arith) (omega arith)) ∙ start_none bytes at more (λ k from to. none k from (omega (arith, to))))
 
--- the same, by the places
+-- the same for the starts of the lines
 pub start_passed : (bytes : List ℕ) (from to : ℕ) → from ≤ to → ((k : ℕ) → from ≤ k → k < to → ends_line bytes k ≡ false) → starts_to bytes to ≡ starts_to bytes from
 start_passed bytes from to le none =
     let there : from + (to - from) ≡ to = omega (arith, le) in
@@ -66,7 +66,7 @@ is_table bytes at lt =
       few = omega (arith, length-filter p all, count_by-le-length p all, length-range_with_len 0 (at + 1), lt);
     }
 
--- of the lines that begin up to an offset, the last is the offset's
+-- the last line that begins up to an offset is the line of the offset
 record Begun (bytes : List ℕ) (at : ℕ) : Type 0 where
   front : List ℕ
   first : ℕ
@@ -139,7 +139,7 @@ lower : (bytes : List ℕ) (at more : ℕ) → Behind bytes at more
 lower bytes at zero = record { rest = []; is = rw add-zero (sym (append-nil _)); above = All-nil _ }
 lower bytes at (suc more) = behind_next bytes at more (lower bytes at more) (ends_line bytes (at + more)) refl
 
--- where a list is cut between what is at most a number and what is above it
+-- the partition point between the numbers up to a bound and those above it
 point_is : (xs ys : List ℕ) (t i : ℕ) → All (λ x. x ≤ t) xs → All (λ x. t < x) ys → i ≤ length (xs ++ ys) →
     IsPartitionPoint (λ y. leb y t ≡ true) (λ y. leb y t ≡ false) (xs ++ ys) i → i ≡ length xs
 point_is xs ys t i below above bound point =

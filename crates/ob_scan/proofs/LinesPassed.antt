@@ -23,7 +23,7 @@ lines_pass bytes at n room is =
     let ends = λ (b : ℕ). (b == 10) || (b == 13) in
     (run_in_chunk_le ends bytes at 16 n 0 room is, λ k from to. ends_none bytes k (run_in_chunk_fails ends bytes at 16 n 0 room is k from to))
 
--- what is passed before and what is passed now
+-- no line ends in the bytes that were skipped before and in those skipped now
 pub passed_on : (bytes : List ℕ) (from at to : ℕ) → ((k : ℕ) → from ≤ k → k < at → ends_line bytes k ≡ false) → ((k : ℕ) → at ≤ k → k < to → ends_line bytes k ≡ false)
     → (k : ℕ) → from ≤ k → k < to → ends_line bytes k ≡ false
 passed_on bytes from at to before now k le lt = elim (cases_lt k at) [

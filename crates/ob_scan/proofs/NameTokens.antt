@@ -13,7 +13,7 @@ use Rattle.ob_scan.specs.Spelling.{Scanned, start, gap, token, Spells}
 use Rattle.ob_scan.specs.Texts.{bytes_of}
 use Rattle.ob_scan.specs.Tokens.{IsText, fixed, name, quoted, IsToken, number, longest, is_name}
 
--- what begins with a digit is no identifier
+-- a token that begins with a digit is no identifier
 abbrev IsOther : Option (Kind × ℕ) → Type 0
 IsOther o = IfSome o (λ x. x.0 ≡ kinds.Ident → ⊥)
 
@@ -50,7 +50,7 @@ ident_name {n = n} {bs = bs} (longest {text = text} c x s l h) is =
     let same : take n bs ≡ text = ap (λ (m : ℕ). take m bs) (sym l) ∙ ap (take (length text)) s.front ∙ take-append_seam text s.rest in
     ap is_name same ∙ ident_text s.is_text is
 
--- the text of this token is a name where it is an identifier
+-- the text of this token is a name if the token is an identifier
 abbrev pub IsNamed : List ℕ → Token → Type 0
 IsNamed bytes t = t.kind ≡ kinds.Ident → is_name (bytes_of bytes t) ≡ true
 

@@ -1,4 +1,4 @@
--- At a place at most one blank, comment or token begins.
+-- At an offset at most one blank, comment or token begins.
 use Rattle.std.proofs.Common.{◌≡◌, ℕ, ◌≤◌, eqb, List, [], ◌∷◌, ◌++◌, length, drop, Some, refl, sym, ap, ◌∙◌, length-drop, inl, inr, arith}
 use Rattle.std.specs.Char.{is_ascii_alphabetic, is_ascii_digit}
 use Rattle.std.proofs.lemmas.Bool.{false≢true, or_cases}

@@ -18,12 +18,12 @@ use Rattle.ob_scan.proofs.Shapes.{begins_paren, shape_of, word, sign, string, be
 use Rattle.ob_scan.proofs.Strings.{open_stands}
 use Rattle.ob_scan.proofs.Texts.{is_sign_byte}
 
--- nothing begins at the start
+-- nothing begins at the first byte
 record IsEnd (bs : List ℕ) : Type 0 where
   no_gap : (n : ℕ) → IsGap n bs → ⊥
   no_token : (k : Kind) (n : ℕ) → IsToken k n bs → ⊥
 
--- pieces in sequence from a place on
+-- a sequence of blanks, comments and tokens from an offset on
 data Way (bytes : List ℕ) : ℕ → List Token → ℕ → Type 0 where
   here : {at : ℕ} → Way bytes at [] at
   gap_on : {at n to : ℕ} {ts : List Token} → IsGap n (drop at bytes) → Way bytes (at + n) ts to → Way bytes at ts to
@@ -121,13 +121,13 @@ open_comment {bs} w = record { no_gap = λ n g. gaps g; no_token = λ k n t. tok
     tokens (number d e) = apart is_ascii_digit (λ b. eqb b 40) digit_paren bs d (begins_paren bs w.opens)
     tokens (longest c x s l h) = false≢true (sym x ∙ w.opens)
 
--- what the bytes at the end of the way say of the text
+-- what the bytes at the end of the sequence imply for the text
 stop_at : List ℕ → List Token → ℕ → Result (List Token) ScanFault
 stop_at [] ts at = Ok ts
 stop_at (b ∷ bs) ts at =
     cond (begins_digit (b ∷ bs)) (Err (faults.BadNumber at)) (cond (begins_quote (b ∷ bs)) (Err (faults.OpenString at)) (cond (begins_comment (b ∷ bs)) (Err (faults.OpenComment at)) (Err (faults.BadByte at))))
 
--- if the outcome is met
+-- the outcome that the sequence ends in
 record IsStop (bytes : List ℕ) (o : Result (List Token) ScanFault) : Type 0 where
   before : List Token
   at : ℕ
@@ -203,7 +203,7 @@ spelled_once bytes ts us s t =
     let ended = at_end _ (drop-length bytes) in
     (one_way (way_of s) (way_of t) ended ended).tokens
 
--- an answer is the one that the text has
+-- a result is the outcome that the text has
 pub only_outcome : (bytes : List ℕ) (r : Result (List Token) ScanFault) → HasOutcome r (IsOutcome bytes) → (o : Result (List Token) ScanFault) → IsOutcome bytes o → HasOutcome r (λ p. p ≡ o)
 only_outcome bytes (Ok ts) h o k = outcome_once bytes (Ok ts) o h k
 only_outcome bytes (Err (faults.BadByte at)) h o k = outcome_once bytes (Err (faults.BadByte at)) o h k

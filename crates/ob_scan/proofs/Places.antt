@@ -13,7 +13,7 @@ use Rattle.ob_scan.proofs.Numbers.{hex_digits_some}
 use Rattle.ob_scan.proofs.Shapes.{shape_of, word, sign, string}
 use Rattle.ob_scan.proofs.Texts.{is_sign}
 
--- a number is at least so long
+-- a lower bound on the length of a number
 abbrev IsLeast : ℕ → Option (Kind × ℕ) → Type 0
 IsLeast n o = IfSome o (λ x. n ≤ x.1)
 
@@ -63,7 +63,7 @@ token_some (longest {text = text} c x s l h) =
       | string inside k m t ↦ let quoted : 0 < length text = rw t (omega arith) in omega arith
     ]
 
--- the tokens before a place
+-- the tokens before an offset
 record ArePlaced (ts : List Token) (at : ℕ) : Type 0 where
   some : All (λ t. t.start < t.end) ts
   within : All (λ t. t.end ≤ at) ts

@@ -36,7 +36,7 @@ sign_begins (b ∷ []) e = e
 sign_begins (b ∷ c ∷ []) e = e
 sign_begins (b ∷ c ∷ d ∷ text) e = absurd cc
 
--- what is first of the bytes, by their first one
+-- the first element of the bytes, by cases of the first byte
 pub begins_word : {k : Kind} {text bs : List ℕ} → StartsWith k text bs → is_name text ≡ true → first_passes is_ascii_alphabetic bs ≡ true
 begins_word {k} {text} {bs} s e = ap (first_passes is_ascii_alphabetic) s.front ∙ begins_front is_ascii_alphabetic text s.rest (word_begins text e)
 

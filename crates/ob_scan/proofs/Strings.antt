@@ -93,7 +93,7 @@ string_open (b ∷ t) e f =
       | inr ge ↦ run_whole is_no_quote t (ltb-false _ _ ge)
     ]
 
--- if no other quote follows, nothing is there
+-- if no other quote follows, no token begins here
 pub open_stands : (bs : List ℕ) → first_passes is_quote bs ≡ true → list_all is_no_quote (drop 1 bs) ≡ true → (j : Kind) (other : List ℕ) → StartsWith j other bs → ⊥
 open_stands [] e f j other s = absurd cc
 open_stands (b ∷ t) e f j other s =

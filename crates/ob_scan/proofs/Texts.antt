@@ -8,24 +8,24 @@ use Rattle.ob_scan.specs.declared.kind.Kind.{Kind}
 use Rattle.ob_scan.specs.declared.kind.Kind.TheVariants as kinds
 use Rattle.ob_scan.specs.Kinds.{text_of}
 use Rattle.ob_scan.specs.Numbers.{first_passes}
-use Rattle.ob_scan.specs.Tables.{word_of_two, word_of_three, word_of_four, word_of_five, long_word_of, word_of, single_of, two_byte_delimiter}
+use Rattle.ob_scan.specs.Tables.{two_letter_word, three_letter_word, four_letter_word, five_letter_word, longer_word, reserved_word, one_byte_delimiter, two_byte_delimiter}
 use Rattle.ob_scan.specs.Tokens.{is_name}
 
 -- the delimiter of a whole text
 abbrev pub sign_of : List ℕ → Option Kind
 sign_of [] = None
-sign_of (b ∷ []) = single_of b
+sign_of (b ∷ []) = one_byte_delimiter b
 sign_of (b ∷ c ∷ []) = two_byte_delimiter b c
 sign_of (b ∷ c ∷ d ∷ bs) = None
 
 abbrev pub kind_of : List ℕ → Option Kind
-kind_of text = cond (first_passes is_ascii_alphabetic text) (word_of text) (sign_of text)
+kind_of text = cond (first_passes is_ascii_alphabetic text) (reserved_word text) (sign_of text)
 
 -- a byte with which a delimiter may begin
 abbrev pub is_sign_byte : ℕ → Bool
 is_sign_byte b = not (is_ascii_alphabetic b) && (not (is_ascii_digit b) && (not (eqb b 34) && not (ltb b 33)))
 
--- one or two bytes, as those of a delimiter
+-- one or two bytes, as in a delimiter
 abbrev pub is_sign : List ℕ → Bool
 is_sign [] = false
 is_sign (b ∷ []) = is_sign_byte b
@@ -75,32 +75,32 @@ pick_two {b} {c} {x} {y} {j} {o} k is next e =
       | inr differs ↦ next (rw differs at e)
     ]
 
-word_of_two_is : (text : List ℕ) (j : Kind) → word_of_two text ≡ Some j → text_of j ≡ Some text
+word_of_two_is : (text : List ℕ) (j : Kind) → two_letter_word text ≡ Some j → text_of j ≡ Some text
 word_of_two_is text j = pick _ refl (pick _ refl (pick _ refl (pick _ refl (pick _ refl (pick _ refl (pick _ refl (pick _ refl (λ e. absurd cc))))))))
 
-word_of_three_is : (text : List ℕ) (j : Kind) → word_of_three text ≡ Some j → text_of j ≡ Some text
+word_of_three_is : (text : List ℕ) (j : Kind) → three_letter_word text ≡ Some j → text_of j ≡ Some text
 word_of_three_is text j = pick _ refl (pick _ refl (pick _ refl (pick _ refl (pick _ refl (pick _ refl (λ e. absurd cc))))))
 
-word_of_four_is : (text : List ℕ) (j : Kind) → word_of_four text ≡ Some j → text_of j ≡ Some text
+word_of_four_is : (text : List ℕ) (j : Kind) → four_letter_word text ≡ Some j → text_of j ≡ Some text
 word_of_four_is text j = pick _ refl (pick _ refl (pick _ refl (pick _ refl (pick _ refl (λ e. absurd cc)))))
 
-word_of_five_is : (text : List ℕ) (j : Kind) → word_of_five text ≡ Some j → text_of j ≡ Some text
+word_of_five_is : (text : List ℕ) (j : Kind) → five_letter_word text ≡ Some j → text_of j ≡ Some text
 word_of_five_is text j = pick _ refl (pick _ refl (pick _ refl (pick _ refl (pick _ refl (pick _ refl (pick _ refl (λ e. absurd cc)))))))
 
-long_word_of_is : (text : List ℕ) (j : Kind) → long_word_of text ≡ Some j → text_of j ≡ Some text
+long_word_of_is : (text : List ℕ) (j : Kind) → longer_word text ≡ Some j → text_of j ≡ Some text
 long_word_of_is text j = pick _ refl (pick _ refl (pick _ refl (pick _ refl (pick _ refl (pick _ refl (pick _ refl (λ e. absurd cc)))))))
 
 by_test : {P : Type 0} (t : Bool) (x y : Option Kind) (j : Kind) → (x ≡ Some j → P) → (y ≡ Some j → P) → cond t x y ≡ Some j → P
 by_test true x y j f g e = f e
 by_test false x y j f g e = g e
 
-pub word_of_is : (text : List ℕ) (j : Kind) → word_of text ≡ Some j → text_of j ≡ Some text
+pub word_of_is : (text : List ℕ) (j : Kind) → reserved_word text ≡ Some j → text_of j ≡ Some text
 word_of_is text j =
     by_test (eqb (length text) 2) _ _ j (word_of_two_is text j)
     (by_test (eqb (length text) 3) _ _ j (word_of_three_is text j)
     (by_test (eqb (length text) 4) _ _ j (word_of_four_is text j) (by_test (eqb (length text) 5) _ _ j (word_of_five_is text j) (long_word_of_is text j))))
 
-pub single_of_is : (b : ℕ) (j : Kind) → single_of b ≡ Some j → text_of j ≡ Some (b ∷ [])
+pub single_of_is : (b : ℕ) (j : Kind) → one_byte_delimiter b ≡ Some j → text_of j ≡ Some (b ∷ [])
 single_of_is b j = pick_one _ refl (pick_one _ refl (pick_one _ refl (pick_one _ refl (pick_one _ refl (pick_one _ refl (pick_one _ refl (pick_one _ refl (pick_one _ refl (pick_one _ refl (pick_one _ refl (pick_one _ refl (pick_one _ refl (pick_one _ refl (pick_one _ refl (pick_one _ refl (pick_one _ refl (pick_one _ refl (pick_one _ refl (pick_one _ refl (pick_one _ refl (pick_one _ refl (λ e. absurd cc))))))))))))))))))))))
 
 pub pair_of_is : (b c : ℕ) (j : Kind) → two_byte_delimiter b c ≡ Some j → text_of j ≡ Some (b ∷ c ∷ [])

@@ -12,7 +12,7 @@ use Rattle.ob_scan.specs.declared.fault.Reason.TheVariants as reasons
 use Rattle.ob_scan.specs.declared.fault.ScanFault.{ScanFault}
 use Rattle.ob_scan.specs.declared.fault.ScanFault.TheVariants as faults
 use Rattle.ob_scan.specs.Spelling.{IsGap, IsBadByte, IsBadNumber, IsOpenString, IsOpenComment}
-use Rattle.ob_scan.specs.Tables.{two_byte_delimiter, single_of}
+use Rattle.ob_scan.specs.Tables.{two_byte_delimiter, one_byte_delimiter}
 use Rattle.ob_scan.specs.Tokens.{IsToken}
 
 -- what these two bytes are inside a comment
@@ -63,14 +63,14 @@ abbrev pub string_len : List ℕ → Option ℕ
 string_len bs = option_map (λ i. i + 2) (position (λ b. b == 34) (drop 1 bs))
 
 -- the delimiter of one byte, and its length
-abbrev pub single_in : ℕ → Option (Kind × ℕ)
-single_in b = option_map (λ k. (k, 1)) (single_of b)
+abbrev pub one_byte_delimiter_token : ℕ → Option (Kind × ℕ)
+one_byte_delimiter_token b = option_map (λ k. (k, 1)) (one_byte_delimiter b)
 
--- the delimiter that the bytes begin with, and its length; one of two bytes wins
+-- the delimiter that the bytes begin with, and its length; a delimiter of two bytes wins over a delimiter of one byte
 abbrev pub delimiter_of : List ℕ → Option (Kind × ℕ)
 delimiter_of [] = None
-delimiter_of (b ∷ []) = single_in b
-delimiter_of (b ∷ c ∷ bs) = first_of (option_map (λ k. (k, 2)) (two_byte_delimiter b c)) (single_in b)
+delimiter_of (b ∷ []) = one_byte_delimiter_token b
+delimiter_of (b ∷ c ∷ bs) = first_of (option_map (λ k. (k, 2)) (two_byte_delimiter b c)) (one_byte_delimiter_token b)
 
 -- why the bytes begin with no blank, comment or token
 abbrev pub BeginsNothing : Reason → List ℕ → Type 0

@@ -23,7 +23,7 @@ begins_line bytes offset = (offset == 0) || ends_line bytes (offset - 1)
 abbrev pub line_starts : List ℕ → List ℕ
 line_starts bytes = filter (begins_line bytes) (range_with_len 0 (min (length bytes + 1) 4294967296))
 
--- a table of line starts: it has one entry at least, the first is 0, the entries are sorted, and 32 bits number them
+-- a table of line starts: it has 1 to 2 ^ 32 entries, which are sorted, and the first is 0
 pub record IsLineTable (starts : List ℕ) : Type 0 where
   pub some : 0 < length starts
   pub first : slice_index starts 0 ≡ 0

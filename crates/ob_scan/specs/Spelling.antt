@@ -64,7 +64,7 @@ pub record IsOpenComment (bs : List ℕ) : Type 0 where
   pub opens : begins_comment bs ≡ true
   pub no_end : (rest : List ℕ) → Closes (drop 2 bs) rest → ⊥
 
--- blanks, closed comments and tokens lead to this offset, and none begins there, for this reason
+-- blanks, closed comments and tokens lead to this offset, and no blank, closed comment or token begins there, for this reason
 pub record Stuck (IsReason : List ℕ → Type 0) (bytes : List ℕ) (at : ℕ) : Type 0 where
   pub before : List Token
   pub scanned : Scanned bytes before at

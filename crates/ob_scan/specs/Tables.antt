@@ -5,8 +5,8 @@ use Rattle.ob_scan.specs.declared.kind.Kind.{Kind}
 use Rattle.ob_scan.specs.declared.kind.Kind.TheVariants as kinds
 
 -- the reserved word of two, three, four, five or more letters that the text is
-abbrev pub word_of_two : List ℕ → Option Kind
-word_of_two text =
+abbrev pub two_letter_word : List ℕ → Option Kind
+two_letter_word text =
     if bytes_eq text (codes "BY") then Some kinds.By
     else if bytes_eq text (codes "DO") then Some kinds.Do
     else if bytes_eq text (codes "IF") then Some kinds.If
@@ -17,8 +17,8 @@ word_of_two text =
     else if bytes_eq text (codes "TO") then Some kinds.To
     else None
 
-abbrev pub word_of_three : List ℕ → Option Kind
-word_of_three text =
+abbrev pub three_letter_word : List ℕ → Option Kind
+three_letter_word text =
     if bytes_eq text (codes "DIV") then Some kinds.Div
     else if bytes_eq text (codes "END") then Some kinds.End
     else if bytes_eq text (codes "FOR") then Some kinds.For
@@ -27,8 +27,8 @@ word_of_three text =
     else if bytes_eq text (codes "VAR") then Some kinds.Var
     else None
 
-abbrev pub word_of_four : List ℕ → Option Kind
-word_of_four text =
+abbrev pub four_letter_word : List ℕ → Option Kind
+four_letter_word text =
     if bytes_eq text (codes "CASE") then Some kinds.Case
     else if bytes_eq text (codes "ELSE") then Some kinds.Else
     else if bytes_eq text (codes "THEN") then Some kinds.Then
@@ -36,8 +36,8 @@ word_of_four text =
     else if bytes_eq text (codes "TYPE") then Some kinds.Type
     else None
 
-abbrev pub word_of_five : List ℕ → Option Kind
-word_of_five text =
+abbrev pub five_letter_word : List ℕ → Option Kind
+five_letter_word text =
     if bytes_eq text (codes "ARRAY") then Some kinds.Array
     else if bytes_eq text (codes "BEGIN") then Some kinds.Begin
     else if bytes_eq text (codes "CONST") then Some kinds.Const
@@ -47,8 +47,8 @@ word_of_five text =
     else if bytes_eq text (codes "WHILE") then Some kinds.While
     else None
 
-abbrev pub long_word_of : List ℕ → Option Kind
-long_word_of text =
+abbrev pub longer_word : List ℕ → Option Kind
+longer_word text =
     if bytes_eq text (codes "IMPORT") then Some kinds.Import
     else if bytes_eq text (codes "MODULE") then Some kinds.Module
     else if bytes_eq text (codes "POINTER") then Some kinds.Pointer
@@ -59,17 +59,17 @@ long_word_of text =
     else None
 
 -- the reserved word that the text is
-abbrev pub word_of : List ℕ → Option Kind
-word_of text =
-    if length text == 2 then word_of_two text
-    else if length text == 3 then word_of_three text
-    else if length text == 4 then word_of_four text
-    else if length text == 5 then word_of_five text
-    else long_word_of text
+abbrev pub reserved_word : List ℕ → Option Kind
+reserved_word text =
+    if length text == 2 then two_letter_word text
+    else if length text == 3 then three_letter_word text
+    else if length text == 4 then four_letter_word text
+    else if length text == 5 then five_letter_word text
+    else longer_word text
 
 -- the delimiter of this byte
-abbrev pub single_of : ℕ → Option Kind
-single_of b =
+abbrev pub one_byte_delimiter : ℕ → Option Kind
+one_byte_delimiter b =
     if b == 43 then Some kinds.Plus
     else if b == 45 then Some kinds.Minus
     else if b == 42 then Some kinds.Star

@@ -17,8 +17,8 @@ is_name (b ∷ bs) = is_ascii_alphabetic b && list_all is_ascii_alphanumeric bs
 abbrev pub is_no_quote : ℕ → Bool
 is_no_quote b = not (b == 34)
 
--- the text is one of a token of this kind that begins with no digit: a reserved word or delimiter, a name that is not reserved, or a
--- string in quotes
+-- a token of this kind that begins with no digit can have this text: a reserved word or delimiter, a name that is not reserved, or a string
+-- in quotes
 pub data IsText : Kind → List ℕ → Type 0 where
   fixed : {k : Kind} {text : List ℕ} → text_of k ≡ Some text → IsText k text
   name : {text : List ℕ} → is_name text ≡ true → ((k : Kind) → text_of k ≢ Some text) → IsText kinds.Ident text

@@ -1,7 +1,7 @@
 //! The delimiters (Oberon-07 report, section 3).
 ghost use Rattle.std.specs.Prelude.{◌≡◌};
-ghost use Rattle.ob_scan.specs.Lexemes.{delimiter_of, single_in};
-ghost use Rattle.ob_scan.specs.Tables.{two_byte_delimiter, single_of};
+ghost use Rattle.ob_scan.specs.Lexemes.{delimiter_of, one_byte_delimiter_token};
+ghost use Rattle.ob_scan.specs.Tables.{two_byte_delimiter, one_byte_delimiter};
 
 use crate::Kind;
 
@@ -21,8 +21,8 @@ fn two_byte_delimiter(first: u8, second: u8) -> Option<Kind>
 
 /// The delimiter of this byte, if it is one.
 #[inline(always)]
-fn single_of(byte: u8) -> Option<Kind>
-    ensures { result ≡ single_of byte }
+fn one_byte_delimiter(byte: u8) -> Option<Kind>
+    ensures { result ≡ one_byte_delimiter byte }
 {
     match byte {
         b'+' => Some(Kind::Plus),
@@ -54,9 +54,9 @@ fn single_of(byte: u8) -> Option<Kind>
 /// The delimiter of this byte and its length, if it is one.
 #[inline(always)]
 fn single(byte: u8) -> Option<(Kind, usize)>
-    ensures { result ≡ single_in byte }
+    ensures { result ≡ one_byte_delimiter_token byte }
 {
-    single_of(byte).map(|kind| (kind, 1))
+    one_byte_delimiter(byte).map(|kind| (kind, 1))
 }
 
 /// The delimiter that the bytes begin with, and its length. A delimiter of two bytes wins over one of one byte.

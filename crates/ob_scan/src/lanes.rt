@@ -8,7 +8,7 @@ use texts::lanes::lanes_before_bit;
 
 /// The number of bytes before the first LF or CR, of the sixteen from `at` on.
 #[inline(always)]
-pub(crate) fn no_line_ends_from(bytes: &[u8], at: usize) -> usize
+pub(crate) fn lanes_before_line_end(bytes: &[u8], at: usize) -> usize
     requires { at + 16 ≤ length bytes.now }
     ensures { result ≡ prefix_len ends_no_line (take 16 (drop at bytes.now)) }
 {

@@ -130,7 +130,7 @@ fn delimiter_lexeme(rest: &[u8]) -> Lexeme
 }
 
 /// What the bytes begin with. There is one byte or more.
-pub(crate) fn next_lexeme(rest: &[u8]) -> Lexeme
+pub(crate) fn first_lexeme(rest: &[u8]) -> Lexeme
     requires { 0 < length rest.now }
     ensures { IsLexeme rest.now result }
 {

@@ -2,7 +2,7 @@
 ghost use Rattle.std.specs.Prelude.{◌≡◌, ◌≤◌, ◌<◌, ℕ, false, length, IfOk};
 ghost use Rattle.ob_scan.specs.Position.{IsPosition, ends_line, line_starts};
 
-use crate::lanes::no_line_ends_from;
+use crate::lanes::lanes_before_line_end;
 use crate::{Lines, Position};
 use std::alloc::{AllocError, Global};
 use texts::lanes::LANES;
@@ -40,8 +40,8 @@ pub fn position(bytes: &[u8], offset: u32) -> Position
     }
 }
 
-/// The smallest offset from `from` on, up to `end`, that has to be tested for a line end: no line ends before it. Blocks of sixteen bytes
-/// without LF and CR are skipped at once.
+/// An offset from `from` on, at most `end`, such that no line ends between `from` and it. Blocks of sixteen bytes without LF and CR are
+/// skipped at once; of the last bytes, fewer than sixteen, none is skipped.
 fn find_line_end(bytes: &[u8], from: usize, end: usize) -> usize
     requires ordered { from ≤ end }
     requires within { end ≤ length bytes.now }
@@ -51,7 +51,7 @@ fn find_line_end(bytes: &[u8], from: usize, end: usize) -> usize
 {
     let mut at = from;
     'lanes: while end - at >= LANES {
-        let passed = no_line_ends_from(bytes, at);
+        let passed = lanes_before_line_end(bytes, at);
         at += passed;
         if passed < LANES {
             return at;
@@ -60,7 +60,8 @@ fn find_line_end(bytes: &[u8], from: usize, end: usize) -> usize
     at
 }
 
-/// The table of the line starts of a text. Of a text of more than 4 GiB it has those within the first 4 GiB. Fails if an allocation does.
+/// The table of the line starts of a text. For a text of more than 4 GiB it has the line starts in the first 4 GiB. Fails if an allocation
+/// fails.
 pub fn lines(alloc: Global, bytes: &[u8]) -> Result<Lines, AllocError>
     // Exactly the offsets at which lines begin, of those that 32 bits hold.
     ensures { IfOk result (λ l. l ≡ line_starts bytes.now) }

@@ -30,7 +30,7 @@ fn line_by_search(starts: &[u32], offset: u32) -> usize
     ) - 1
 }
 
-/// The line of an offset. Tries line `hint` and some lines after it, then a binary search.
+/// The line of an offset. Tries line `hint` and the seven lines after it, then a binary search.
 pub(crate) fn line_by_hint(starts: &[u32], hint: usize, offset: u32) -> usize
     requires { IsLineTable starts.now }
     ensures { IsInLine starts.now result offset }

@@ -59,8 +59,8 @@ impl Lines {
         }
     }
 
-    /// The line and the column of an offset in the source with these lines. Tries line `hint` first, and stores the line there.
-    pub fn lookup_position(&self, hint: &mut u32, offset: u32) -> Position
+    /// The line and the column of an offset in the source with these lines. Tries line `hint` first, and stores the found line in `hint`.
+    pub fn position_from_hint(&self, hint: &mut u32, offset: u32) -> Position
         ensures { (bytes : List ℕ) → self.now ≡ line_starts bytes → offset ≤ length bytes → IsPosition bytes offset result.line result.column }
     {
         let starts = self.starts();

@@ -3,10 +3,10 @@ ghost use Rattle.std.specs.Prelude.{◌≡◌, ◌≤◌, ◌==◌, length, unwr
 ghost use Rattle.std.specs.List.{position};
 ghost use Rattle.ob_scan.specs.declared.kind.Kind.TheVariants.{Ident};
 ghost use Rattle.ob_scan.specs.Lexemes.{has_second_capital, string_len};
-ghost use Rattle.ob_scan.specs.Tables.{word_of};
+ghost use Rattle.ob_scan.specs.Tables.{reserved_word};
 
 use crate::Kind;
-use crate::words::word_of;
+use crate::words::reserved_word;
 
 /// Whether the second letter is a capital, as in each reserved word and in few other names.
 fn has_second_capital(name: &[u8]) -> bool
@@ -20,17 +20,17 @@ fn has_second_capital(name: &[u8]) -> bool
 
 /// The kind of a reserved word, or `Ident`. The second letter excludes most identifiers without a search in the table.
 pub(crate) fn name_kind(name: &[u8]) -> Kind
-    ensures { result ≡ unwrap_or (word_of name.now) Ident }
+    ensures { result ≡ unwrap_or (reserved_word name.now) Ident }
 {
     if has_second_capital(name) {
-        word_of(name).unwrap_or(Kind::Ident)
+        reserved_word(name).unwrap_or(Kind::Ident)
     } else {
         Kind::Ident
     }
 }
 
 /// The index of the first quote.
-fn quote_in(bytes: &[u8]) -> Option<usize>
+fn first_quote_index(bytes: &[u8]) -> Option<usize>
     ensures { result ≡ position (λ b. b == 34) bytes.now }
 {
     bytes.iter().position(|b| *b == b'"')
@@ -45,6 +45,6 @@ pub(crate) fn string_len(rest: &[u8]) -> Option<usize>
     ensures within { IfSome result (λ n. n ≤ length rest.now) }
 {
     let (_, inside) = rest.split_at(1);
-    let end = quote_in(inside)?;
+    let end = first_quote_index(inside)?;
     Some(end + 2)
 }

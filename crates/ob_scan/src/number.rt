@@ -35,7 +35,7 @@ fn begins_byte(rest: &[u8], byte: u8) -> bool
 
 /// The token of a real number whose digits and point are the first n bytes, with the scale factor that follows, if there is one. `None`
 /// if an `E` has no digits.
-fn fraction(bytes: &[u8], n: usize) -> Option<(Kind, usize)>
+fn real_token(bytes: &[u8], n: usize) -> Option<(Kind, usize)>
     requires { n ≤ length bytes.now }
     ensures value { result ≡ fraction_of n bytes.now }
     ensures least { IfSome result (λ x. n ≤ x.1) }
@@ -69,7 +69,7 @@ fn decimal(bytes: &[u8], n: usize) -> Option<(Kind, usize)>
     if begins_byte(&bytes[n + 1..], b'.') {
         return Some((Kind::Integer, n));
     }
-    fraction(bytes, n + 1 + digits(&bytes[n + 1..]))
+    real_token(bytes, n + 1 + digits(&bytes[n + 1..]))
 }
 
 /// The kind and the length of the token that the bytes begin with, or `None` if the digits form no number. The first byte is a digit.

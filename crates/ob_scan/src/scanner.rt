@@ -5,7 +5,7 @@ ghost use Rattle.ob_scan.specs.declared.token.Token.{Token};
 ghost use Rattle.ob_scan.specs.Faults.{HasOutcome};
 ghost use Rattle.ob_scan.specs.Spelling.{IsOutcome};
 
-use crate::lexeme::{Lexeme, begins_blank, next_lexeme};
+use crate::lexeme::{Lexeme, begins_blank, first_lexeme};
 use crate::{ScanFault, Token, Tokens};
 use std::alloc::Global;
 
@@ -13,14 +13,14 @@ use std::alloc::Global;
 const MAX_BYTES: usize = 16_777_216;
 
 /// The largest initial capacity of the list of tokens.
-const MAX_INITIAL: usize = 4096;
+const MAX_INITIAL_CAPACITY: usize = 4096;
 
 /// An empty list with capacity for the usual number of tokens of a text of this many bytes, one for four bytes, up to 4,096, so that it
 /// seldom grows. If the allocation fails the list has no capacity, and `push` allocates.
 fn token_buffer(alloc: Global, bytes: usize) -> Vec<Token>
     ensures { result.items ≡ [] }
 {
-    match Vec::with_capacity(alloc, (bytes / 4).min(MAX_INITIAL)) {
+    match Vec::with_capacity(alloc, (bytes / 4).min(MAX_INITIAL_CAPACITY)) {
         Ok(tokens) => tokens,
         Err(_) => Vec::new(alloc),
     }
@@ -39,7 +39,7 @@ fn shrink_tokens(tokens: Vec<Token>) -> Tokens
 }
 
 /// The tokens of a text whose length was checked.
-fn tokens_in(alloc: Global, bytes: &[u8]) -> Result<Tokens, ScanFault>
+fn scan_tokens(alloc: Global, bytes: &[u8]) -> Result<Tokens, ScanFault>
     requires { length bytes.now ≤ 16777216 }
     ensures { HasOutcome result (IsOutcome bytes.now) }
 {
@@ -47,12 +47,12 @@ fn tokens_in(alloc: Global, bytes: &[u8]) -> Result<Tokens, ScanFault>
     let mut at = 0;
     'lexemes: while at < bytes.len() {
         let rest = &bytes[at..];
-        // A third of most texts are blanks: they are skipped here with one test, as `next_lexeme` would.
+        // A third of most texts are blanks: they are skipped here with one test, as `first_lexeme` would.
         if begins_blank(rest) {
             at += 1;
             continue;
         }
-        match next_lexeme(rest) {
+        match first_lexeme(rest) {
             Lexeme::Gap(n) => at += n,
             Lexeme::Token(kind, n) => {
                 tokens.push(Token {
@@ -79,5 +79,5 @@ pub fn scan(alloc: Global, bytes: &[u8]) -> Result<Tokens, ScanFault>
     if bytes.len() > MAX_BYTES {
         return Err(ScanFault::TooLong);
     }
-    tokens_in(alloc, bytes)
+    scan_tokens(alloc, bytes)
 }

@@ -18,7 +18,7 @@ pub struct TokenTexts<'a> {
 impl<'a> TokenTexts<'a> {
     /// The bytes of a token; empty if no token has this index.
     pub fn of(&self, number: u32) -> &'a [u8]
-        // The tokens are those of the bytes, or others that are in bounds and disjoint.
+        // The tokens are in bounds, in order and disjoint, as the tokens are that the bytes spell.
         requires { AreInText self.now.bytes.now self.now.tokens.now }
         // Exactly its bytes.
         ensures { result.now ≡ text_at self.now.bytes.now self.now.tokens.now number }
@@ -49,11 +49,11 @@ impl<'a> TokenTexts<'a> {
         }
     }
 
-    /// The bytes of a token as a string. Nothing is promised of it if they are not UTF-8. Fails if an allocation does.
+    /// The bytes of a token as a string. Nothing is promised of the string if the bytes are not UTF-8. Fails if an allocation fails.
     pub fn string(&self, alloc: Global, number: u32) -> Result<String, AllocError>
-        // The tokens are those of the bytes, or others that are in bounds and disjoint.
+        // The tokens are in bounds, in order and disjoint, as the tokens are that the bytes spell.
         requires { AreInText self.now.bytes.now self.now.tokens.now }
-        // Its bytes, if they are UTF-8, as those of identifiers are.
+        // The string has the token's bytes, if they are UTF-8. The bytes of an identifier are.
         ensures { IfOk result (λ s. IsUtf8 (text_at self.now.bytes.now self.now.tokens.now number) → string_bytes s ≡ text_at self.now.bytes.now self.now.tokens.now number) }
     {
         String::from_utf8_lossy(alloc, self.of(number))

@@ -1,6 +1,6 @@
 //! The reserved words (Oberon-07 report, section 3).
 ghost use Rattle.std.specs.Prelude.{◌≡◌};
-ghost use Rattle.ob_scan.specs.Tables.{long_word_of, word_of, word_of_two, word_of_three, word_of_four, word_of_five};
+ghost use Rattle.ob_scan.specs.Tables.{longer_word, reserved_word, two_letter_word, three_letter_word, four_letter_word, five_letter_word};
 ghost use Rattle.std.specs.Str.{bytes_eq};
 
 use crate::Kind;
@@ -13,8 +13,8 @@ fn is(text: &[u8], word: &[u8]) -> bool
 }
 
 /// The reserved word of two letters that the text is, if it is one.
-fn word_of_two(text: &[u8]) -> Option<Kind>
-    ensures { result ≡ word_of_two text.now }
+fn two_letter_word(text: &[u8]) -> Option<Kind>
+    ensures { result ≡ two_letter_word text.now }
 {
     match text {
         b"BY" => Some(Kind::By),
@@ -30,8 +30,8 @@ fn word_of_two(text: &[u8]) -> Option<Kind>
 }
 
 /// The reserved word of three letters that the text is, if it is one.
-fn word_of_three(text: &[u8]) -> Option<Kind>
-    ensures { result ≡ word_of_three text.now }
+fn three_letter_word(text: &[u8]) -> Option<Kind>
+    ensures { result ≡ three_letter_word text.now }
 {
     match text {
         b"DIV" => Some(Kind::Div),
@@ -45,8 +45,8 @@ fn word_of_three(text: &[u8]) -> Option<Kind>
 }
 
 /// The reserved word of four letters that the text is, if it is one.
-fn word_of_four(text: &[u8]) -> Option<Kind>
-    ensures { result ≡ word_of_four text.now }
+fn four_letter_word(text: &[u8]) -> Option<Kind>
+    ensures { result ≡ four_letter_word text.now }
 {
     match text {
         b"CASE" => Some(Kind::Case),
@@ -59,8 +59,8 @@ fn word_of_four(text: &[u8]) -> Option<Kind>
 }
 
 /// The reserved word of five letters that the text is, if it is one.
-fn word_of_five(text: &[u8]) -> Option<Kind>
-    ensures { result ≡ word_of_five text.now }
+fn five_letter_word(text: &[u8]) -> Option<Kind>
+    ensures { result ≡ five_letter_word text.now }
 {
     if is(text, b"ARRAY") {
         return Some(Kind::Array);
@@ -87,8 +87,8 @@ fn word_of_five(text: &[u8]) -> Option<Kind>
 }
 
 /// The reserved word of more than five letters that the text is, if it is one.
-fn long_word_of(text: &[u8]) -> Option<Kind>
-    ensures { result ≡ long_word_of text.now }
+fn longer_word(text: &[u8]) -> Option<Kind>
+    ensures { result ≡ longer_word text.now }
 {
     if is(text, b"IMPORT") {
         return Some(Kind::Import);
@@ -115,14 +115,14 @@ fn long_word_of(text: &[u8]) -> Option<Kind>
 }
 
 /// The reserved word that the text is, if it is one. The length selects a table, so that few words are compared.
-pub(crate) fn word_of(text: &[u8]) -> Option<Kind>
-    ensures { result ≡ word_of text.now }
+pub(crate) fn reserved_word(text: &[u8]) -> Option<Kind>
+    ensures { result ≡ reserved_word text.now }
 {
     match text.len() {
-        2 => word_of_two(text),
-        3 => word_of_three(text),
-        4 => word_of_four(text),
-        5 => word_of_five(text),
-        _ => long_word_of(text),
+        2 => two_letter_word(text),
+        3 => three_letter_word(text),
+        4 => four_letter_word(text),
+        5 => five_letter_word(text),
+        _ => longer_word(text),
     }
 }

@@ -2,7 +2,7 @@
 use Rattle.std.proofs.Common.{◌≡◌, ℕ, zero, suc, ◌<◌, ◌≤◌, List, [], ◌∷◌, Option, Some, None, slice_get, refl, subst, arith, filter_map}
 use Rattle.module_table.specs.Order.{IsIncreasingBy}
 
--- the numbers of a list ascend, from this one on
+-- the numbers of a list are increasing, all at least this one
 abbrev pub Ascends : {X : Type 0} → (X → ℕ) → ℕ → List X → Type 0
 Ascends f low [] = Unit {0}
 Ascends f low (x ∷ xs) = (low ≤ f x) × Ascends f (suc (f x)) xs
@@ -42,7 +42,7 @@ picked_one f g h same low x (Some y) xs l e rest =
     let s : g y ≡ f x = same x y e in
     rw e (rw s l, rw s rest)
 
--- what is made of some members, with their numbers, ascends as they do
+-- elements that are made from members, with the members' numbers, are in the members' order
 pub picked : {X Y : Type 0} (f : X → ℕ) (g : Y → ℕ) (h : X → Option Y) → ((x : X) (y : Y) → h x ≡ Some y → g y ≡ f x) →
     (low : ℕ) (xs : List X) → Ascends f low xs → Ascends g low (filter_map h xs)
 picked f g h same low [] a = tt

@@ -1,4 +1,4 @@
--- The scopes of what was found.
+-- The scopes, assembled from the meanings and counts of all uses.
 use Rattle.std.proofs.Common.{◌≡◌, ℕ, ◌+◌, ◌<◌, ◌≤◌, inl, inr, List, [], ◌∷◌, ◌++◌, length, map, take, Some, sym, ap, ◌∙◌, subst, arith, length-append}
 use Rattle.std.specs.Prelude.{slice_get, slice_index, Contains}
 use Rattle.std.specs.Str.{IsUtf8}
@@ -9,28 +9,29 @@ use Rattle.ob_scan.specs.Texts.{text_at, token_at}
 use Rattle.module_table.specs.declared.rows.Import.{Import}
 use Rattle.module_table.specs.declared.rows.Used.{Used}
 use Rattle.module_table.specs.Parts.{Rows}
-use Rattle.ob_scope.specs.declared.meaning.Resolution.{Resolution}
-use Rattle.ob_scope.specs.declared.members.Member.{Member}
-use Rattle.ob_scope.specs.declared.module_scopes.Alias.{Alias}
-use Rattle.ob_scope.specs.Members.{members_of}
-use Rattle.ob_scope.specs.Scope.{IsFirstDuplicate, HasNoDuplicates}
-use Rattle.ob_scope.specs.Counted.{Counts, HasUses, IsQualifiedBy}
-use Rattle.ob_scope.specs.Identified.{AreNames}
+use Rattle.scopes.specs.declared.meaning.Resolution.{Resolution}
+use Rattle.scopes.specs.declared.members.Member.{Member}
+use Rattle.scopes.specs.declared.module_scopes.Alias.{Alias}
+use Rattle.scopes.specs.Members.{members_of}
+use Rattle.scopes.specs.Scope.{IsFirstDuplicate, HasNoDuplicates}
+use Rattle.scopes.specs.QualifiedUses.{Counts, HasUses, IsQualifiedBy}
+use Rattle.scopes.specs.IdentifierNames.{AreNames}
 use Rattle.module_table.specs.Order.{AreRowsSorted, IsIncreasingBy}
-use Rattle.ob_scope.specs.Kept.{alias_of, meaning_of, AreValidScopes}
-use Rattle.ob_scope.specs.Locations.{AreFirstDuplicates}
+use Rattle.scopes.specs.ScopesInvariant.{alias_of, meaning_of, AreValidScopes}
+use Rattle.ob_scope.specs.MemberIndex.{AreFirstDuplicates}
 use Rattle.ob_scope.specs.Found.{AreAliasesOf, AreCounted, AreMeant, AreTexts, IsAliasOf, IsCountOf, MeansBefore}
-use Rattle.ob_scope.specs.Weights.{uses_of_all}
-use Rattle.ob_scope.specs.Scoped.{AliasUses, AreAliases, AreScopes, IsAlias, IsDuplicateAt, Meaning, MeansBy, ModuleScopes}
-use Rattle.ob_scope.proofs.Counting.{counts-none}
-use Rattle.ob_scope.proofs.Elements.{contains_of, contains_slice, map_ascend, of_contains, of_slice, slice_contains, slice_there, some_one}
+use Rattle.scopes.specs.Weights.{uses_of_all}
+use Rattle.scopes.specs.Scoped.{AliasUses, AreAliases, AreScopes, IsAlias, Meaning, MeansBy, ModuleScopes}
+use Rattle.ob_scope.specs.Faults.{IsDuplicateAt}
+use Rattle.scopes.proofs.Counting.{counts-none}
+use Rattle.module_table.proofs.Elements.{contains_of, contains_slice, map_ascend, of_contains, of_slice, slice_contains, slice_there, some_one}
 use Rattle.ob_scope.proofs.Finding.{get_push}
-use Rattle.ob_scope.proofs.Meanings.{means-member}
+use Rattle.scopes.proofs.Meanings.{means-member}
 use Rattle.ob_scope.proofs.Names.{are_texts}
 use Rattle.ob_scope.proofs.Placing.{Place_of, place_of_number, At, Nowhere}
 use Rattle.ob_scope.proofs.Weighing.{uses_within}
 
--- one alias more
+-- one more alias
 pub aliases_more : (name : ℕ → List ℕ) (members : List Member) (counts : List ℕ) (imports : List Import) (k : ℕ) (item : Import) (a : Alias) (aliases : List Alias) →
     AreAliasesOf name members counts imports k aliases → slice_get imports k ≡ Some item → IsAliasOf name members counts item a → AreAliasesOf name members counts imports (k + 1) (aliases ++ a ∷ [])
 aliases_more name members counts imports k item a aliases are at is = record {
@@ -55,7 +56,7 @@ module _ (name : ℕ → List ℕ) (r : Rows) where
 
   -- ---- the aliases
 
-  -- the uses that an alias qualifies are counted for its member, and there are none without a member
+  -- the count of an alias is that of its member, or 0 without a member
   uses_by : (counts : List ℕ) (alias n : ℕ) → AreAllCounted counts → IsCountOf members counts alias n → HasUses name r alias n
   uses_by counts alias n c is = by (place_of_number members alias)
     where
@@ -174,7 +175,7 @@ are_scopes_by bytes ts r ms counts text rows aliases e ordered named once meant 
     (subst (λ (xs : List Member). AreAliasesOf name xs counts r.imports (length r.imports) aliases) e are)
     is
 
--- two of one name
+-- two identifiers with one name
 pub is_twice : (bytes : List ℕ) (ts : List Token) (ms : List Member) (r : Rows) (f s first second : ℕ) (text : List ℕ) → ms ≡ members_of r → (h : AreFirstDuplicates (text_at bytes ts) ms f s) → AreNames (text_at bytes ts) r
     → (IsUtf8 (text_at bytes ts h.first.number) → text ≡ text_at bytes ts h.first.number) → first ≡ (token_at ts h.first.number).start → second ≡ (token_at ts h.second.number).start
     → IsDuplicateAt bytes ts r h.first h.second text first second

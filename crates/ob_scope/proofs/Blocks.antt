@@ -5,7 +5,7 @@ use Rattle.module_table.specs.declared.rows.Block.{Block}
 use Rattle.module_table.specs.Order.{IsIncreasingBy, HasNoneBy, IsIndexBy}
 use Rattle.module_table.specs.Blocks.{IsDirectlyIn}
 use Rattle.module_table.proofs.Around.{ascend_one}
-use Rattle.ob_scope.proofs.Elements.{contains_slice, slice_contains}
+use Rattle.module_table.proofs.Elements.{contains_slice, slice_contains}
 
 module _ (blocks : List Block) where
   row_there : (at b : ℕ) (d : Block) (f : IsIndexBy (λ (x : Block). x.first) blocks b at) → f.element ≡ get_or blocks at d

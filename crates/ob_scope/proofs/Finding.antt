@@ -1,23 +1,23 @@
--- One use more that is looked up.
+-- One more use is resolved.
 use Rattle.std.proofs.Common.{◌≡◌, ℕ, zero, suc, ◌+◌, ◌<◌, ◌≤◌, inl, inr, ◌⊎◌, Bool, true, false, List, [], ◌∷◌, ◌++◌, length, take, Some, None, refl, sym, ap, ◌∙◌, subst, arith, ⊎_elim}
 use Rattle.std.specs.Prelude.{slice_get, slice_index, slice_set, ◌&&◌, if◌then◌else◌}
 use Rattle.std.proofs.lemmas.Bool.{cases_lt, cases_eq, false≢true}
 use Rattle.std.specs.Option.{is_some}
 use Rattle.std.proofs.lemmas.List.{get_or-set_same, get_or-set_other, length-set, take_more}
 use Rattle.std.proofs.lemmas.Option.{slice_get_within, get_or_from_slice_get}
-use Rattle.ob_scope.specs.declared.meaning.Resolution.{Resolution}
+use Rattle.scopes.specs.declared.meaning.Resolution.{Resolution}
 use Rattle.module_table.specs.declared.rows.Block.{Block}
 use Rattle.module_table.specs.declared.rows.Used.{Used}
 use Rattle.module_table.specs.declared.rows.DeclKind.{DeclKind}
 use Rattle.module_table.specs.declared.rows.DeclKind.TheVariants as decl_kinds
-use Rattle.ob_scope.specs.declared.members.Member.{Member}
-use Rattle.ob_scope.specs.Scope.{ResolvesTo, HasNoDuplicates}
-use Rattle.ob_scope.specs.Counted.{Counts, IsQualifiedBy, none, one_more, other}
+use Rattle.scopes.specs.declared.members.Member.{Member}
+use Rattle.scopes.specs.Scope.{ResolvesTo, HasNoDuplicates}
+use Rattle.scopes.specs.QualifiedUses.{Counts, IsQualifiedBy, none, one_more, other}
 use Rattle.module_table.specs.Order.{IsIncreasingBy}
 use Rattle.ob_scope.specs.Lookups.{MeansNothing}
 use Rattle.ob_scope.specs.Found.{counted_for, is_import, AreCounted, AreMeant, MeansBefore}
-use Rattle.ob_scope.proofs.Elements.{some_one}
-use Rattle.ob_scope.proofs.Meanings.{means_once}
+use Rattle.module_table.proofs.Elements.{some_one}
+use Rattle.scopes.proofs.Meanings.{means_once}
 use Rattle.ob_scope.proofs.Named.{one_of_number}
 
 module _ {X : Type 0} where
@@ -37,7 +37,7 @@ module _ {X : Type 0} where
   get_push (z ∷ xs) x y zero e = inl e
   get_push (z ∷ xs) x y (suc i) e = elim (get_push xs x y i e) [ inl h ↦ inl h | inr h ↦ inr (ap suc h.0, h.1) ]
 
-  -- one more that is counted, or isn't
+  -- one more element that is counted, or isn't
   counts_more : (P : X → Type 0) (xs : List X) (x : X) (n : ℕ) → P x → Counts P xs n → Counts P (xs ++ x ∷ []) (suc n)
   counts_more P [] x n p none = one_more p none
   counts_more P (y ∷ xs) x n p (one_more q c) = one_more q (counts_more P xs x _ p c)
@@ -78,7 +78,7 @@ module _ (name : ℕ → List ℕ) (blocks : List Block) (members : List Member)
     of_declared = m.of_declared;
   }
 
-  -- one of the uses before, or this one
+  -- one of the earlier uses, or this one
   before_or_last : (k used declared : ℕ) (u : Used) → slice_get uses k ≡ Some u → (m : MeansBefore name blocks members uses (k + 1) used declared) →
       MeansBefore name blocks members uses k used declared ⊎ ((u.number ≡ used) × ((d : Member) × ResolvesTo name blocks members u d × (d.number ≡ declared)))
   before_or_last k used declared u at m = ⊎_elim
@@ -144,7 +144,7 @@ module _ (name : ℕ → List ℕ) (blocks : List Block) (members : List Member)
       row_is : (a b c d : ℕ) → a ≡ b → c ≡ d → (let x : Resolution = record { used = a; declared = c } in x) ≡ record { used = b; declared = d }
       row_is a b c d e f = cc
 
-  -- ---- how many
+  ---- counts
 
   uses_more : (k : ℕ) (u : Used) → slice_get uses k ≡ Some u → take (k + 1) uses ≡ take k uses ++ u ∷ []
   uses_more k u at =
@@ -168,7 +168,7 @@ module _ (name : ℕ → List ℕ) (blocks : List Block) (members : List Member)
     each = λ i m e. rw (uses_more k u at) (counts_same _ (take k uses) u _ (λ q. nothing q.declared q.means) (c.each i m e));
   }
 
-  -- how often the member that a use means is counted
+  -- the count of the member that a use means
   this_row : (k i : ℕ) (counts : List ℕ) (u : Used) (m n : Member) → IsIncreasingBy (λ (x : Member). x.number) members → HasNoDuplicates name members → n ≡ m → AreCounted name blocks members uses k counts → slice_get members i ≡ Some m
       → ResolvesTo name blocks members u m → CountsOne (is_some u.member) m.decl_kind
       → Counts (IsQualifiedBy name blocks members n.number) (take k uses ++ u ∷ []) (slice_index counts i + counted_for m u)

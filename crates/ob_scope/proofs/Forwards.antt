@@ -8,12 +8,12 @@ use Rattle.std.proofs.lemmas.Option.{slice_get_within, get_or_from_slice_get}
 use Rattle.std.proofs.lemmas.Slice.Eq.{bytes_eq-Decides}
 use Rattle.indexmap.specs.IndexMap.{get, IndexMap}
 use Rattle.module_table.specs.declared.rows.DeclKind.TheVariants as decl_kinds
-use Rattle.ob_scope.specs.declared.members.Member.{Member}
-use Rattle.ob_scope.specs.declared.members.Scope.TheVariants.{Block}
+use Rattle.scopes.specs.declared.members.Member.{Member}
+use Rattle.scopes.specs.declared.members.Scope.TheVariants.{Block}
 use Rattle.text_hash.specs.declared.name.Name.{Name}
-use Rattle.ob_scope.specs.Forward.{type_key_eq, AreTypes, IsTypeAt, TypeKey}
+use Rattle.ob_scope.specs.BlockTypes.{type_key_eq, AreTypes, IsTypeAt, TypeKey}
 use Rattle.ob_scope.specs.Lookups.{IsNamedIn, IsTypeAfter}
-use Rattle.ob_scope.specs.Scope.{HasNoDuplicates}
+use Rattle.scopes.specs.Scope.{HasNoDuplicates}
 use Rattle.ob_scope.specs.Visibility.{name_number, AreInterned}
 
 -- a type that has the name of the token, in the block

@@ -1,4 +1,4 @@
--- The uses that cross an import: how they are found, and how many they are.
+-- The uses that cross an import: their list and their number.
 use Rattle.std.proofs.Common.{◌≡◌, ℕ, ◌+◌, ◌<◌, ◌≤◌, List, [], ◌∷◌, ◌++◌, length, get_or, take, Some, refl, sym, ap, ap₂, ◌∙◌, subst, arith}
 use Rattle.std.specs.Prelude.{Contains}
 use Rattle.std.proofs.lemmas.List.{take_all, take_more}
@@ -10,21 +10,22 @@ use Rattle.module_table.specs.declared.rows.Used.{Used}
 use Rattle.module_table.specs.declared.rows.DeclKind.TheVariants as decl_kinds
 use Rattle.module_table.specs.Parts.{Rows}
 use Rattle.ob_scope.specs.declared.crossing_uses.Crossing.{Crossing}
-use Rattle.ob_scope.specs.declared.members.Member.{Member}
-use Rattle.ob_scope.specs.Counted.{Counts, Crosses, HasWeight, none, one_more, other}
-use Rattle.ob_scope.specs.Crossings.{no_use, crossing, other_use, AreCrossings, AreScopesOf, IsAliasFor, IsImportAt, IsOfUse}
-use Rattle.ob_scope.specs.Members.{members_of}
-use Rattle.ob_scope.specs.Scope.{ResolvesTo}
-use Rattle.ob_scope.specs.Scoped.{AliasUses, IsAlias, ModuleScopes}
+use Rattle.scopes.specs.declared.members.Member.{Member}
+use Rattle.scopes.specs.QualifiedUses.{Counts, Crosses, HasWeight, none, one_more, other}
+use Rattle.ob_scope.specs.Crossings.{no_use, crossing, other_use, AreCrossings, AreScopesOf, IsImportAt, IsOfUse}
+use Rattle.scopes.specs.Aliases.{IsAliasFor}
+use Rattle.scopes.specs.Members.{members_of}
+use Rattle.scopes.specs.Scope.{ResolvesTo}
+use Rattle.scopes.specs.Scoped.{AliasUses, IsAlias, ModuleScopes}
 use Rattle.module_table.proofs.Around.{ascend_one}
-use Rattle.ob_scope.proofs.Elements.{contains_slice, slice_contains, slice_there}
-use Rattle.ob_scope.proofs.Meanings.{means-member, means_once}
+use Rattle.module_table.proofs.Elements.{contains_slice, slice_contains, slice_there}
+use Rattle.scopes.proofs.Meanings.{means-member, means_once}
 use Rattle.ob_scope.proofs.Placing.{members_ascend}
 
--- ---- what one use crosses to
+---- the crossing of one use
 
 module _ (bytes : List ℕ) (ts : List Token) (rows : Rows) (members : List Member) (s : ModuleScopes) (k : AreScopesOf bytes ts rows members s) (imported : List ℕ) (u : Used) (is_use : Contains rows.uses u) where
-  -- what the scopes say that the use means
+  -- the meaning of the use in the scopes
   meant : (declared : ℕ) → Contains s.meanings (record { used = u.number; declared = declared }) → (d : Member) × ResolvesTo (text_at bytes ts) rows.blocks (members_of rows) u d × (d.number ≡ declared)
   meant declared has =
       let m = (k.scopes.meanings u.number declared).0 has in
@@ -126,7 +127,7 @@ module _ (name : ℕ → List ℕ) (rows : Rows) (imported : List ℕ) where
   pub crossings_all : (us vs : List Used) (cs : List Crossing) (i : ℕ) → us ≡ vs → length us ≤ i → AreCrossings name rows imported (take i us) cs → AreCrossings name rows imported vs cs
   crossings_all us vs cs i same past h = subst (λ (xs : List Used). AreCrossings name rows imported xs cs) (take_all i us past ∙ same) h
 
-  -- how many they are
+  -- the number of crossings
   crossings_count : (us : List Used) (cs : List Crossing) → AreCrossings name rows imported us cs → Counts (Crosses name rows imported) us (length cs)
   crossings_count [] cs no_use = none
   crossings_count (u ∷ us) cs (crossing {cs = ds} p o h) = one_more p (crossings_count us ds h)

@@ -9,15 +9,15 @@ use Rattle.std.proofs.lemmas.List.Folds.{list_any_at}
 use Rattle.std.proofs.lemmas.Option.{slice_get_within, slice_get-get_or, get_or_from_slice_get}
 use Rattle.std.proofs.lemmas.Slice.Eq.{bytes_eq-Decides}
 use Rattle.std.proofs.lemmas.Grind.{common_steps}
-use Rattle.ob_scope.specs.contracts.locations.MemberKeyPartialEq as keyed
-use Rattle.ob_scope.specs.contracts.members.ScopePartialEq as placed
-use Rattle.ob_scope.specs.declared.locations.MemberKey.{MemberKey}
-use Rattle.ob_scope.specs.declared.members.Member.{Member}
-use Rattle.ob_scope.specs.declared.members.Scope.{Scope}
-use Rattle.ob_scope.specs.declared.members.Scope.TheVariants as locations
-use Rattle.ob_scope.specs.Scope.{AreDuplicates}
-use Rattle.ob_scope.specs.Locations.{ScopedName, scoped_name_of, scoped_name_in, AreFirstDuplicates, HasNoEntry, IsIndex}
-use Rattle.ob_scope.proofs.Elements.{of_slice, slice_of, some_one}
+use Rattle.ob_scope.specs.contracts.member_index.MemberKeyPartialEq as keyed
+use Rattle.scopes.specs.contracts.members.ScopePartialEq as placed
+use Rattle.ob_scope.specs.declared.member_index.MemberKey.{MemberKey}
+use Rattle.scopes.specs.declared.members.Member.{Member}
+use Rattle.scopes.specs.declared.members.Scope.{Scope}
+use Rattle.scopes.specs.declared.members.Scope.TheVariants as locations
+use Rattle.scopes.specs.Scope.{AreDuplicates}
+use Rattle.ob_scope.specs.MemberIndex.{ScopedName, scoped_name_of, scoped_name_in, AreFirstDuplicates, HasNoKey, IsIndex}
+use Rattle.module_table.proofs.Elements.{of_slice, slice_of, some_one}
 
 abbrev pub place_eq : Scope → Scope → Bool
 place_eq = (placed.TheImpl.eq-value).it
@@ -49,7 +49,7 @@ and_right false b e = absurd (false≢true e)
 pub entry_is : (p q : Scope) (m n : List ℕ) → p ≡ q → m ≡ n → (let e : ScopedName = record { place = p; name = m } in e) ≡ record { place = q; name = n }
 entry_is p q m n e f = cc
 
--- equal keys say one thing
+-- equal keys have equal scopes and names
 pub key_one : (a b : MemberKey) → key_eq a b ≡ true → scoped_name_in a ≡ scoped_name_in b
 key_one a b e =
     entry_is a.place b.place a.name.bytes.now b.name.bytes.now
@@ -59,17 +59,17 @@ key_one a b e =
 both_true : (a b : Bool) → a ≡ true → b ≡ true → a && b ≡ true
 both_true a b e f = rw (e, f) refl
 
--- keys that say one thing are equal
+-- keys with equal scopes and names are equal
 pub key_same : (a b : MemberKey) → scoped_name_in a ≡ scoped_name_in b → key_eq a b ≡ true
 key_same a b e =
     both_true (place_eq a.place b.place) (bytes_eq a.name.bytes.now b.name.bytes.now)
     (subst (λ (p : Scope). place_eq a.place p ≡ true) (ap (λ (x : ScopedName). x.place) e) (place_same a.place))
     ((bytes_eq-Decides a.name.bytes.now b.name.bytes.now).1 (ap (λ (x : ScopedName). x.name) e))
 
--- ---- what a table has
+---- the entries of a table
 
 -- a key that the table doesn't find has no entry
-pub no_entry : (keys : List MemberKey) (k : MemberKey) → list_any (key_eq k) keys ≡ false → HasNoEntry keys k.place k.name.bytes.now
+pub no_entry : (keys : List MemberKey) (k : MemberKey) → list_any (key_eq k) keys ≡ false → HasNoKey keys k.place k.name.bytes.now
 no_entry keys k none i x there says =
     let here : key_eq k (get_or keys i k) ≡ true = key_same k (get_or keys i k) (sym says ∙ ap scoped_name_in (sym (get_or_from_slice_get keys i x k there))) in
     false≢true (sym none ∙ list_any_at (key_eq k) keys i k (slice_get_within keys i x there) here)

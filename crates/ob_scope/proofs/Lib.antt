@@ -1,13 +1,9 @@
-pub mod Counting
 pub mod Ascending
-pub mod Elements
 pub mod Blocks
-pub mod Meanings
 pub mod Keyed
 pub mod Named
 pub mod Placing
 pub mod Resolving
-pub mod Resolutions
 pub mod Seeing
 pub mod Finding
 pub mod Weighing

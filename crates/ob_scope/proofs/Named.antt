@@ -2,10 +2,10 @@
 use Rattle.std.proofs.Common.{◌≡◌, ℕ, ◌<◌, ◌≤◌, List, Some, None, Option, arith, ⊎_elim}
 use Rattle.std.specs.Prelude.{slice_get, IfSome, IfNone}
 use Rattle.std.proofs.lemmas.Bool.{cases_lt}
-use Rattle.ob_scope.specs.declared.members.Member.{Member}
+use Rattle.scopes.specs.declared.members.Member.{Member}
 
 module _ (name : ℕ → List ℕ) (members : List Member) where
-  -- the token number is the key of an entry
+  -- the key of an entry is its token number
   pub one_of_number : (i j : ℕ) (m n : Member) → ((i j : ℕ) (m n : Member) → i < j → slice_get members i ≡ Some m → slice_get members j ≡ Some n → m.number < n.number)
       → slice_get members i ≡ Some m → slice_get members j ≡ Some n → m.number ≡ n.number → i ≡ j
   one_of_number i j m n a p q e =
@@ -18,7 +18,7 @@ module _ (name : ℕ → List ℕ) (members : List Member) where
       (cases_lt j i))
       (cases_lt i j)
 
--- an answer that is found, and none
+-- a result that is present, and one that isn't
 pub some_then : {X : Type 0} (r : Option X) (P Q : X → Type 0) → ((x : X) → P x → Q x) → IfSome r P → IfSome r Q
 some_then None P Q f h = tt
 some_then (Some x) P Q f h = f x h

@@ -17,10 +17,10 @@ use Rattle.ob_scan.specs.Texts.{no_token, text_at, token_at}
 use Rattle.module_table.specs.Parts.{Rows}
 use Rattle.module_table.specs.Trees.{AreTreeRows}
 use Rattle.ob_scope.specs.Found.{AreTexts}
-use Rattle.ob_scope.specs.Identified.{AreNames, IsIdentifier}
-use Rattle.ob_scope.specs.Members.{members_of}
+use Rattle.scopes.specs.IdentifierNames.{AreNames, IsIdentifier}
+use Rattle.scopes.specs.Members.{members_of}
 use Rattle.ob_scope.proofs.Together.{declares}
-use Rattle.ob_scope.proofs.Elements.{some_one}
+use Rattle.module_table.proofs.Elements.{some_one}
 
 -- the scanner's names are names of texts
 pub same_test : (bytes : List ℕ) → is_name bytes ≡ fields.is_name bytes

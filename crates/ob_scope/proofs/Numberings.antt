@@ -1,4 +1,4 @@
--- Names that are numbered one after another.
+-- Names that are interned one after another.
 use Rattle.std.proofs.Common.{◌≡◌, ℕ, ◌+◌, ◌<◌, ◌≤◌, inl, inr, Bool, true, false, List, [], ◌∷◌, ◌++◌, length, take, get_or, Some, None, refl, sym, ap, ◌∙◌, subst, length-append, arith, ⊎_elim}
 use Rattle.std.specs.Prelude.{slice_get, slice_index, if◌then◌else◌, ◌||◌}
 use Rattle.std.specs.List.{list_any, position_or_len}
@@ -8,10 +8,10 @@ use Rattle.std.proofs.lemmas.List.{get_or_append_left, length-take-le}
 use Rattle.std.proofs.lemmas.Option.{slice_get_within}
 use Rattle.std.proofs.lemmas.Slice.Eq.{bytes_eq-Decides}
 use Rattle.std.proofs.Math.Seq.{get_or-append_seam}
-use Rattle.ob_scope.specs.declared.members.Member.{Member}
+use Rattle.scopes.specs.declared.members.Member.{Member}
 use Rattle.text_hash.specs.declared.name.Name.{Name}
 use Rattle.ob_scope.specs.Visibility.{name_number, AreInterned}
-use Rattle.ob_scope.proofs.Elements.{some_one}
+use Rattle.module_table.proofs.Elements.{some_one}
 use Rattle.ob_scope.proofs.Keyed.{front_get, get_front}
 
 module _ {X : Type 0} (p : X → Bool) where
@@ -142,7 +142,7 @@ numbers_long name members i names numbers le a = a.as_many ∙ length-take-le i 
 pub last_number : (numbers later : List ℕ) (i n : ℕ) → length numbers ≡ i → later ≡ numbers ++ n ∷ [] → slice_index later i ≡ n
 last_number numbers later i n long is = rw is (subst (λ (x : ℕ). get_or (numbers ++ n ∷ []) x 0 ≡ n) long (get_or-append_seam numbers n [] 0))
 
--- the last number is one of a name
+-- the last number is the number of a name
 pub last_within : (name : ℕ → List ℕ) (members : List Member) (i n : ℕ) (m : Member) (names : List Name) (numbers later : List ℕ) → length numbers ≡ i → later ≡ numbers ++ n ∷ [] → slice_get members i ≡ Some m
     → AreInterned name (take (i + 1) members) names later → n < length names
 last_within name members i n m names numbers later long is at a =

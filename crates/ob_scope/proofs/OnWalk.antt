@@ -1,4 +1,4 @@
--- From name to name in the order of their tokens.
+-- The walk over names in token order, from name to name.
 use Rattle.std.proofs.Common.{◌≡◌, ℕ, ◌+◌, ◌<◌, ◌≤◌, inl, inr, List, length, get_or, Some, refl, sym, subst, arith}
 use Rattle.std.specs.Prelude.{slice_get}
 use Rattle.std.proofs.lemmas.Bool.{cases_lt}
@@ -7,13 +7,13 @@ use Rattle.module_table.specs.declared.rows.Block.{Block}
 use Rattle.module_table.specs.declared.rows.Used.{Used}
 use Rattle.module_table.specs.Blocks.{itself}
 use Rattle.module_table.specs.Order.{IsIncreasingBy}
-use Rattle.ob_scope.specs.declared.members.Member.{Member}
-use Rattle.ob_scope.specs.declared.members.Scope.TheVariants as locations
+use Rattle.scopes.specs.declared.members.Member.{Member}
+use Rattle.scopes.specs.declared.members.Scope.TheVariants as locations
 use Rattle.ob_scope.specs.declared.scope_stack.ScopeStack.{ScopeStack}
 use Rattle.ob_scope.specs.declared.bindings.Bindings.{Bindings}
 use Rattle.ob_scope.specs.Visibility.{Enters, IsOpen}
 use Rattle.ob_scope.specs.WalkOrder.{AreContiguous, IsNameIn, IsOnWalk, IsPassed, MayEnter, last, member, none}
-use Rattle.ob_scope.proofs.Elements.{contains_slice}
+use Rattle.module_table.proofs.Elements.{contains_slice}
 use Rattle.ob_scope.proofs.Opening.{around_open}
 
 module _ (blocks : List Block) (members : List Member) (uses : List Used) (together : AreContiguous blocks members uses) where
@@ -22,9 +22,9 @@ module _ (blocks : List Block) (members : List Member) (uses : List Used) (toget
   Before next token m = (n : ℕ) → n ≤ token → ((k : ℕ) (x : Member) → next ≤ k → slice_get members k ≡ Some x → n ≤ x.number) → n ≤ m
 
   may_by : (stack : List ℕ) (watermark next token m d : ℕ) → IsIncreasingBy (λ (b : Block). b.first) blocks → IsOpen blocks stack watermark → IsPassed members uses stack watermark next token → IsNameIn members uses m d → Before next token m → MayEnter blocks stack watermark d
-  may_by stack watermark next token m d ascending_starts opens (none e) here bound = λ b a. inr (omega arith)
-  may_by stack watermark next token m d ascending_starts opens (last n c name top less le ahead) here bound = λ b a. elim (cases_lt b watermark) [
-    | inl below ↦ inl (around_open blocks stack opens.chain ascending_starts b c top (together.between n m b c d name here (omega arith) (bound n le ahead) a))
+  may_by stack watermark next token m d sorted opens (none e) here bound = λ b a. inr (omega arith)
+  may_by stack watermark next token m d sorted opens (last n c name top less le ahead) here bound = λ b a. elim (cases_lt b watermark) [
+    | inl below ↦ inl (around_open blocks stack opens.chain sorted b c top (together.between n m b c d name here (omega arith) (bound n le ahead) a))
     | inr above ↦ inr above
   ]
 
@@ -57,7 +57,7 @@ module _ (blocks : List Block) (members : List Member) (uses : List Used) (s : B
     bound n le ahead = ahead s.next (get_or members s.next d) (omega arith) at
 
     pub may_member : IsIncreasingBy (λ (b : Block). b.first) blocks → IsOpen blocks s.«open».stack.items s.«open».watermark → MayEnter blocks s.«open».stack.items s.«open».watermark block
-    may_member ascending_starts opens = may_by blocks members uses walk.together stack watermark s.next token (get_or members s.next d).number block ascending_starts opens walk.passed name bound
+    may_member sorted opens = may_by blocks members uses walk.together stack watermark s.next token (get_or members s.next d).number block sorted opens walk.passed name bound
 
     pub way_bound : (t : Bindings) (scope_stack : ScopeStack) → IsIncreasingBy (λ (m : Member). m.number) members → ((m : Member) → slice_get members s.next ≡ Some m → m.number ≤ token) → Enters blocks block s.«open».stack.items s.«open».watermark scope_stack.stack.items scope_stack.watermark
         → t.«open» ≡ scope_stack → t.next ≡ s.next + 1 → IsOnWalk blocks members uses t token
@@ -85,7 +85,7 @@ module _ (blocks : List Block) (members : List Member) (uses : List Used) (s : B
   -- a use at the token
   module _ (block : ℕ) (here : IsNameIn members uses token block) where
     pub may_use : IsIncreasingBy (λ (b : Block). b.first) blocks → IsOpen blocks s.«open».stack.items s.«open».watermark → MayEnter blocks s.«open».stack.items s.«open».watermark block
-    may_use ascending_starts opens = may_by blocks members uses walk.together stack watermark s.next token token block ascending_starts opens walk.passed here (λ n le ahead. le)
+    may_use sorted opens = may_by blocks members uses walk.together stack watermark s.next token token block sorted opens walk.passed here (λ n le ahead. le)
 
     pub way_used : (t : Bindings) (scope_stack : ScopeStack) (later : ℕ) → token ≤ later → ((k : ℕ) (m : Member) → s.next ≤ k → slice_get members k ≡ Some m → token ≤ m.number) → Enters blocks block s.«open».stack.items s.«open».watermark scope_stack.stack.items scope_stack.watermark
         → t.«open» ≡ scope_stack → t.next ≡ s.next → IsOnWalk blocks members uses t later

@@ -1,15 +1,15 @@
--- The scopes of a module are one.
+-- A module has one value of scopes.
 use Rattle.std.proofs.Common.{◌≡◌, ℕ, zero, suc, ◌<◌, ◌⊎◌, inl, inr, List, [], ◌∷◌, length, slice_get, Some, Contains, refl, sym, ap, ap₂, ◌∙◌, arith}
 use Rattle.std.proofs.lemmas.Option.{slice_get_within}
 use Rattle.ob_scan.specs.declared.token.Token.{Token}
 use Rattle.ob_scan.specs.Texts.{text_at}
 use Rattle.module_table.specs.Order.{IsIncreasingBy}
 use Rattle.module_table.specs.Parts.{Rows}
-use Rattle.ob_scope.specs.Counted.{IsQualifiedBy}
-use Rattle.ob_scope.specs.Members.{members_of}
-use Rattle.ob_scope.specs.Scoped.{AliasUses, AreScopes, Meaning, ModuleScopes}
-use Rattle.ob_scope.proofs.Counting.{counts-once}
-use Rattle.ob_scope.proofs.Elements.{contains_slice, slice_contains, slice_there}
+use Rattle.scopes.specs.QualifiedUses.{IsQualifiedBy}
+use Rattle.scopes.specs.Members.{members_of}
+use Rattle.scopes.specs.Scoped.{AliasUses, AreScopes, Meaning, ModuleScopes}
+use Rattle.scopes.proofs.Counting.{counts-once}
+use Rattle.module_table.proofs.Elements.{contains_slice, slice_contains, slice_there}
 
 -- ---- two lists with equal elements at equal indexes are equal
 
@@ -26,7 +26,7 @@ module _ {X : Type 0} (n : X → ℕ) where
   ascend_rest : (x : X) (xs : List X) → IsIncreasingBy n (x ∷ xs) → IsIncreasingBy n xs
   ascend_rest x xs a i j y z l p q = a (suc i) (suc j) y z (omega arith) p q
 
-  -- a member is the first one, or a later one of a greater number
+  -- an element is the first one, or a later one with a greater number
   first_or_later : (x z : X) (xs : List X) → IsIncreasingBy n (x ∷ xs) → Contains (x ∷ xs) z → (x ≡ z) ⊎ ((n x < n z) × Contains xs z)
   first_or_later x z xs a has = at (slice_contains (x ∷ xs) z has)
     where
@@ -43,7 +43,7 @@ module _ {X : Type 0} (n : X → ℕ) where
   no_member : (x : X) → Contains [] x → ⊥
   no_member x has = let at = slice_contains [] x has in let e = at.1 in cc
 
-  -- the elements after the first one of one list are those after the first one of the other
+  -- the elements after the first one are equal in both lists
   behind : (x y z : X) (xs ys : List X) → IsIncreasingBy n (x ∷ xs) → IsIncreasingBy n (y ∷ ys) → x ≡ y → Contains xs z → Contains (y ∷ ys) z → Contains ys z
   behind x y z xs ys a b same here there = elim (first_or_later y z ys b there) [
     | inl e ↦ (let at = slice_contains xs z here in

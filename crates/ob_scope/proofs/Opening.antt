@@ -1,4 +1,4 @@
--- Blocks that are open, and one that is entered.
+-- The open blocks, and a block that is entered.
 use Rattle.std.proofs.Common.{◌≡◌, ℕ, zero, suc, ◌+◌, ◌-◌, ◌<◌, ◌≤◌, inl, inr, List, [], ◌∷◌, ◌++◌, length, Some, None, refl, sym, ap, ◌∙◌, subst, length-append, arith}
 use Rattle.std.specs.Prelude.{slice_get, Contains}
 use Rattle.std.proofs.lemmas.List.Elements.{Contains-append_cases, Contains-append_left}
@@ -11,7 +11,7 @@ use Rattle.ob_scope.specs.WalkOrder.{MayEnter}
 use Rattle.std.proofs.Common.{⊎_elim}
 use Rattle.std.proofs.lemmas.Bool.{cases_lt}
 use Rattle.module_table.proofs.Around.{around-le, one_outer}
-use Rattle.ob_scope.proofs.Elements.{contains_slice, slice_contains, slice_there, some_one}
+use Rattle.module_table.proofs.Elements.{contains_slice, slice_contains, slice_there, some_one}
 use Rattle.ob_scope.proofs.Finding.{get_last, get_left, get_push}
 
 at_same : {X : Type 0} (xs : List X) (i j : ℕ) (x y : X) → i ≡ j → slice_get xs i ≡ Some x → slice_get xs j ≡ Some y → x ≡ y
@@ -37,7 +37,7 @@ module _ (blocks : List Block) (stack : List ℕ) (opens : AreOpen blocks stack)
       let within = slice_get_within stack p.0 b p.1 in
       up (length stack - 1 - p.0) p.0 b top p.1 (ap (slice_get stack) (let e : p.0 + (length stack - 1 - p.0) ≡ length stack - 1 = omega arith in e) ∙ last)
 
-  -- they ascend
+  -- the open blocks are in increasing order of their first tokens
   pub open_ascend : IsIncreasingBy (λ (b : ℕ). b) stack
   open_ascend i j b c below p q =
       let within = slice_get_within stack j c q in
@@ -46,21 +46,21 @@ module _ (blocks : List Block) (stack : List ℕ) (opens : AreOpen blocks stack)
       let rest : d.0 ≤ c = around-le blocks d.0 c (up (j - (i + 1)) (i + 1) d.0 c d.1 (ap (slice_get stack) (let e : i + 1 + (j - (i + 1)) ≡ j = omega arith in e) ∙ q)) in
       omega arith
 
-  -- all that is around an open block is open
+  -- all blocks around an open block are open
   around_at : IsIncreasingBy (λ (b : Block). b.first) blocks → (b c : ℕ) → Encloses blocks b c → (i : ℕ) → slice_get stack i ≡ Some c → Contains stack b
-  around_at ascending_starts b c (itself e) i p = contains_slice stack i b (p ∙ ap Some (sym e))
-  around_at ascending_starts b c (further d inner rest) zero p = absurd (opens.outermost c d p inner)
-  around_at ascending_starts b c (further d inner rest) (suc i) p =
+  around_at sorted b c (itself e) i p = contains_slice stack i b (p ∙ ap Some (sym e))
+  around_at sorted b c (further d inner rest) zero p = absurd (opens.outermost c d p inner)
+  around_at sorted b c (further d inner rest) (suc i) p =
       let within = slice_get_within stack (suc i) c p in
       let e = slice_there stack i (omega arith) in
       let here : IsDirectlyIn blocks c e.0 = opens.inside i e.0 c e.1 (ap (slice_get stack) (let f : i + 1 ≡ suc i = omega arith in f) ∙ p) in
-      let same : e.0 ≡ d = one_outer blocks ascending_starts c e.0 d here inner in
-      around_at ascending_starts b d rest i (e.1 ∙ ap Some same)
+      let same : e.0 ≡ d = one_outer blocks sorted c e.0 d here inner in
+      around_at sorted b d rest i (e.1 ∙ ap Some same)
 
   pub around_open : IsIncreasingBy (λ (b : Block). b.first) blocks → (b top : ℕ) → IsInnermost stack top → Encloses blocks b top → Contains stack b
-  around_open ascending_starts b top last a = around_at ascending_starts b top a (length stack - 1) last
+  around_open sorted b top last a = around_at sorted b top a (length stack - 1) last
 
-  -- one block more
+  -- one more block
   pub open_push : (outer block : ℕ) → IsInnermost stack outer → IsDirectlyIn blocks block outer → AreOpen blocks (stack ++ block ∷ [])
   open_push outer block last inner = record {
     outermost = λ b c p dir. elim (get_push stack block b 0 p) [

@@ -1,4 +1,4 @@
--- Members by the constructs that declare them, and by their tokens.
+-- Members by their declaration groups, and by their tokens.
 use Rattle.std.proofs.Common.{◌≡◌, ℕ, zero, suc, ◌+◌, ◌<◌, inl, inr, List, [], ◌∷◌, ◌++◌, length, take, get_or, Option, Some, None, filter_map, refl, sym, ap, ◌∙◌, arith}
 use Rattle.std.specs.Prelude.{slice_get, slice_index, ◌==◌}
 use Rattle.std.specs.Option.{option_to_list}
@@ -8,12 +8,12 @@ use Rattle.std.proofs.lemmas.Option.{get_or_from_slice_get}
 use Rattle.std.proofs.lemmas.Bool.{cases_Bool, cases_eq, eq-eqb, eqb-true}
 use Rattle.module_table.specs.declared.rows.DeclGroup.{DeclGroup}
 use Rattle.module_table.specs.declared.rows.Declared.{Declared}
-use Rattle.ob_scope.specs.declared.members.Member.{Member}
+use Rattle.scopes.specs.declared.members.Member.{Member}
 use Rattle.module_table.specs.Order.{IsIncreasingBy, HasNoneBy, IsIndexBy}
 use Rattle.ob_scope.specs.Found.{IsCountOf}
-use Rattle.ob_scope.specs.Members.{decl_group_at, declared_member, declared_members}
+use Rattle.scopes.specs.Members.{decl_group_at, declared_member, declared_members}
 use Rattle.ob_scope.proofs.Ascending.{ascending, ascends_by, picked}
-use Rattle.ob_scope.proofs.Elements.{some_one}
+use Rattle.module_table.proofs.Elements.{some_one}
 use Rattle.ob_scope.proofs.Named.{one_of_number}
 
 -- a strictly increasing list without its first element
@@ -41,7 +41,7 @@ declarer_none (x ∷ ds) k none = elim (cases_Bool (x.first == k)) [
   | inr f ↦ rw f (declarer_none ds k (λ i y p q. none (suc i) y p q))
 ]
 
--- a member has the number of what declares it
+-- a member has the number of its declared identifier
 member_number : (d : Declared) (o : Option DeclGroup) (m : Member) → declared_member d o ≡ Some m → m.number ≡ d.number
 member_number d None m e = absurd (let f : None ≡ Some m = e in cc)
 member_number d (Some by) m e = ap (λ (x : Member). x.number) (sym (some_one _ m e))
@@ -70,12 +70,12 @@ place_of_number (x ∷ ms) k = elim (cases_eq x.number k) [ inl e ↦ At 0 x ref
     behind ne (At i m e f) = At (suc i) m e f
     behind ne (Nowhere none) = Nowhere (not_there ne none)
 
--- ---- the entry with a found index
+---- the entry at the index that is found
 
 pub declarer_read : (ds : List DeclGroup) (at k : ℕ) (d : DeclGroup) → IsIncreasingBy (λ (x : DeclGroup). x.first) ds → IsIndexBy (λ (x : DeclGroup). x.first) ds k at → Some (get_or ds at d) ≡ decl_group_at ds k
 declarer_read ds at k d up f = ap Some (get_or_from_slice_get ds at f.element d f.there) ∙ sym (declarer_found ds at k f.element up f.there f.has)
 
--- one identifier more
+-- one more identifier
 pub members_more : (by : List DeclGroup) (ds : List Declared) (i : ℕ) (d : Declared) (o : Option Member) → i < length ds → o ≡ declared_member (get_or ds i d) (decl_group_at by (get_or ds i d).declared_by) →
     declared_members by (take (i + 1) ds) ≡ declared_members by (take i ds) ++ option_to_list o
 members_more by ds i d o l is =
@@ -87,7 +87,7 @@ members_more by ds i d o l is =
     last told x None e = rw (← e) refl
     last told x (Some m) e = rw (← e) refl
 
--- ---- how often a member is counted
+---- the count of a member
 
 pub count_found : (members : List Member) (counts : List ℕ) (alias at : ℕ) → IsIncreasingBy (λ (m : Member). m.number) members → IsIndexBy (λ (m : Member). m.number) members alias at → IsCountOf members counts alias (slice_index counts at)
 count_found members counts alias at up f = record {

@@ -2,8 +2,8 @@
 use Rattle.std.proofs.Common.{◌≡◌, ℕ, List, sym, ap, ◌∙◌}
 use Rattle.module_table.specs.declared.rows.Block.{Block}
 use Rattle.module_table.specs.declared.rows.Used.{Used}
-use Rattle.ob_scope.specs.declared.members.Member.{Member}
-use Rattle.ob_scope.specs.Scope.{IsVisible, Resolves, ResolvesToNothing}
+use Rattle.scopes.specs.declared.members.Member.{Member}
+use Rattle.scopes.specs.Scope.{IsVisible, Resolves, ResolvesToNothing}
 
 module _ (name : ℕ → List ℕ) (blocks : List Block) (ds : List Member) where
   -- the declarations visible at two uses with equal numbers in one block are equal

@@ -2,10 +2,10 @@
 use Rattle.std.proofs.Common.{ℕ, List}
 use Rattle.module_table.specs.declared.rows.Block.{Block}
 use Rattle.module_table.specs.declared.rows.Used.{Used}
-use Rattle.ob_scope.specs.declared.members.Member.{Member}
-use Rattle.ob_scope.specs.Scope.{IsLaterType}
+use Rattle.scopes.specs.declared.members.Member.{Member}
+use Rattle.scopes.specs.Scope.{IsLaterType}
 use Rattle.ob_scope.specs.Lookups.{IsTypeAfter}
-use Rattle.ob_scope.proofs.Elements.{contains_slice, slice_contains}
+use Rattle.module_table.proofs.Elements.{contains_slice, slice_contains}
 
 module _ (name : ℕ → List ℕ) (blocks : List Block) (members : List Member) where
   -- a type declared after a use

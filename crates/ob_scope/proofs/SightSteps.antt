@@ -5,13 +5,13 @@ use Rattle.std.proofs.lemmas.List.{get_or_default, length-set}
 use Rattle.std.proofs.lemmas.Option.{slice_get-get_or, get_or_from_slice_get}
 use Rattle.module_table.specs.declared.rows.Block.{Block}
 use Rattle.module_table.specs.Order.{IsIncreasingBy}
-use Rattle.ob_scope.specs.declared.members.Member.{Member}
+use Rattle.scopes.specs.declared.members.Member.{Member}
 use Rattle.text_hash.specs.declared.name.Name.{Name}
-use Rattle.ob_scope.specs.declared.members.Scope.TheVariants as locations
+use Rattle.scopes.specs.declared.members.Scope.TheVariants as locations
 use Rattle.ob_scope.specs.declared.scope_stack.ScopeStack.{ScopeStack}
 use Rattle.ob_scope.specs.declared.bindings.Bindings.{Bindings}
 use Rattle.ob_scope.specs.Lookups.{use_in, IsResolved}
-use Rattle.ob_scope.specs.Scope.{ResolvesToNothing}
+use Rattle.scopes.specs.Scope.{ResolvesToNothing}
 use Rattle.ob_scope.specs.BindingStates.{IsPrefixBefore, AreBindings}
 use Rattle.ob_scope.specs.Visibility.{name_number, AreInterned, AreVisible, Enters, IsIn, IsNamedAt, IsOpen, IsOpenScope, IsStart}
 use Rattle.ob_scope.proofs.Opening.{open_ascend, open_none}
@@ -51,7 +51,7 @@ module _ (blocks : List Block) (members : List Member) (numbers : List ℕ) (nam
       sight_of t scope_stack s.next s.latest.items s.earlier.items is_open is_next is_latest is_earlier h.named h.as_many h.few e.scope_stack
       (seen_enter blocks members numbers s.«open».stack.items scope_stack.stack.items s.«open».watermark scope_stack.watermark s.next s.latest.items s.earlier.items e.kept e.later h.seen)
 
-  -- another member may be the last of a name
+  -- another member becomes the latest one of a name
   sight_start : (s t : Bindings) (n : ℕ) (at : Option ℕ) → AreBindings blocks members numbers names s → n < names → IsStart members numbers s.«open».stack.items s.next n at
       → t.«open» ≡ s.«open» → t.next ≡ s.next → t.latest.items ≡ slice_set s.latest.items n at → t.earlier.items ≡ s.earlier.items → AreBindings blocks members numbers names t
   sight_start s t n at h within start is_open is_next is_latest is_earlier =
@@ -71,7 +71,7 @@ module _ (blocks : List Block) (members : List Member) (numbers : List ℕ) (nam
       → (get_or members s.next d).place ≡ locations.Block block → Enters blocks block s.«open».stack.items s.«open».watermark scope_stack.stack.items scope_stack.watermark
       → t.«open» ≡ scope_stack → t.next ≡ s.next + 1 → t.latest.items ≡ slice_set s.latest.items (slice_index numbers s.next) (Some s.next)
       → t.earlier.items ≡ slice_set s.earlier.items s.next (slice_index_or s.latest.items (slice_index numbers s.next) None) → AreBindings blocks members numbers names t
-  sight_bound s t d block scope_stack ascending_starts h within numbered placed e is_open is_next is_latest is_earlier =
+  sight_bound s t d block scope_stack sorted h within numbered placed e is_open is_next is_latest is_earlier =
       let n = slice_index numbers s.next in
       let named = h.named in
       let as_many = h.as_many in
@@ -80,9 +80,9 @@ module _ (blocks : List Block) (members : List Member) (numbers : List ℕ) (nam
       (length-set s.latest.items n (Some s.next) ∙ named) (length-set s.earlier.items s.next (slice_index_or s.latest.items n None) ∙ as_many) (omega arith) e.scope_stack
       (seen_bind blocks members numbers scope_stack.stack.items scope_stack.watermark s.next s.latest.items s.earlier.items
       (seen_enter blocks members numbers s.«open».stack.items scope_stack.stack.items s.«open».watermark scope_stack.watermark s.next s.latest.items s.earlier.items e.kept e.later h.seen)
-      ascending_starts e.scope_stack block e.innermost here (omega arith) (omega arith))
+      sorted e.scope_stack block e.innermost here (omega arith) (omega arith))
 
-  -- what the walk from a start needs
+  -- the preconditions of the walk along candidates
   start_within : (s : Bindings) (n : ℕ) → AreBindings blocks members numbers names s → IfSome (slice_index_or s.latest.items n None) (λ i. i < length members)
   start_within s n h = go (slice_index_or s.latest.items n None) (h.seen.starts n).some
     where
@@ -101,7 +101,7 @@ none_push [] h (suc k) = refl
 none_push (x ∷ xs) h zero = h zero
 none_push (x ∷ xs) h (suc k) = none_push xs (λ j. h (suc j)) k
 
--- from one head of candidates to another, for every visible member
+-- from one head of candidates to another head, for every visible member
 abbrev pub Walks : List Member → List ℕ → List (Option ℕ) → Option ℕ → Option ℕ → Type 0
 Walks members stack earlier from at =
     (bs : List Block) (ns : List ℕ) (watermark j k : ℕ) (latest : List (Option ℕ)) → AreVisible bs members ns stack watermark j latest earlier → IsStart members ns stack j k from → IsStart members ns stack j k at
@@ -113,7 +113,7 @@ walk_by members st su ea eb from start at e f g h =
 -- a name is looked up: the members before it are declared, and its block is entered
 pub record IsLookUp (name : ℕ → List ℕ) (blocks : List Block) (members : List Member) (names : List Name) (numbers : List ℕ) (block token : ℕ) (s : Bindings) (scope_stack : ScopeStack) : Type 0 where
   pub numbered : AreInterned name members names numbers
-  pub ascending_starts : IsIncreasingBy (λ (b : Block). b.first) blocks
+  pub sorted : IsIncreasingBy (λ (b : Block). b.first) blocks
   pub bindings : AreBindings blocks members numbers (length names) s
   pub prefix : IsPrefixBefore members s.next token
   pub entered : Enters blocks block s.«open».stack.items s.«open».watermark scope_stack.stack.items scope_stack.watermark
@@ -128,12 +128,12 @@ module _ {name : ℕ → List ℕ} {blocks : List Block} {members : List Member}
   pub look_unnamed : length names ≤ name_number names (name token) → ResolvesToNothing name blocks members (use_in block token)
   look_unnamed past =
       let e = l.entered in
-      resolved_unnamed name blocks members names numbers l.numbered scope_stack.stack.items scope_stack.watermark s.next s.latest.items s.earlier.items seen l.ascending_starts e.scope_stack block token e.innermost l.prefix past
+      resolved_unnamed name blocks members names numbers l.numbered scope_stack.stack.items scope_stack.watermark s.next s.latest.items s.earlier.items seen l.sorted e.scope_stack block token e.innermost l.prefix past
 
   pub look_ascend : IsIncreasingBy (λ (b : ℕ). b) scope_stack.stack.items
   look_ascend = let e = l.entered in open_ascend blocks scope_stack.stack.items e.scope_stack.chain
 
-  -- what may be the last of a name, as it is read
+  -- the latest candidate of a name, as it is read
   look_read : (n : ℕ) (read : Option ℕ) → n < length names → read ≡ get_or s.latest.items n read → slice_index_or s.latest.items n None ≡ read
   look_read n read within is = get_or_default s.latest.items n None read (let named = l.bindings.named in omega arith) ∙ sym is
 
@@ -144,7 +144,7 @@ module _ {name : ℕ → List ℕ} {blocks : List Block} {members : List Member}
   pub look_falls : (earlier : List (Option ℕ)) (i x : ℕ) → earlier ≡ s.earlier.items → slice_index_or earlier i None ≡ Some x → x < i
   look_falls earlier i x is e = falls blocks members numbers (length names) s i x l.bindings (sym (ap (λ (xs : List (Option ℕ)). slice_index_or xs i None) is) ∙ e)
 
-  -- the walk from there comes to a start
+  -- the walk along candidates ends at a head of candidates
   pub look_start : (stack : List ℕ) (earlier : List (Option ℕ)) (n : ℕ) (read at : Option ℕ) → stack ≡ scope_stack.stack.items → earlier ≡ s.earlier.items
       → n < length names → read ≡ get_or s.latest.items n read → Walks members stack earlier read at → IsStart members numbers scope_stack.stack.items s.next n at
   look_start stack earlier n read at is_stack is_earlier within is walk =
@@ -162,14 +162,14 @@ module _ {name : ℕ → List ℕ} {blocks : List Block} {members : List Member}
   look_found n None is start shown = tt
   look_found n (Some i) is start shown =
       let e = l.entered in
-      resolved_found name blocks members names numbers l.numbered scope_stack.stack.items scope_stack.watermark s.next s.latest.items s.earlier.items seen l.ascending_starts e.scope_stack block token e.innermost l.prefix i
+      resolved_found name blocks members names numbers l.numbered scope_stack.stack.items scope_stack.watermark s.next s.latest.items s.earlier.items seen l.sorted e.scope_stack block token e.innermost l.prefix i
       (subst (λ (k : ℕ). IsStart members numbers scope_stack.stack.items s.next k (Some i)) is start) shown
 
   pub look_none : (n : ℕ) (at : Option ℕ) → n ≡ name_number names (name token) → IsStart members numbers scope_stack.stack.items s.next n at → IfNone at (ResolvesToNothing name blocks members (use_in block token))
   look_none n (Some i) is start = tt
   look_none n None is start =
       let e = l.entered in
-      resolved_none name blocks members names numbers l.numbered scope_stack.stack.items scope_stack.watermark s.next s.latest.items s.earlier.items seen l.ascending_starts e.scope_stack block token e.innermost l.prefix
+      resolved_none name blocks members names numbers l.numbered scope_stack.stack.items scope_stack.watermark s.next s.latest.items s.earlier.items seen l.sorted e.scope_stack block token e.innermost l.prefix
       (subst (λ (k : ℕ). IsStart members numbers scope_stack.stack.items s.next k None) is start)
 
 -- bindings with equal fields

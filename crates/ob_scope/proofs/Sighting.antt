@@ -1,4 +1,4 @@
--- Visible members, from member to member and from block to block.
+-- Visible members, when a member is declared or a block is entered.
 use Rattle.std.proofs.Common.{◌≡◌, ℕ, ◌+◌, ◌-◌, ◌<◌, ◌≤◌, ◌⊎◌, inl, inr, List, length, get_or, Option, Some, None, refl, sym, ap, ◌∙◌, subst, arith, ⊎_elim}
 use Rattle.std.specs.Prelude.{slice_get, slice_index, slice_index_or, slice_set, Contains}
 use Rattle.std.specs.Str.{bytes_eq}
@@ -8,23 +8,23 @@ use Rattle.std.proofs.lemmas.List.Sums.{passes_at_first}
 use Rattle.std.proofs.lemmas.Slice.Eq.{bytes_eq-Decides}
 use Rattle.module_table.specs.declared.rows.Block.{Block}
 use Rattle.module_table.specs.Order.{IsIncreasingBy}
-use Rattle.ob_scope.specs.declared.members.Member.{Member}
+use Rattle.scopes.specs.declared.members.Member.{Member}
 use Rattle.text_hash.specs.declared.name.Name.{Name}
-use Rattle.ob_scope.specs.declared.members.Scope.{Scope}
-use Rattle.ob_scope.specs.declared.members.Scope.TheVariants as locations
+use Rattle.scopes.specs.declared.members.Scope.{Scope}
+use Rattle.scopes.specs.declared.members.Scope.TheVariants as locations
 use Rattle.ob_scope.specs.Lookups.{use_in, IsResolved}
 use Rattle.module_table.specs.Blocks.{Encloses, itself}
-use Rattle.ob_scope.specs.Scope.{IsVisible, ResolvesToNothing}
+use Rattle.scopes.specs.Scope.{IsVisible, ResolvesToNothing}
 use Rattle.ob_scope.specs.BindingStates.{IsPrefixBefore}
 use Rattle.ob_scope.specs.Visibility.{name_number, AreInterned, AreVisible, IsIn, IsInnermost, IsLimit, IsNamedAt, IsOpen, IsOpenScope, IsVisibleAt, IsStart}
-use Rattle.ob_scope.proofs.Elements.{contains_slice, slice_contains, slice_there, some_one}
+use Rattle.module_table.proofs.Elements.{contains_slice, slice_contains, slice_there, some_one}
 use Rattle.ob_scope.proofs.Opening.{around_open, open_around}
 
 module _ (blocks : List Block) (members : List Member) (numbers : List ℕ) where
   block_one : (b c : ℕ) → locations.Block b ≡ locations.Block c → b ≡ c
   block_one b c e = cc
 
-  -- the block of a member is one
+  -- a member has one block
   pub one_in : (k b c : ℕ) → IsIn members k b → IsIn members k c → b ≡ c
   one_in k b c p q =
       let same : p.member ≡ q.member = some_one p.member q.member (sym p.there ∙ q.there) in
@@ -80,7 +80,7 @@ module _ (blocks : List Block) (members : List Member) (numbers : List ℕ) wher
           | inr past ↦ absurd (none b (in_at k j b (omega arith) p))
         ]
 
-    -- one start is another
+    -- a later head of candidates is a head of candidates too
     pub seen_start : (n : ℕ) (at : Option ℕ) → n < length latest → IsStart members numbers stack j n at → AreVisible blocks members numbers stack watermark j (slice_set latest n at) earlier
     seen_start n at within start = record {
       begun = s.begun;
@@ -116,7 +116,7 @@ module _ (blocks : List Block) (members : List Member) (numbers : List ℕ) wher
         }
 
     -- a member that is declared in the innermost block
-    module _ (ascending_starts : IsIncreasingBy (λ (b : Block). b.first) blocks) (scope_stack : IsOpen blocks stack watermark) (block : ℕ) (last : IsInnermost stack block) (here : IsIn members j block)
+    module _ (sorted : IsIncreasingBy (λ (b : Block). b.first) blocks) (scope_stack : IsOpen blocks stack watermark) (block : ℕ) (last : IsInnermost stack block) (here : IsIn members j block)
         (within : slice_index numbers j < length latest) (inside : j < length earlier) where
       first : ℕ
       first = slice_index numbers j
@@ -176,7 +176,7 @@ module _ (blocks : List Block) (members : List Member) (numbers : List ℕ) wher
               → IsLimit (slice_index_or (slice_set earlier j (slice_index_or latest (slice_index numbers j) None)) i None) k
           behind_here k i b c before at same p q around =
               let innermost : c ≡ block = one_in j c block (in_at i j c at q) here in
-              let shown = around_open blocks stack scope_stack.chain ascending_starts b block last (subst (λ (x : ℕ). Encloses blocks b x) innermost around) in
+              let shown = around_open blocks stack scope_stack.chain sorted b block last (subst (λ (x : ℕ). Encloses blocks b x) innermost around) in
               rw at (rw (get_or-set_same earlier j (slice_index_or latest (slice_index numbers j) None) None inside)
               ((s.starts (slice_index numbers j)).limit k (record { named = record { below = omega arith; number = same ∙ ap (slice_index numbers) at; block = b; inside = p }; is_open = shown })))
 
@@ -184,7 +184,7 @@ module _ (blocks : List Block) (members : List Member) (numbers : List ℕ) wher
           older_here i h is e = rw is ((s.starts (slice_index numbers j)).some h
               (sym (get_or-set_same earlier j (slice_index_or latest (slice_index numbers j) None) None inside) ∙ ap (λ (x : ℕ). slice_index_or (slice_set earlier j (slice_index_or latest (slice_index numbers j) None)) x None) (sym is) ∙ e))
 
--- nothing is declared yet
+-- no member is declared yet
 pub seen_none : (blocks : List Block) (members : List Member) (numbers stack : List ℕ) (watermark : ℕ) (latest earlier : List (Option ℕ)) → ((n : ℕ) → slice_index_or latest n None ≡ None) → ((i : ℕ) → slice_index_or earlier i None ≡ None)
     → AreVisible blocks members numbers stack watermark 0 latest earlier
 seen_none blocks members numbers stack watermark latest earlier no_latest no_earlier = record {
@@ -197,7 +197,7 @@ seen_none blocks members numbers stack watermark latest earlier no_latest no_ear
 
 -- ---- numbers of names
 
--- texts of one number are one
+-- texts with equal numbers are equal
 same_text : (names : List Name) (a b : List ℕ) → name_number names a ≡ name_number names b → name_number names a < length names → a ≡ b
 same_text names a b e within =
     let x = slice_there names (name_number names a) within in
@@ -205,11 +205,11 @@ same_text names a b e within =
     let second = (bytes_eq-Decides b (get_or names (name_number names b) x.0).bytes.now).0 (passes_at_first (λ (y : Name). bytes_eq b y.bytes.now) names x.0 (rw (← e) within)) in
     first ∙ ap (λ (n : ℕ). (get_or names n x.0).bytes.now) e ∙ sym second
 
--- ---- what a use resolves to
+---- the declaration that a use resolves to
 
 module _ (name : ℕ → List ℕ) (blocks : List Block) (members : List Member) (names : List Name) (numbers : List ℕ) (numbered : AreInterned name members names numbers)
     (stack : List ℕ) (watermark j : ℕ) (latest earlier : List (Option ℕ)) (s : AreVisible blocks members numbers stack watermark j latest earlier)
-    (ascending_starts : IsIncreasingBy (λ (b : Block). b.first) blocks) (scope_stack : IsOpen blocks stack watermark) (block token : ℕ) (last : IsInnermost stack block) (prefix : IsPrefixBefore members j token) where
+    (sorted : IsIncreasingBy (λ (b : Block). b.first) blocks) (scope_stack : IsOpen blocks stack watermark) (block token : ℕ) (last : IsInnermost stack block) (prefix : IsPrefixBefore members j token) where
   -- a declaration visible at the use is visible in the open blocks
   seen_here : (b : ℕ) (e : Member) → IsVisible name blocks members (use_in block token) b e → (k : ℕ) × (slice_get members k ≡ Some e) × IsVisibleAt members numbers stack j (name_number names (name token)) k
   seen_here b e t =
@@ -219,7 +219,7 @@ module _ (name : ℕ → List ℕ) (blocks : List Block) (members : List Member)
         p.1,
         record {
           named = record { below = below; number = numbered.each p.0 e p.1 ∙ ap (name_number names) t.named; block = b; inside = record { member = e; there = p.1; placed = t.placed } };
-          is_open = around_open blocks stack scope_stack.chain ascending_starts b block last t.around;
+          is_open = around_open blocks stack scope_stack.chain sorted b block last t.around;
         },
       )
 

@@ -1,4 +1,4 @@
--- The names in the entries of a table, as members and uses.
+-- The identifiers in the entries of a table, as members and uses.
 use Rattle.std.proofs.Common.{◌≡◌, ℕ, zero, suc, List, [], ◌∷◌, Option, Some, None, refl, sym, ap, ◌∙◌, arith}
 use Rattle.std.specs.Prelude.{◌==◌, Contains, true, false}
 use Rattle.std.proofs.lemmas.Bool.{cases_Bool}
@@ -8,12 +8,12 @@ use Rattle.module_table.specs.declared.rows.DeclGroup.{DeclGroup}
 use Rattle.module_table.specs.Blocks.{AreBlocksContiguous, OccursIn}
 use Rattle.module_table.specs.Blocks as stands
 use Rattle.module_table.specs.Parts.{Rows}
-use Rattle.ob_scope.specs.declared.members.Member.{Member}
-use Rattle.ob_scope.specs.declared.members.Scope.TheVariants.{Block, Record}
-use Rattle.ob_scope.specs.Members.{decl_group_at, declared_members, members_of, scope_of}
+use Rattle.scopes.specs.declared.members.Member.{Member}
+use Rattle.scopes.specs.declared.members.Scope.TheVariants.{Block, Record}
+use Rattle.scopes.specs.Members.{decl_group_at, declared_members, members_of, group_scope}
 use Rattle.ob_scope.specs.WalkOrder.{AreContiguous, IsNameIn, member, use_row}
 
--- what declares a member
+-- the declaration group of a member
 pub record Declares (by : List DeclGroup) (ds : List Declared) (m : Member) : Type 0 where
   pub row : Declared
   pub among : Contains ds row
@@ -21,7 +21,7 @@ pub record Declares (by : List DeclGroup) (ds : List Declared) (m : Member) : Ty
   pub there : Contains by construct
   pub first : construct.first ≡ row.declared_by
   pub number : row.number ≡ m.number
-  pub place : scope_of construct ≡ m.place
+  pub place : group_scope construct ≡ m.place
 
 record Found (by : List DeclGroup) (k : ℕ) (d : DeclGroup) : Type 0 where
   there : Contains by d
@@ -45,7 +45,7 @@ declares by (d ∷ ds) m h = go (λ x. declares by ds m x) (decl_group_at by d.d
     later : Declares by ds m → Declares by (d ∷ ds) m
     later r = (let (i, l, e) = r.among in record { row = r.row; among = (suc i, omega arith, e); construct = r.construct; there = r.there; first = r.first; number = r.number; place = r.place })
 
-    here : (Contains (declared_members by ds) m → Declares by ds m) → (y : DeclGroup) → decl_group_at by d.declared_by ≡ Some y → Contains (record { place = scope_of y; number = d.number; decl_kind = y.decl_kind } ∷ declared_members by ds) m → Declares by (d ∷ ds) m
+    here : (Contains (declared_members by ds) m → Declares by ds m) → (y : DeclGroup) → decl_group_at by d.declared_by ≡ Some y → Contains (record { place = group_scope y; number = d.number; decl_kind = y.decl_kind } ∷ declared_members by ds) m → Declares by (d ∷ ds) m
     here rest y e (zero, l, g) = (let f = found_at by d.declared_by y e in record { row = d; among = (zero, omega arith, refl); construct = y; there = f.there; first = f.first; number = ap (λ (x : Member). x.number) g; place = ap (λ (x : Member). x.place) g })
     here rest y e (suc i, l, g) = later (rest (i, omega arith, g))
 
@@ -53,8 +53,8 @@ declares by (d ∷ ds) m h = go (λ x. declares by ds m x) (decl_group_at by d.d
     go rest None e = later (rest (rw e at h))
     go rest (Some y) e = here rest y e (rw e at h)
 
--- a construct that declares in a block declares no field
-in_block : (y : DeclGroup) (b : ℕ) → scope_of y ≡ Block b → (y.of_record ≡ None) × (y.block ≡ b)
+-- a declaration group in a block declares no field
+in_block : (y : DeclGroup) (b : ℕ) → group_scope y ≡ Block b → (y.of_record ≡ None) × (y.block ≡ b)
 in_block y b e = go y.of_record refl
   where
     go : (o : Option ℕ) → y.of_record ≡ o → (y.of_record ≡ None) × (y.block ≡ b)

@@ -1,15 +1,15 @@
--- Of members none are declared twice, or a first pair is.
+-- Either members have no duplicates, or they have first duplicates.
 use Rattle.std.proofs.Common.{◌≡◌, ℕ, zero, suc, ◌<◌, ◌≤◌, ◌⊎◌, inl, inr, List, length, Some, ap, arith, ⊎_elim}
 use Rattle.std.specs.Prelude.{slice_get}
 use Rattle.std.specs.Str.{bytes_eq}
 use Rattle.std.proofs.lemmas.Bool.{cases_Bool, cases_eq, cases_lt, false≢true}
 use Rattle.std.proofs.lemmas.Option.{slice_get_within}
 use Rattle.std.proofs.lemmas.Slice.Eq.{bytes_eq-Decides}
-use Rattle.ob_scope.specs.declared.members.Member.{Member}
-use Rattle.ob_scope.specs.declared.members.Scope.{Scope}
-use Rattle.ob_scope.specs.declared.members.Scope.TheVariants as locations
-use Rattle.ob_scope.specs.Scope.{AreDuplicates, IsFirstDuplicate, HasNoDuplicates}
-use Rattle.ob_scope.proofs.Elements.{slice_there, some_one}
+use Rattle.scopes.specs.declared.members.Member.{Member}
+use Rattle.scopes.specs.declared.members.Scope.{Scope}
+use Rattle.scopes.specs.declared.members.Scope.TheVariants as locations
+use Rattle.scopes.specs.Scope.{AreDuplicates, IsFirstDuplicate, HasNoDuplicates}
+use Rattle.module_table.proofs.Elements.{slice_there, some_one}
 use Rattle.std.proofs.Common.{sym, ◌∙◌, subst}
 
 same_name : (xs ys : List ℕ) → (xs ≡ ys) ⊎ (xs ≡ ys → ⊥)

@@ -9,19 +9,19 @@ use Rattle.ob_scan.specs.Texts.{text_at}
 use Rattle.module_table.specs.declared.rows.Import.{Import}
 use Rattle.module_table.specs.declared.rows.Used.{Used}
 use Rattle.module_table.specs.Parts.{Rows}
-use Rattle.ob_scope.specs.declared.members.Member.{Member}
+use Rattle.scopes.specs.declared.members.Member.{Member}
 use Rattle.module_table.specs.Order.{IsIncreasingBy}
-use Rattle.ob_scope.specs.Members.{members_of}
-use Rattle.ob_scope.specs.Scope.{HasNoDuplicates}
-use Rattle.ob_scope.specs.Counted.{Counts, IsQualifiedBy, Crosses, HasWeight}
-use Rattle.ob_scope.specs.Scoped.{AliasUses, IsAlias, AreAliases, ModuleScopes, AreScopes}
-use Rattle.ob_scope.specs.Weights.{uses_of_import, uses_for, uses_of_all}
+use Rattle.scopes.specs.Members.{members_of}
+use Rattle.scopes.specs.Scope.{HasNoDuplicates}
+use Rattle.scopes.specs.QualifiedUses.{Counts, IsQualifiedBy, Crosses, HasWeight}
+use Rattle.scopes.specs.Scoped.{AliasUses, IsAlias, AreAliases, ModuleScopes, AreScopes}
+use Rattle.scopes.specs.Weights.{uses_of_import, uses_for, uses_of_all}
 use Rattle.ob_scope.proofs.Ascending.{Ascends, ascends_by}
-use Rattle.ob_scope.proofs.Counting.{counts-none, counts-same, counts-within, counts-either}
-use Rattle.ob_scope.proofs.Elements.{slice_there}
-use Rattle.ob_scope.proofs.Meanings.{at_from_contains, means_once}
+use Rattle.scopes.proofs.Counting.{counts-none, counts-same, counts-within, counts-either}
+use Rattle.module_table.proofs.Elements.{slice_there}
+use Rattle.scopes.proofs.Meanings.{at_from_contains, means_once}
 
--- one of the list has the property
+-- an element of the list has the property
 abbrev pub IsAny : {X : Type 0} → (X → Type 0) → List X → Type 0
 IsAny P [] = ⊥
 IsAny P (x ∷ xs) = P x ⊎ IsAny P xs
@@ -34,13 +34,13 @@ any-at P (y ∷ ys) (suc i) x e p = inr (any-at P ys i x e p)
 any-contained : {X : Type 0} (P : X → Type 0) (xs : List X) (x : X) → Contains xs x → P x → IsAny P xs
 any-contained P xs x c p = let a = at_from_contains xs x c in any-at P xs a.place x a.there p
 
--- that one is a member
+-- the element is a member
 contained : {X : Type 0} (P : X → Type 0) (xs : List X) → IsAny P xs → (x : X) × Contains xs x × P x
 contained P [] h = absurd h
 contained P (y ∷ ys) (inl p) = (y, (0, omega arith, refl), p)
 contained P (y ∷ ys) (inr h) = let c = contained P ys h in (c.0, (suc c.1.0, (let l : c.1.0 < length ys = c.1.1 in omega arith), c.1.2), c.2)
 
--- its number is not below the first
+-- its number is at least that of the first element
 any-above : {X : Type 0} (P : X → Type 0) (f : X → ℕ) (low k : ℕ) (xs : List X) → Ascends f low xs → ((x : X) → P x → f x ≡ k) → IsAny P xs → low ≤ k
 any-above P f low k [] a is h = absurd h
 any-above P f low k (x ∷ xs) a is (inl p) = let e : f x ≡ k = is x p in let l : low ≤ f x = a.0 in omega arith
@@ -63,7 +63,7 @@ counts-total P f uses one low (m ∷ ms) (a ∷ rows) up as_many each =
     (each 0 m a refl refl)
     (counts-total P f uses one (suc m.alias) ms rows up.1 (omega arith) (λ i n b e g. each (suc i) n b e g)))
 
--- ---- a use with a dot is of one alias
+---- a qualified use is a use of one alias
 
 one_alias : (name : ℕ → List ℕ) (r : Rows) (a b : ℕ) (u : Used) → HasNoDuplicates name (members_of r) → IsQualifiedBy name r.blocks (members_of r) a u → IsQualifiedBy name r.blocks (members_of r) b u → a ≡ b
 one_alias name r a b u once p q =
@@ -89,7 +89,7 @@ any_crosses name r imported u h =
     let c = contained (λ m. Of name r imported m u) r.imports h in
     record { item = c.0; is_item = c.1; of = c.2.0; qualified = c.2.1 }
 
--- the items have the numbers of their aliases
+-- the items have the token numbers of their aliases
 items_ascend : (name : ℕ → List ℕ) (r : Rows) (aliases : List AliasUses) → IsIncreasingBy (λ (a : AliasUses). a.alias) aliases → AreAliases name r aliases → Ascends (λ (m : Import). m.alias) 0 r.imports
 items_ascend name r aliases up are =
     ascends_by (λ (m : Import). m.alias) 0 r.imports
@@ -111,7 +111,7 @@ weight_sum name r aliases imported once up are =
     counts-same (λ u. IsAny (λ m. Of name r imported m u) r.imports) (Crosses name r imported) r.uses (uses_of_import aliases imported) (any_crosses name r imported) (crosses_any name r imported)
     sum
 
--- the aliases have no more uses than there are
+-- the aliases have at most as many uses as there are
 pub uses_within : (name : ℕ → List ℕ) (r : Rows) (aliases : List AliasUses) → HasNoDuplicates name (members_of r) → IsIncreasingBy (λ (a : AliasUses). a.alias) aliases →
     AreAliases name r aliases → uses_of_all aliases ≤ length r.uses
 uses_within name r aliases once up are =

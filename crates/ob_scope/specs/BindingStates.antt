@@ -1,7 +1,7 @@
 -- The invariant of the bindings while the uses are resolved in token order.
 use Rattle.std.specs.Prelude.{◌≡◌, ℕ, ◌<◌, ◌≤◌, List, length, slice_get, Some}
 use Rattle.module_table.specs.declared.rows.Block.{Block as BlockRow}
-use Rattle.ob_scope.specs.declared.members.Member.{Member}
+use Rattle.scopes.specs.declared.members.Member.{Member}
 use Rattle.ob_scope.specs.declared.bindings.Bindings.{Bindings}
 use Rattle.ob_scope.specs.Visibility.{AreVisible, IsOpen}
 

@@ -6,30 +6,23 @@ use Rattle.module_table.specs.declared.rows.DeclKind.TheVariants as decl_kinds
 use Rattle.module_table.specs.Order.{AreRowsSorted}
 use Rattle.module_table.specs.Parts.{Rows}
 use Rattle.ob_scope.specs.declared.crossing_uses.Crossing.{Crossing}
-use Rattle.ob_scope.specs.declared.members.Member.{Member}
-use Rattle.ob_scope.specs.Counted.{Crosses}
-use Rattle.ob_scope.specs.Members.{members_of}
-use Rattle.ob_scope.specs.Scoped.{AliasUses, AreScopes, ModuleScopes}
+use Rattle.scopes.specs.declared.members.Member.{Member}
+use Rattle.scopes.specs.QualifiedUses.{Crosses}
+use Rattle.scopes.specs.Members.{members_of}
+use Rattle.scopes.specs.Scoped.{AreScopes, ModuleScopes}
 
 -- the tokens of a use: its head, and the name after the dot
 pub record IsOfUse (u : Used) (c : Crossing) : Type 0 where
   pub first : c.first ≡ u.number
   pub last : u.member ≡ Some c.last
 
--- exactly those of these uses that cross to the module, in order, each by its tokens
+-- the crossings are exactly the tokens of the uses that cross to the module, in order
 pub data AreCrossings (name : ℕ → List ℕ) (rows : Rows) (imported : List ℕ) : List Used → List Crossing → Type 0 where
   no_use : AreCrossings name rows imported [] []
   crossing : {u : Used} {us : List Used} {c : Crossing} {cs : List Crossing} → Crosses name rows imported u → IsOfUse u c → AreCrossings name rows imported us cs → AreCrossings name rows imported (u ∷ us) (c ∷ cs)
   other_use : {u : Used} {us : List Used} {cs : List Crossing} → (Crosses name rows imported u → ⊥) → AreCrossings name rows imported us cs → AreCrossings name rows imported (u ∷ us) cs
 
 -- ---- look-ups
-
--- this token declares an alias of the module
-pub record IsAliasFor (s : ModuleScopes) (alias : ℕ) (imported : List ℕ) : Type 0 where
-  pub row : AliasUses
-  pub is_row : Contains s.aliases row
-  pub declared : row.alias ≡ alias
-  pub of : row.imported ≡ imported
 
 -- this token declares an import
 pub record IsImportAt (members : List Member) (number : ℕ) : Type 0 where
@@ -38,7 +31,7 @@ pub record IsImportAt (members : List Member) (number : ℕ) : Type 0 where
   pub declared : member.number ≡ number
   pub an_import : member.decl_kind ≡ decl_kinds.Import
 
--- sorted entries, their members and their scopes
+-- the scopes and the members belong to these entries, which are sorted
 pub record AreScopesOf (bytes : List ℕ) (ts : List Token) (rows : Rows) (members : List Member) (s : ModuleScopes) : Type 0 where
   pub scopes : AreScopes bytes ts rows s
   pub ordered : AreRowsSorted rows

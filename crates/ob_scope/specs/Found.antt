@@ -8,11 +8,11 @@ use Rattle.module_table.specs.declared.rows.Import.{Import}
 use Rattle.module_table.specs.declared.rows.Used.{Used}
 use Rattle.module_table.specs.declared.rows.DeclKind.{DeclKind}
 use Rattle.module_table.specs.declared.rows.DeclKind.TheVariants as decl_kinds
-use Rattle.ob_scope.specs.declared.meaning.Resolution.{Resolution}
-use Rattle.ob_scope.specs.declared.members.Member.{Member}
-use Rattle.ob_scope.specs.declared.module_scopes.Alias.{Alias}
-use Rattle.ob_scope.specs.Scope.{ResolvesTo}
-use Rattle.ob_scope.specs.Counted.{Counts, IsQualifiedBy}
+use Rattle.scopes.specs.declared.meaning.Resolution.{Resolution}
+use Rattle.scopes.specs.declared.members.Member.{Member}
+use Rattle.scopes.specs.declared.module_scopes.Alias.{Alias}
+use Rattle.scopes.specs.Scope.{ResolvesTo}
+use Rattle.scopes.specs.QualifiedUses.{Counts, IsQualifiedBy}
 use Rattle.module_table.specs.Order.{IsIncreasingBy}
 
 -- one of the first k uses has the token `used` and means the declaration with the token `declared`
@@ -32,7 +32,7 @@ pub record AreMeant (name : ℕ → List ℕ) (blocks : List Block) (members : L
   pub all : (used declared : ℕ) → MeansBefore name blocks members uses k used declared → (i : ℕ) × (slice_get rows i ≡ Some (record { used = used; declared = declared }))
   pub ordered : IsIncreasingBy (λ (m : Resolution). m.used) rows
 
--- for each member the number of the first k uses that it qualifies
+-- for each member, how many of the first k uses it qualifies; no count is above k
 pub record AreCounted (name : ℕ → List ℕ) (blocks : List Block) (members : List Member) (uses : List Used) (k : ℕ) (counts : List ℕ) : Type 0 where
   pub as_many : length counts ≡ length members
   pub small : (i : ℕ) → slice_index counts i ≤ k

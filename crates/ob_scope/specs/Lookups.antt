@@ -3,9 +3,9 @@ use Rattle.std.specs.Prelude.{◌≡◌, ℕ, ◌<◌, List, slice_get, Some, No
 use Rattle.module_table.specs.declared.rows.Block.{Block as BlockRow}
 use Rattle.module_table.specs.declared.rows.Used.{Used}
 use Rattle.module_table.specs.declared.rows.DeclKind.TheVariants as decl_kinds
-use Rattle.ob_scope.specs.declared.members.Member.{Member}
-use Rattle.ob_scope.specs.declared.members.Scope.TheVariants.{Block}
-use Rattle.ob_scope.specs.Scope.{ResolvesTo, Resolves}
+use Rattle.scopes.specs.declared.members.Member.{Member}
+use Rattle.scopes.specs.declared.members.Scope.TheVariants.{Block}
+use Rattle.scopes.specs.Scope.{ResolvesTo, Resolves}
 
 -- Below, `name` maps a token number to the text of that token.
 

@@ -3,10 +3,10 @@ use Rattle.std.specs.Prelude.{◌≡◌, ◌⊎◌, ℕ, ◌+◌, ◌-◌, ◌<�
 use Rattle.std.specs.List.{position_or_len}
 use Rattle.std.specs.Str.{bytes_eq}
 use Rattle.module_table.specs.declared.rows.Block.{Block as BlockRow}
-use Rattle.ob_scope.specs.declared.members.Member.{Member}
+use Rattle.scopes.specs.declared.members.Member.{Member}
 use Rattle.text_hash.specs.declared.name.Name.{Name}
-use Rattle.ob_scope.specs.declared.members.Scope.{Scope}
-use Rattle.ob_scope.specs.declared.members.Scope.TheVariants.{Block, Record}
+use Rattle.scopes.specs.declared.members.Scope.{Scope}
+use Rattle.scopes.specs.declared.members.Scope.TheVariants.{Block, Record}
 use Rattle.module_table.specs.Blocks.{Encloses, IsDirectlyIn}
 
 -- ---- interned names
@@ -28,7 +28,7 @@ pub record AreOpen (blocks : List BlockRow) (stack : List ℕ) : Type 0 where
   pub outermost : (b c : ℕ) → slice_get stack 0 ≡ Some b → IsDirectlyIn blocks b c → ⊥
   pub inside : (i b c : ℕ) → slice_get stack i ≡ Some b → slice_get stack (i + 1) ≡ Some c → IsDirectlyIn blocks c b
 
--- the open blocks; all blocks opened so far begin before the token `watermark`
+-- the stack of open blocks, each of which begins before the token `watermark`
 pub record IsOpen (blocks : List BlockRow) (stack : List ℕ) (watermark : ℕ) : Type 0 where
   pub chain : AreOpen blocks stack
   pub begun : (b : ℕ) → Contains stack b → b < watermark
@@ -60,7 +60,7 @@ pub record IsNamedAt (members : List Member) (numbers : List ℕ) (j n k : ℕ) 
   pub block : ℕ
   pub inside : IsIn members k block
 
--- a member as above whose block is open
+-- the member with index k is one that `IsNamedAt` describes, and its block is open
 pub record IsVisibleAt (members : List Member) (numbers stack : List ℕ) (j n k : ℕ) : Type 0 where
   pub named : IsNamedAt members numbers j n k
   pub is_open : Contains stack named.block

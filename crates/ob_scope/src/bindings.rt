@@ -4,20 +4,20 @@
 ghost use Rattle.std.specs.Prelude.{◌≡◌, ◌≤◌, ◌<◌, false, true, ℕ, Some, None, List, Option, length, slice_get, slice_set, slice_index, slice_index_or, IfOk, IfSome, IfNone, OnOk, ◌+◌};
 ghost use Rattle.module_table.specs.declared.rows.Block.{Block};
 ghost use Rattle.module_table.specs.Order.{IsIncreasingBy};
-ghost use Rattle.ob_scope.specs.declared.members.Member.{Member};
+ghost use Rattle.scopes.specs.declared.members.Member.{Member};
 ghost use Rattle.ob_scope.specs.Lookups.{use_in, IsResolved};
-ghost use Rattle.ob_scope.specs.Scope.{ResolvesToNothing};
+ghost use Rattle.scopes.specs.Scope.{ResolvesToNothing};
 ghost use Rattle.ob_scope.specs.BindingStates.{IsPrefixBefore, AreBindings};
 ghost use Rattle.ob_scope.specs.Visibility.{name_number, AreInterned, AreVisible, IsOpenScope, IsStart};
 ghost use Rattle.ob_scope.specs.WalkOrder.{IsNameIn, IsOnWalk};
 ghost use Rattle.module_table.specs.declared.rows.Used.{Used};
 ghost use Rattle.ob_scan.specs.Texts.{text_at};
 
-use crate::members::{Member, Scope};
 use crate::numbering::Interner;
-use crate::scope_stack::{ScopeStack, enter, is_open};
+use crate::scope_stack::{ScopeStack, enter_block, is_open};
 use module_table::Block;
 use ob_scan::TokenTexts;
+use scopes::{Member, Scope};
 use std::alloc::{AllocError, Global};
 
 /// The bindings in the open blocks.
@@ -33,7 +33,7 @@ pub(crate) struct Bindings {
 }
 
 /// A list of `count` empty links.
-fn no_members(alloc: Global, count: usize) -> Result<Vec<Option<usize>>, AllocError>
+fn empty_links(alloc: Global, count: usize) -> Result<Vec<Option<usize>>, AllocError>
     ensures len { IfOk result (λ v. length v.items ≡ count) }
     ensures none { IfOk result (λ v. (i : ℕ) → slice_index_or v.items i None ≡ None) }
 {
@@ -45,7 +45,7 @@ fn no_members(alloc: Global, count: usize) -> Result<Vec<Option<usize>>, AllocEr
 }
 
 /// The bindings before the first token.
-pub(crate) fn no_bindings(
+pub(crate) fn empty_bindings(
     alloc: Global,
     names: usize,
     members: usize,
@@ -54,8 +54,8 @@ pub(crate) fn no_bindings(
     ensures watermark { IfOk result (λ s. s.open.watermark ≡ 0) }
     ensures bindings { IfOk result (λ s. (blocks : List Block) (ds : List Member) (numbers : List ℕ) → length ds ≡ members → AreBindings blocks ds numbers names s) }
 {
-    let latest = no_members(alloc, names)?;
-    let earlier = no_members(alloc, members)?;
+    let latest = empty_links(alloc, names)?;
+    let earlier = empty_links(alloc, members)?;
     let stack = Vec::new(alloc);
     Ok(Bindings {
         open: ScopeStack {
@@ -75,7 +75,7 @@ fn latest_visible(
     earlier: &[Option<usize>],
     from: Option<usize>,
 ) -> Option<usize>
-    requires ascending_starts { IsIncreasingBy (λ (b : ℕ). b) stack.now }
+    requires sorted { IsIncreasingBy (λ (b : ℕ). b) stack.now }
     requires as_many { length earlier.now ≡ length members.now }
     requires within { IfSome from (λ i. i < length members.now) }
     requires falls { (i h : ℕ) → slice_index_or earlier.now i None ≡ Some h → h < i }
@@ -94,7 +94,7 @@ fn latest_visible(
 }
 
 /// Makes a member the latest candidate for its name.
-fn bind(bindings: &mut Bindings, number: usize, at: usize)
+fn bind_name(bindings: &mut Bindings, number: usize, at: usize)
     requires number { number < length bindings.old.latest.items }
     requires member { at < length bindings.old.earlier.items }
     ensures open { bindings.new.open ≡ bindings.old.open }
@@ -126,8 +126,8 @@ fn declare_member(
 {
     let at = bindings.next;
     if let Scope::Block(block) = members[at].place {
-        enter(&mut bindings.open, blocks, block)?;
-        bind(bindings, numbers[at], at);
+        enter_block(&mut bindings.open, blocks, block)?;
+        bind_name(bindings, numbers[at], at);
     }
     bindings.next = at + 1;
     Ok(())
@@ -145,7 +145,7 @@ fn is_before_token(members: &[Member], place: usize, token: u32) -> bool
 }
 
 /// Declares all members before this token.
-fn declare_before(
+fn declare_members_before(
     bindings: &mut Bindings,
     blocks: &[Block],
     members: &[Member],
@@ -196,8 +196,8 @@ pub(crate) fn resolve_name(
     ensures found { IfOk result (λ at. IfSome at (IsResolved (text_at text.now.bytes.now text.now.tokens.now) blocks.now members.now block token)) }
     ensures none { IfOk result (λ at. IfNone at (ResolvesToNothing (text_at text.now.bytes.now text.now.tokens.now) blocks.now members.now (use_in block token))) }
 {
-    declare_before(bindings, blocks, members, named.numbers.as_slice(), token)?;
-    enter(&mut bindings.open, blocks, block)?;
+    declare_members_before(bindings, blocks, members, named.numbers.as_slice(), token)?;
+    enter_block(&mut bindings.open, blocks, block)?;
     let Some(number) = number else {
         return Ok(None);
     };

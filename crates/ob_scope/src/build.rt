@@ -6,29 +6,31 @@ ghost use Rattle.module_table.specs.Tables.{rows_in};
 ghost use Rattle.module_table.specs.Parts.{Rows};
 ghost use Rattle.ob_scope.specs.Found.{AreAliasesOf, AreCounted, AreMeant, IsCountOf};
 ghost use Rattle.module_table.specs.Trees.{AreTreeRows};
-ghost use Rattle.ob_scope.specs.Identified.{AreNames, IsIdentifier};
+ghost use Rattle.scopes.specs.IdentifierNames.{AreNames, IsIdentifier};
 ghost use Rattle.module_table.specs.Order.{AreRowsSorted, IsIncreasingBy};
-ghost use Rattle.ob_scope.specs.Members.{members_of};
-ghost use Rattle.ob_scope.specs.Locations.{IsIndexFault};
-ghost use Rattle.ob_scope.specs.Scope.{HasNoDuplicates};
-ghost use Rattle.ob_scope.specs.Scoped.{AreScopes, IsScopeFault};
+ghost use Rattle.scopes.specs.Members.{members_of};
+ghost use Rattle.ob_scope.specs.MemberIndex.{IsIndexFault};
+ghost use Rattle.scopes.specs.Scope.{HasNoDuplicates};
+ghost use Rattle.scopes.specs.Scoped.{AreScopes};
+ghost use Rattle.ob_scope.specs.Faults.{IsScopeFault};
 ghost use Rattle.ob_scope.specs.Visibility.{AreInterned};
 ghost use Rattle.ob_scope.specs.WalkOrder.{AreContiguous};
-ghost use Rattle.ob_scope.specs.declared.members.Member.{Member};
+ghost use Rattle.scopes.specs.declared.members.Member.{Member};
 
-use crate::distinct::are_distinct;
-use crate::locations::{IndexFault, build_index};
-use crate::members::{Member, Scope, declared_members};
+use crate::ScopeFault;
+use crate::distinct::are_distinct_by_order;
+use crate::member_index::{IndexFault, build_member_index};
+use crate::members::declared_members;
 use crate::numbering::{Interner, empty_interner, intern_rest};
 use crate::uses::{Resolutions, resolve_uses};
-use crate::{Alias, ScopeFault, Scopes};
 use module_table::{Import, Table, index_of};
 use ob_scan::{Token, TokenTexts};
+use scopes::{Alias, Member, Scope, Scopes};
 use std::alloc::{AllocError, Global};
 
 /// The number of uses that the alias declared by this token qualifies, from the counts of all members.
-fn count_of_alias(members: &[Member], counts: &[u64], alias: u32) -> u64
-    requires ascending_starts { IsIncreasingBy (λ (m : Member). m.number) members.now }
+fn alias_use_count(members: &[Member], counts: &[u64], alias: u32) -> u64
+    requires sorted { IsIncreasingBy (λ (m : Member). m.number) members.now }
     requires as_many { length counts.now ≡ length members.now }
     ensures { IsCountOf members.now counts.now alias result }
 {
@@ -47,7 +49,7 @@ fn build_aliases(
     imports: &[Import],
 ) -> Result<Vec<Alias>, AllocError>
     requires in_text { AreInText text.now.bytes.now text.now.tokens.now }
-    requires ascending_starts { IsIncreasingBy (λ (m : Member). m.number) members.now }
+    requires sorted { IsIncreasingBy (λ (m : Member). m.number) members.now }
     requires as_many { length counts.now ≡ length members.now }
     ensures { IfOk result (λ v. AreAliasesOf (text_at text.now.bytes.now text.now.tokens.now) members.now counts.now imports.now (length imports.now) v.items) }
 {
@@ -57,13 +59,13 @@ fn build_aliases(
         aliases.push(Alias {
             decl: item.alias,
             module: text.string(alloc, item.imported)?,
-            uses: count_of_alias(members, counts, item.alias),
+            uses: alias_use_count(members, counts, item.alias),
         })?;
     }
     Ok(aliases)
 }
 
-/// The fault of the first duplicates.
+/// The scope fault for an index fault: the first duplicates with their name and offsets, or `Memory`.
 fn duplicate_fault(
     alloc: Global,
     text: &TokenTexts,
@@ -123,15 +125,11 @@ fn assemble_scopes(
         table.imports(),
     )?;
     let name = text.string(alloc, 1)?;
-    Ok(Scopes {
-        name,
-        meanings: found.meanings,
-        aliases,
-    })
+    Ok(Scopes::new(name, found.meanings, aliases))
 }
 
-/// Returns a fault if two members are duplicates. The hash table of all members is built only if the test by order fails, and before
-/// further names are interned.
+/// Returns a fault if two members are duplicates. The hash table of all members is built only if the order of their scopes doesn't show
+/// that they are distinct. Members up to the first one out of order are interned.
 fn reject_duplicates<'a>(
     alloc: Global,
     text: &TokenTexts<'a>,
@@ -146,17 +144,17 @@ fn reject_duplicates<'a>(
     ensures fault { IfErr result (λ fault. (rows : Rows) → members.now ≡ members_of rows → AreNames (text_at text.now.bytes.now text.now.tokens.now) rows
         → IsScopeFault text.now.bytes.now text.now.tokens.now rows fault) }
 {
-    if are_distinct(alloc, text, members, named)? {
+    if are_distinct_by_order(alloc, text, members, named)? {
         return Ok(());
     }
-    match build_index(alloc, text, *named.names.hasher(), members) {
+    match build_member_index(alloc, text, *named.names.hasher(), members) {
         Ok(_) => Ok(()),
         Err(fault) => Err(duplicate_fault(alloc, text, members, fault)?),
     }
 }
 
 /// Resolves all uses of a module without duplicates, some of whose names are interned.
-fn resolve_all<'a>(
+fn build_scopes<'a>(
     alloc: Global,
     text: &TokenTexts<'a>,
     table: &Table,
@@ -196,7 +194,7 @@ fn checked_scopes(
 {
     let mut named = empty_interner(alloc, text, members.len())?;
     match reject_duplicates(alloc, text, members, &mut named) {
-        Ok(()) => Ok(resolve_all(alloc, text, table, members, &mut named)?),
+        Ok(()) => Ok(build_scopes(alloc, text, table, members, &mut named)?),
         Err(fault) => Err(fault),
     }
 }

@@ -5,15 +5,16 @@ ghost use Rattle.ob_scan.specs.Texts.{text_at};
 ghost use Rattle.module_table.specs.Tables.{rows_in};
 ghost use Rattle.module_table.specs.Order.{IsIncreasingBy};
 ghost use Rattle.module_table.specs.Parts.{Rows};
-ghost use Rattle.ob_scope.specs.declared.members.Member.{Member};
-ghost use Rattle.ob_scope.specs.Counted.{Crosses};
-ghost use Rattle.ob_scope.specs.Crossings.{AreCrossings, AreScopesOf, IsAliasFor, IsImportAt, IsOfUse};
-ghost use Rattle.ob_scope.specs.Scoped.{AreScopes};
+ghost use Rattle.scopes.specs.declared.members.Member.{Member};
+ghost use Rattle.scopes.specs.QualifiedUses.{Crosses};
+ghost use Rattle.ob_scope.specs.Crossings.{AreCrossings, AreScopesOf, IsImportAt, IsOfUse};
+ghost use Rattle.scopes.specs.Aliases.{IsAliasFor};
+ghost use Rattle.scopes.specs.Scoped.{AreScopes};
 
-use crate::Scopes;
-use crate::members::{Member, declared_members};
+use crate::members::declared_members;
 use crate::uses::is_import;
 use module_table::{Table, Used, index_of};
+use scopes::{Member, Scopes};
 use std::alloc::{AllocError, Global};
 
 /// A use that crosses an import: a qualified name `alias.member`, by its tokens.
@@ -48,7 +49,12 @@ fn is_alias_for(scopes: &Scopes, members: &[Member], number: u32, imported: &str
 }
 
 /// The tokens of a use if it crosses to the module named `imported`.
-fn crossing_of(scopes: &Scopes, members: &[Member], used: Used, imported: &str) -> Option<Crossing>
+fn find_crossing(
+    scopes: &Scopes,
+    members: &[Member],
+    used: Used,
+    imported: &str,
+) -> Option<Crossing>
     requires { IsIncreasingBy (λ (m : Member). m.number) members.now }
     ensures tokens { IfSome result (IsOfUse used) }
     ensures found { IfSome result (λ _. (bytes : List ℕ) (ts : List Token) (rows : Rows) → AreScopesOf bytes ts rows members.now scopes.now → Contains rows.uses used → Crosses (text_at bytes ts) rows imported.now used) }
@@ -66,8 +72,8 @@ fn crossing_of(scopes: &Scopes, members: &[Member], used: Used, imported: &str) 
     }
 }
 
-/// The uses that cross to the module named `imported`, in token order: those that one of its aliases qualifies (Oberon-07 report, section
-/// 11). The scopes must be those of the table; otherwise nothing is promised. Returns `AllocError` if an allocation fails.
+/// The uses that cross to the module named `imported`, in token order: the uses that one of the module's aliases qualifies (Oberon-07
+/// report, section 11). If the scopes aren't those of the table, nothing is promised. Returns `AllocError` if an allocation fails.
 pub fn crossings(
     alloc: Global,
     table: &Table,
@@ -82,7 +88,7 @@ pub fn crossings(
     let members = members.as_slice();
     let mut found = Vec::new(alloc);
     for used in table.uses() {
-        if let Some(crossing) = crossing_of(scopes, members, *used, imported) {
+        if let Some(crossing) = find_crossing(scopes, members, *used, imported) {
             found.push(crossing)?;
         }
     }

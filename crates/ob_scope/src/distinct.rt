@@ -2,14 +2,14 @@
 ghost use Rattle.std.specs.Prelude.{◌≡◌, [], true, length, take, IfOk, IfSome, OnOk};
 ghost use Rattle.ob_scan.specs.Spelling.{AreInText};
 ghost use Rattle.ob_scan.specs.Texts.{text_at};
-ghost use Rattle.ob_scope.specs.Distinct.{IsPassed};
-ghost use Rattle.ob_scope.specs.Scope.{HasNoDuplicates};
+ghost use Rattle.ob_scope.specs.Distinct.{IsBelowBound};
+ghost use Rattle.scopes.specs.Scope.{HasNoDuplicates};
 ghost use Rattle.ob_scope.specs.Visibility.{AreInterned};
-ghost use Rattle.ob_scope.specs.declared.members.Scope.{Scope as Place};
+ghost use Rattle.scopes.specs.declared.members.Scope.{Scope as Place};
 
-use crate::members::{Member, Scope};
 use crate::numbering::{Interner, intern_member};
 use ob_scan::TokenTexts;
+use scopes::{Member, Scope};
 use std::alloc::{AllocError, Global};
 
 /// Exclusive upper bounds for the start tokens of the scopes of a name: of its blocks, and of its records.
@@ -20,10 +20,10 @@ pub(crate) struct StartBounds {
 }
 
 /// Advances the bound past the scope; `None` if the scope starts before the bound and so might be a repetition.
-fn advance(passed: StartBounds, place: Scope) -> Option<StartBounds>
-    ensures new { IfSome result (λ _. IsPassed passed place → ⊥) }
-    ensures passed { IfSome result (λ r. IsPassed r place) }
-    ensures kept { IfSome result (λ r. (p : Place) → IsPassed passed p → IsPassed r p) }
+fn raise_bound(passed: StartBounds, place: Scope) -> Option<StartBounds>
+    ensures new { IfSome result (λ _. IsBelowBound passed place → ⊥) }
+    ensures passed { IfSome result (λ r. IsBelowBound r place) }
+    ensures kept { IfSome result (λ r. (p : Place) → IsBelowBound passed p → IsBelowBound r p) }
 {
     let StartBounds { block, record } = passed;
     match place {
@@ -46,7 +46,7 @@ fn advance(passed: StartBounds, place: Scope) -> Option<StartBounds>
 
 /// Interns the names of members in order, up to the first whose scope starts before the bound of its name. Returns whether all members
 /// passed.
-fn ascending_starts<'a>(
+fn intern_ascending<'a>(
     text: &TokenTexts<'a>,
     members: &[Member],
     named: &mut Interner<'a>,
@@ -61,7 +61,7 @@ fn ascending_starts<'a>(
 {
     for i in 0..members.len() {
         let number = intern_member(text, members, named, i)?;
-        match advance(passed[number], members[i].place) {
+        match raise_bound(passed[number], members[i].place) {
             Some(next) => passed[number] = next,
             None => return Ok(false),
         }
@@ -70,7 +70,7 @@ fn ascending_starts<'a>(
 }
 
 /// Whether the order of scopes shows that no two members are duplicates; `false` leaves it open. Interns the names that it has tested.
-pub(crate) fn are_distinct<'a>(
+pub(crate) fn are_distinct_by_order<'a>(
     alloc: Global,
     text: &TokenTexts<'a>,
     members: &[Member],
@@ -87,5 +87,5 @@ pub(crate) fn are_distinct<'a>(
         record: 0,
     };
     let mut passed = vec![in alloc; none; members.len()]?;
-    ascending_starts(text, members, named, passed.as_mut_slice())
+    intern_ascending(text, members, named, passed.as_mut_slice())
 }

@@ -7,14 +7,14 @@ ghost use Rattle.module_table.specs.declared.rows.Declared.{Declared};
 ghost use Rattle.module_table.specs.declared.rows.Used.{Used};
 ghost use Rattle.module_table.specs.Parts.{Rows};
 ghost use Rattle.ob_scope.specs.declared.crossing_uses.Crossing.{Crossing};
-ghost use Rattle.ob_scope.specs.declared.members.Member.{Member};
-ghost use Rattle.ob_scope.specs.Counted.{HasWeight};
+ghost use Rattle.scopes.specs.declared.members.Member.{Member};
+ghost use Rattle.scopes.specs.QualifiedUses.{HasWeight};
 ghost use Rattle.ob_scope.specs.Crossings.{AreCrossings};
 ghost use Rattle.module_table.specs.Order.{IsIncreasingBy};
-ghost use Rattle.ob_scope.specs.Members.{members_of};
-ghost use Rattle.ob_scope.specs.Scope.{IsFirstDuplicate, ResolvesTo, HasNoDuplicates};
-ghost use Rattle.ob_scope.specs.Scoped.{AliasUses, AreScopes, ModuleScopes};
-ghost use Rattle.ob_scope.specs.Weights.{uses_of_import, uses_of_all};
+ghost use Rattle.scopes.specs.Members.{members_of};
+ghost use Rattle.scopes.specs.Scope.{IsFirstDuplicate, ResolvesTo, HasNoDuplicates};
+ghost use Rattle.scopes.specs.Scoped.{AliasUses, AreScopes, ModuleScopes};
+ghost use Rattle.scopes.specs.Weights.{uses_of_import, uses_of_all};
 
 /// If there are no duplicates, a use means at most one declaration.
 pub fn one_meaning()
@@ -39,7 +39,7 @@ pub fn some_fault()
 /// The members are sorted by token number if the declared identifiers are; then a token declares at most one member.
 pub fn one_declared()
     // The members are sorted by token number.
-    ensures ascending_starts { (rows : Rows) → IsIncreasingBy (λ (d : Declared). d.number) rows.declared → IsIncreasingBy (λ (m : Member). m.number) (members_of rows) }
+    ensures sorted { (rows : Rows) → IsIncreasingBy (λ (d : Declared). d.number) rows.declared → IsIncreasingBy (λ (m : Member). m.number) (members_of rows) }
     // A token declares at most one member.
     ensures one { (rows : Rows) (d e : Member) → IsIncreasingBy (λ (d : Declared). d.number) rows.declared →
         Contains (members_of rows) d → Contains (members_of rows) e → d.number ≡ e.number → d ≡ e }

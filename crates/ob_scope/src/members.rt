@@ -1,41 +1,17 @@
-//! The members of a module: its declared identifiers, each with its scope.
+//! Finds the members of a module: its declared identifiers, each with its scope.
 ghost use Rattle.std.specs.Prelude.{◌≡◌, true, IfNone, IfOk, IfSome};
 ghost use Rattle.module_table.specs.declared.rows.DeclGroup.{DeclGroup};
-ghost use Rattle.ob_scope.specs.declared.members.Member.{Member};
+ghost use Rattle.scopes.specs.declared.members.Member.{Member};
 ghost use Rattle.module_table.specs.Order.{IsIncreasingBy, HasNoneBy, IsIndexBy};
-ghost use Rattle.ob_scope.specs.Members.{decl_group_at, declared_member, declared_members, scope_of};
+ghost use Rattle.scopes.specs.Members.{decl_group_at, declared_member, declared_members, group_scope};
 
-use module_table::{DeclGroup, DeclKind, Declared, Keyed, index_of};
+use module_table::{DeclGroup, Declared, index_of};
+use scopes::{Member, Scope};
 use std::alloc::{AllocError, Global};
 
-/// The scope of a declared identifier.
-#[derive(Clone, Copy, PartialEq, Eq, Hash)]
-pub enum Scope {
-    /// The block with this first token; the module's block is 0.
-    Block(u32),
-    /// The record with this RECORD keyword.
-    Record(u32),
-}
-
-/// A declared identifier, by its token number, with its scope and kind.
-#[derive(Clone, Copy)]
-pub struct Member {
-    pub place: Scope,
-    pub number: u32,
-    pub decl_kind: DeclKind,
-}
-
-impl Keyed for Member {
-    ghost number_in = { λ member. member.number };
-
-    fn key(&self) -> u32 {
-        self.number
-    }
-}
-
 /// The scope of the identifiers of a declaration group.
-fn scope_of(by: DeclGroup) -> Scope
-    ensures { result ≡ scope_of by }
+fn group_scope(by: DeclGroup) -> Scope
+    ensures { result ≡ group_scope by }
 {
     match by.of_record {
         None => Scope::Block(by.block),
@@ -44,7 +20,7 @@ fn scope_of(by: DeclGroup) -> Scope
 }
 
 /// Whether the declaration group with this index begins with this token.
-fn begins_at(decl_groups: &[DeclGroup], at: usize, first: u32) -> bool
+fn group_begins_at(decl_groups: &[DeclGroup], at: usize, first: u32) -> bool
     ensures { result ≡ true → IsIndexBy (λ (d : DeclGroup). d.first) decl_groups.now first at }
 {
     match decl_groups.get(at) {
@@ -54,16 +30,16 @@ fn begins_at(decl_groups: &[DeclGroup], at: usize, first: u32) -> bool
 }
 
 /// The index of the declaration group that begins with this token. Tries the hint and the index after it, then a binary search.
-fn index_by_hint(decl_groups: &[DeclGroup], cursor: usize, first: u32) -> Option<usize>
+fn group_index_by_hint(decl_groups: &[DeclGroup], cursor: usize, first: u32) -> Option<usize>
     requires { IsIncreasingBy (λ (d : DeclGroup). d.first) decl_groups.now }
     ensures found { IfSome result (IsIndexBy (λ (d : DeclGroup). d.first) decl_groups.now first) }
     ensures none { IfNone result (HasNoneBy (λ (d : DeclGroup). d.first) decl_groups.now first) }
 {
-    if begins_at(decl_groups, cursor, first) {
+    if group_begins_at(decl_groups, cursor, first) {
         return Some(cursor);
     }
     let next = cursor.saturating_add(1);
-    if begins_at(decl_groups, next, first) {
+    if group_begins_at(decl_groups, next, first) {
         return Some(next);
     }
     index_of(decl_groups, first)
@@ -74,7 +50,7 @@ fn decl_group_at(decl_groups: &[DeclGroup], cursor: &mut usize, first: u32) -> O
     requires { IsIncreasingBy (λ (d : DeclGroup). d.first) decl_groups.now }
     ensures { result ≡ decl_group_at decl_groups.now first }
 {
-    let at = index_by_hint(decl_groups, *cursor, first)?;
+    let at = group_index_by_hint(decl_groups, *cursor, first)?;
     *cursor = at;
     Some(decl_groups[at])
 }
@@ -90,7 +66,7 @@ fn declared_member(
 {
     match decl_group_at(decl_groups, cursor, declared.declared_by) {
         Some(by) => Some(Member {
-            place: scope_of(by),
+            place: group_scope(by),
             number: declared.number,
             decl_kind: by.decl_kind,
         }),

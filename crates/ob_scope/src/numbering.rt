@@ -4,9 +4,9 @@ ghost use Rattle.ob_scan.specs.Spelling.{AreInText};
 ghost use Rattle.ob_scan.specs.Texts.{text_at};
 ghost use Rattle.ob_scope.specs.Visibility.{name_number, AreInterned};
 
-use crate::members::Member;
 use indexmap::IndexSet;
 use ob_scan::TokenTexts;
+use scopes::Member;
 use std::alloc::{AllocError, Global};
 use text_hash::{Name, Seed};
 

@@ -5,22 +5,22 @@ ghost use Rattle.ob_scan.specs.Texts.{text_at};
 ghost use Rattle.module_table.specs.declared.rows.Block.{Block};
 ghost use Rattle.module_table.specs.Order.{IsIncreasingBy};
 ghost use Rattle.indexmap.specs.IndexMap.{get};
-ghost use Rattle.ob_scope.specs.Forward.{type_key_eq, AreTypes};
+ghost use Rattle.ob_scope.specs.BlockTypes.{type_key_eq, AreTypes};
 ghost use Rattle.ob_scope.specs.Lookups.{IsMeant, IsTypeAfter, MeansNothing};
-ghost use Rattle.ob_scope.specs.declared.members.Member.{Member};
+ghost use Rattle.scopes.specs.declared.members.Member.{Member};
 ghost use Rattle.module_table.specs.Blocks.{IsDirectlyIn};
-ghost use Rattle.ob_scope.specs.Scope.{HasNoDuplicates};
+ghost use Rattle.scopes.specs.Scope.{HasNoDuplicates};
 ghost use Rattle.ob_scope.specs.BindingStates.{IsPrefixBefore, AreBindings};
 ghost use Rattle.ob_scope.specs.Visibility.{name_number, AreInterned};
 ghost use Rattle.ob_scope.specs.WalkOrder.{IsNameIn, IsOnWalk};
 ghost use Rattle.module_table.specs.declared.rows.Used.{Used};
 
 use crate::bindings::{Bindings, resolve_name};
-use crate::members::Member;
 use crate::numbering::{Interner, name_number};
 use indexmap::IndexMap;
 use module_table::{Block, Used, index_of};
 use ob_scan::TokenTexts;
+use scopes::Member;
 use std::alloc::AllocError;
 use text_hash::Seed;
 
@@ -36,7 +36,7 @@ fn type_index(
 }
 
 /// The index of the type named like this token that this block declares after the token.
-fn later_type(
+fn find_later_type(
     text: &TokenTexts,
     types: &IndexMap<(u32, usize), usize, Seed>,
     members: &[Member],
@@ -116,5 +116,5 @@ pub(crate) fn meaning(
     if !used.is_target {
         return Ok(None);
     }
-    Ok(later_type(text, types, members, named, used.block, used.number, number))
+    Ok(find_later_type(text, types, members, named, used.block, used.number, number))
 }

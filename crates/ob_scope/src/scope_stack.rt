@@ -5,9 +5,9 @@ ghost use Rattle.module_table.specs.Order.{IsIncreasingBy, HasNoneBy, IsIndexBy}
 ghost use Rattle.ob_scope.specs.Visibility.{Enters, IsInnermost, IsOpen, IsOpenScope};
 ghost use Rattle.ob_scope.specs.WalkOrder.{MayEnter};
 
-use crate::members::Scope;
 use crate::resolve::enclosing_block;
 use module_table::Block;
+use scopes::Scope;
 use std::alloc::AllocError;
 
 /// The open blocks by their first tokens, from the outermost to the innermost.
@@ -18,8 +18,8 @@ pub(crate) struct ScopeStack {
     pub(crate) watermark: u64,
 }
 
-/// Closes the blocks that begin after this one.
-fn close_after(stack: &mut Vec<u32>, block: u32)
+/// Closes the blocks whose first token is after that of this block.
+fn close_later_blocks(stack: &mut Vec<u32>, block: u32)
     requires { IsIncreasingBy (λ (b : ℕ). b) stack.old.items }
     ensures prefix { (rest : List ℕ) × (stack.old.items ≡ stack.new.items ++ rest) }
     ensures kept { (b : ℕ) → Contains stack.old.items b → b ≤ block → Contains stack.new.items b }
@@ -41,7 +41,7 @@ fn is_innermost(stack: &[u32], block: u32) -> bool
 }
 
 /// Pushes a block.
-fn begin(scope_stack: &mut ScopeStack, block: u32) -> Result<(), AllocError>
+fn push_block(scope_stack: &mut ScopeStack, block: u32) -> Result<(), AllocError>
     ensures stack { OnOk result (scope_stack.new.stack.items ≡ scope_stack.old.stack.items ++ block ∷ []) }
     ensures later { OnOk result (scope_stack.new.watermark ≡ block + 1) }
 {
@@ -56,12 +56,12 @@ fn open_enclosing(
     blocks: &[Block],
     block: u32,
 ) -> Result<(), AllocError>
-    requires ascending_starts { IsIncreasingBy (λ (b : Block). b.first) blocks.now }
+    requires sorted { IsIncreasingBy (λ (b : Block). b.first) blocks.now }
     requires chain { IsOpen blocks.now scope_stack.old.stack.items scope_stack.old.watermark }
     requires may { MayEnter blocks.now scope_stack.old.stack.items scope_stack.old.watermark block }
     ensures { OnOk result (Enters blocks.now block scope_stack.old.stack.items scope_stack.old.watermark scope_stack.new.stack.items scope_stack.new.watermark) }
 {
-    close_after(&mut scope_stack.stack, block);
+    close_later_blocks(&mut scope_stack.stack, block);
     if is_innermost(scope_stack.stack.as_slice(), block) {
         return Ok(());
     }
@@ -69,16 +69,16 @@ fn open_enclosing(
         Some(outer) => open_enclosing(scope_stack, blocks, outer)?,
         None => scope_stack.stack.clear(),
     }
-    begin(scope_stack, block)
+    push_block(scope_stack, block)
 }
 
 /// Makes this block the innermost open one; returns at once if it is already, the usual case.
-pub(crate) fn enter(
+pub(crate) fn enter_block(
     scope_stack: &mut ScopeStack,
     blocks: &[Block],
     block: u32,
 ) -> Result<(), AllocError>
-    requires ascending_starts { IsIncreasingBy (λ (b : Block). b.first) blocks.now }
+    requires sorted { IsIncreasingBy (λ (b : Block). b.first) blocks.now }
     requires chain { IsOpen blocks.now scope_stack.old.stack.items scope_stack.old.watermark }
     requires may { MayEnter blocks.now scope_stack.old.stack.items scope_stack.old.watermark block }
     ensures { OnOk result (Enters blocks.now block scope_stack.old.stack.items scope_stack.old.watermark scope_stack.new.stack.items scope_stack.new.watermark) }

@@ -6,22 +6,21 @@ ghost use Rattle.module_table.specs.declared.rows.Block.{Block};
 ghost use Rattle.module_table.specs.declared.rows.Used.{Used};
 ghost use Rattle.ob_scope.specs.Found.{counted_for, is_import, AreCounted, AreMeant};
 ghost use Rattle.module_table.specs.Order.{IsIncreasingBy};
-ghost use Rattle.ob_scope.specs.Forward.{AreTypes};
-ghost use Rattle.ob_scope.specs.Scope.{HasNoDuplicates};
+ghost use Rattle.ob_scope.specs.BlockTypes.{AreTypes};
+ghost use Rattle.scopes.specs.Scope.{HasNoDuplicates};
 ghost use Rattle.ob_scope.specs.BindingStates.{AreBindings};
 ghost use Rattle.ob_scope.specs.Visibility.{AreInterned};
 ghost use Rattle.ob_scope.specs.WalkOrder.{AreContiguous};
-ghost use Rattle.ob_scope.specs.declared.members.Member.{Member};
+ghost use Rattle.scopes.specs.declared.members.Member.{Member};
 
-use crate::bindings::{Bindings, no_bindings};
-use crate::forward::types_of;
-use crate::meaning::Resolution;
-use crate::members::Member;
+use crate::bindings::{Bindings, empty_bindings};
+use crate::block_types::index_block_types;
 use crate::numbering::Interner;
 use crate::resolve::meaning;
 use indexmap::IndexMap;
 use module_table::{Block, DeclKind, Used};
 use ob_scan::TokenTexts;
+use scopes::{Member, Resolution};
 use std::alloc::{AllocError, Global};
 use text_hash::Seed;
 
@@ -48,7 +47,7 @@ pub(crate) fn is_import(decl_kind: DeclKind) -> bool
 }
 
 /// Counts a qualified use for the member that its head means, if that member is an import.
-fn count(counts: &mut [u64], at: usize, member: Member, used: Used)
+fn count_qualified_use(counts: &mut [u64], at: usize, member: Member, used: Used)
     requires place { at < length counts.old }
     requires small { slice_index counts.old at + 1 < 2 ^ 64 }
     ensures { counts.new ≡ slice_set counts.old at (slice_index counts.old at + counted_for member used) }
@@ -96,7 +95,7 @@ fn resolve_each(
                 used: used.number,
                 declared: member.number,
             })?;
-            count(counts, at, member, used);
+            count_qualified_use(counts, at, member, used);
         }
     }
     Ok(())
@@ -125,7 +124,7 @@ fn resolve_with_types(
 {
     let mut meanings = Vec::with_capacity(alloc, uses.len())?;
     let mut counts = vec![in alloc; 0u64; members.len()]?;
-    let mut bindings = no_bindings(alloc, named.names.len(), members.len())?;
+    let mut bindings = empty_bindings(alloc, named.names.len(), members.len())?;
     resolve_each(
         text,
         types,
@@ -160,6 +159,6 @@ pub(crate) fn resolve_uses(
     ensures counted { IfOk result (λ f. AreCounted (text_at text.now.bytes.now text.now.tokens.now) blocks.now members.now uses.now (length uses.now) f.counts.items) }
 {
     let seed = *named.names.hasher();
-    let types = types_of(alloc, seed, members, named.numbers.as_slice())?;
+    let types = index_block_types(alloc, seed, members, named.numbers.as_slice())?;
     resolve_with_types(alloc, text, &types, blocks, members, named, uses)
 }

@@ -27,7 +27,7 @@ use Rattle.table_rules.proofs.NamedExpressions.{named}
 use Rattle.table_rules.proofs.NamedModules.{n-declarations}
 use Rattle.table_rules.proofs.NamedStatements.{n-block}
 
--- the rows declare the alias in this block
+-- the entries declare the alias in this block
 pub record IsAliasIn (r : Rows) (block : ℕ) (i : Import) : Type 0 where
   pub row : Declared
   pub by : DeclGroup
@@ -154,7 +154,7 @@ i-imports l = i-both token _ i-token (i-both (import_rows l.first) _ (i-import l
 
 -- ---- the module
 
--- the aliases of a part are declared, and stand before what it uses
+-- the aliases of a part are declared, and come before the part's uses
 record AreAliasesFirst (p : Fragment) : Type 0 where
   declares : (c : Context) (k : ℕ) (i : Import) → Contains (p.rows c k).imports i → IsAliasIn (p.rows c k) c.block i
   before : (c : Context) (k : ℕ) (i : Import) (u : Used) → Contains (p.rows c k).imports i → Contains (p.rows c k).uses u → i.alias < u.number

@@ -1,4 +1,4 @@
--- Of a designator one thing is known at each place.
+-- A designator has one designator type before each selector.
 use Rattle.std.proofs.Common.{◌≡◌, ℕ, suc, [], true, false, Some, refl, sym, ap, ◌∙◌, subst}
 use Rattle.std.specs.Prelude.{slice_get}
 use Rattle.type_graph.proofs.Finding.{finds_once}
@@ -9,10 +9,10 @@ use Rattle.module_table.specs.declared.rows.Step.{Step}
 use Rattle.ob_types.specs.declared.nodes.Field.{Field}
 use Rattle.ob_types.specs.declared.nodes.Node.{Node}
 use Rattle.ob_types.specs.World.{World, text}
-use Rattle.ob_types.specs.Same.{same}
+use Rattle.ob_types.specs.SameDeclaration.{same}
 use Rattle.ob_types.specs.Shapes.{shape, field_of, base_of}
-use Rattle.ob_targets.specs.declared.known.DesignatorType.{DesignatorType}
-use Rattle.ob_targets.specs.declared.known.DesignatorType.TheVariants as knowns
+use Rattle.ob_targets.specs.declared.designator_type.DesignatorType.{DesignatorType}
+use Rattle.ob_targets.specs.declared.designator_type.DesignatorType.TheVariants as knowns
 use Rattle.ob_targets.specs.declared.target.Target.{Target}
 use Rattle.ob_targets.specs.Targets.{field_target, target_type, used_target}
 use Rattle.ob_targets.specs.Steps.{begins_designator, FindsField, Follows, IsTypeBefore, StepsTo, Levels, Selects, there, nowhere, of_module, of_nothing, exported, field, no_field, unknown, none, one, to_field, to_elements, to_target, by_guard, at_head, behind}
@@ -49,7 +49,7 @@ module _ (w : World) where
   leads_once o s a b (to_target p) (to_target q) = follows_once (HasTarget same (shape w)) (target_once same (shape w)) o a b p q
   leads_once o s a b by_guard by_guard = refl
 
-  -- one selector stands at a place
+  -- one selector is at an index
   one_selector : (i : ℕ) (s t : Selector) → slice_get w.rows.selectors i ≡ Some s → slice_get w.rows.selectors i ≡ Some t → s ≡ t
   one_selector i s t p q = let e : Some s ≡ Some t = sym p ∙ q in cc
 

@@ -1,4 +1,4 @@
--- Each token has one context: that of its role in the outline.
+-- Each token has one context: that of its role in the event sequence of the tree.
 use Rattle.std.proofs.Common.{◌≡◌, ℕ, ◌+◌, inl, inr, Some, refl, sym, ap, ◌∙◌, subst, arith}
 use Rattle.ob_tree.specs.declared.declaration.Module.{Module}
 use Rattle.ob_tree.specs.declared.role.Role.{Role}
@@ -7,8 +7,8 @@ use Rattle.ob_tree.specs.Declaring.{module_events}
 use Rattle.table_rules.specs.Declaring.{rows_of}
 use Rattle.table_rules.proofs.Roles.{HasRole, OfDeclared, OfEnd, OfImport, OfSelector, OfUse, each_one, role_at}
 use Rattle.table_rules.proofs.NamedModules.{module_roles, own_role}
-use Rattle.ob_targets.specs.Contexts.{HasSyntaxPosition, SyntaxPositionKind}
-use Rattle.ob_targets.specs.Contexts as contexts
+use Rattle.ob_targets.specs.SyntaxPositionKinds.{HasSyntaxPosition, SyntaxPositionKind}
+use Rattle.ob_targets.specs.SyntaxPositionKinds as contexts
 
 abbrev context_of : Role → SyntaxPositionKind
 context_of (Declares starred) = contexts.Declaration

@@ -1,10 +1,10 @@
--- An identifier stands for one thing, in one role.
+-- An identifier denotes one target, in one role.
 use Rattle.std.proofs.Common.{◌≡◌, ℕ, Some, false, refl, sym, ap, ◌∙◌, subst}
 use Rattle.std.specs.Prelude.{slice_get}
 use Rattle.module_table.specs.declared.rows.End.{End}
 use Rattle.module_table.specs.declared.rows.Used.{Used}
 use Rattle.ob_types.specs.World.{World}
-use Rattle.ob_targets.specs.declared.known.DesignatorType.{DesignatorType}
+use Rattle.ob_targets.specs.declared.designator_type.DesignatorType.{DesignatorType}
 use Rattle.ob_targets.specs.declared.syntax_position.SyntaxPosition.{SyntaxPosition}
 use Rattle.ob_targets.specs.declared.syntax_position.SyntaxPosition.TheVariants as syntax_positions
 use Rattle.ob_targets.specs.declared.target.Target.{Target}
@@ -12,7 +12,7 @@ use Rattle.ob_targets.specs.declared.target.Target.TheVariants as targets
 use Rattle.ob_targets.specs.SyntaxPosition.{syntax_position}
 use Rattle.ob_targets.specs.Targets.{end_target, is_written, second_target, use_role, used_target}
 use Rattle.ob_targets.specs.Steps.{IsTypeBefore, Selects}
-use Rattle.ob_targets.specs.Refers.{Refers, module_name_token, item, declaration, end, used, selected, second, nowhere}
+use Rattle.ob_targets.specs.Refers.{Refers, own_name, item, declaration, end, used, selected, second, nowhere}
 use Rattle.ob_targets.proofs.Followed.{knows_once, selects_once}
 
 module _ (w : World) where
@@ -31,7 +31,7 @@ module _ (w : World) where
     there : slice_get w.rows.uses at ≡ Some row
     is : t ≡ second_target w k (used_target w row.number)
 
-  -- what an identifier that stands here stands for
+  -- the target of an identifier with this syntactic position
   Stands : ℕ → SyntaxPosition → Target → Type 0
   Stands k syntax_positions.OwnName t = t ≡ targets.Own
   Stands k (syntax_positions.Item at) t = t ≡ targets.«Module» at
@@ -42,7 +42,7 @@ module _ (w : World) where
   Stands k (syntax_positions.Second at) t = SecondStands k at t
   Stands k syntax_positions.Nowhere t = t ≡ targets.Unresolved
 
-  -- and in which role
+  -- and its role
   role : ℕ → SyntaxPosition → Target → ℕ
   role k syntax_positions.OwnName t = 1
   role k (syntax_positions.Item at) t = 2
@@ -55,7 +55,7 @@ module _ (w : World) where
 
   stands : (k : ℕ) (t : Target) (r : ℕ) → Refers w k t r → Stands k (syntax_position w.rows k) t
   unfolding Stands
-  stands k t r (module_name_token is) = subst (λ (s : SyntaxPosition). Stands k s t) (sym is) refl
+  stands k t r (own_name is) = subst (λ (s : SyntaxPosition). Stands k s t) (sym is) refl
   stands k t r (item is) = subst (λ (s : SyntaxPosition). Stands k s t) (sym is) refl
   stands k t r (declaration is) = subst (λ (s : SyntaxPosition). Stands k s t) (sym is) refl
   stands k t r (end {e = e} is at_e) = subst (λ (s : SyntaxPosition). Stands k s t) (sym is) (record { row = e; there = at_e; is = refl })
@@ -66,7 +66,7 @@ module _ (w : World) where
 
   has_role : (k : ℕ) (t : Target) (r : ℕ) → Refers w k t r → r ≡ role k (syntax_position w.rows k) t
   unfolding role
-  has_role k t r (module_name_token is) = ap (λ (s : SyntaxPosition). role k s t) (sym is)
+  has_role k t r (own_name is) = ap (λ (s : SyntaxPosition). role k s t) (sym is)
   has_role k t r (item is) = ap (λ (s : SyntaxPosition). role k s t) (sym is)
   has_role k t r (declaration is) = ap (λ (s : SyntaxPosition). role k s t) (sym is)
   has_role k t r (end is at_e) = ap (λ (s : SyntaxPosition). role k s t) (sym is)

@@ -31,23 +31,23 @@ use Rattle.ob_interface.specs.Interfaces.{Simple, declaration, imported_of, inte
 use Rattle.ob_interface.specs.OwnTable.{Declares}
 use Rattle.ob_interface.specs.Placed.{declaration_at, module_named, index_of}
 use Rattle.ob_interface.proofs.FoundRows.{found_rows}
-use Rattle.ob_scope.specs.declared.members.Member.{Member}
-use Rattle.ob_scope.specs.declared.members.Scope.{Scope}
-use Rattle.ob_scope.specs.declared.members.Scope.TheVariants.{Block}
-use Rattle.ob_scope.specs.Members.{decl_group_at, declared_member, members_of, scope_of}
-use Rattle.ob_scope.specs.Scope.{as_target, by_scope, ResolvesTo, IsVisible}
-use Rattle.ob_scope.specs.Scoped.{ModuleScopes}
-use Rattle.ob_scope.proofs.Elements.{slice_contains}
-use Rattle.ob_scope.proofs.Meanings.{member_once}
+use Rattle.scopes.specs.declared.members.Member.{Member}
+use Rattle.scopes.specs.declared.members.Scope.{Scope}
+use Rattle.scopes.specs.declared.members.Scope.TheVariants.{Block}
+use Rattle.scopes.specs.Members.{decl_group_at, declared_member, members_of, group_scope}
+use Rattle.scopes.specs.Scope.{as_target, by_scope, ResolvesTo, IsVisible}
+use Rattle.scopes.specs.Scoped.{ModuleScopes}
+use Rattle.module_table.proofs.Elements.{slice_contains}
+use Rattle.scopes.proofs.Meanings.{member_once}
 use Rattle.ob_scope.proofs.Placing.{declarer_found}
 use Rattle.type_graph.specs.declared.shape.Shape.TheVariants as shapes
 use Rattle.ob_types.specs.declared.nodes.Named.TheVariants as named
 use Rattle.ob_types.specs.declared.nodes.Node.TheVariants as nodes
-use Rattle.ob_types.specs.Shapes.{TypeShape, is_type, known, may_mean, resolve_imported_name, type_if_visible, visible_type, type_by}
-use Rattle.ob_types.specs.World.{World, imported_declaration, named_declaration, named_by_alias}
+use Rattle.ob_types.specs.Shapes.{TypeShape, is_type, known, may_mean, resolve_imported_name, type_if_visible, visible_type, declared_type_shape}
+use Rattle.ob_types.specs.World.{World, imported_declaration, named_declaration, aliased_module_name}
 use Rattle.ob_targets.specs.ScopeRule.{IsBlockUse, MeansAlias, MeansType}
 use Rattle.ob_targets.proofs.Aliased.{alias_before, aliased}
-use Rattle.ob_targets.specs.Contexts as contexts
+use Rattle.ob_targets.specs.SyntaxPositionKinds as contexts
 use Rattle.ob_targets.proofs.OneContext.{one_syntax_position}
 
 -- ---- lists
@@ -136,11 +136,11 @@ module _ (bytes : List ℕ) (ts : List Token) (m : Module) (s : ModuleScopes) (u
     never_both row has same =
         let e = one_syntax_position m u.number contexts.Declaration contexts.Use (contexts.declared row has same) (contexts.used u is.is_use refl) in cc
 
-    -- the member of a row that declares the name
+    -- the member of an entry that declares the name
     abbrev member : Declared → DeclGroup → Member
     member row by = record { place = Block 0; number = row.number; decl_kind = by.decl_kind }
 
-    scope_is : (by : DeclGroup) → by.of_record ≡ None → by.block ≡ 0 → scope_of by ≡ Block 0
+    scope_is : (by : DeclGroup) → by.of_record ≡ None → by.block ≡ 0 → group_scope by ≡ Block 0
     scope_is by none block = rw none (ap (λ (b : ℕ). Block b) block)
 
     in_members : (row : Declared) (by : DeclGroup) → Contains rows.declared row → Contains rows.decl_groups by → by.first ≡ row.declared_by → by.of_record ≡ None → by.block ≡ 0 → Contains (members_of rows) (member row by)
@@ -153,11 +153,11 @@ module _ (bytes : List ℕ) (ts : List Token) (m : Module) (s : ModuleScopes) (u
     is_member : (row : Declared) (by : DeclGroup) → Declares bytes ts rows None name row by → Contains (members_of rows) (member row by)
     is_member row by d = in_members row by d.is_row d.is_construct d.begins d.in_record d.in_block
 
-    -- a member that the use sees is in the module's block
+    -- a member that is visible at the use is in the module's block
     seen_outer : (b : ℕ) (e : Member) → IsVisible text rows.blocks (members_of rows) u b e → b ≡ 0
     seen_outer b e sees = let le = around-le rows.blocks b 0 (subst (Encloses rows.blocks b) is.outer sees.around) in omega (arith, le)
 
-    -- what is seen in the module's block is what the use resolves to
+    -- what is visible in the module's block is what the use resolves to
     resolved_outer : (e : Member) → Contains (members_of rows) e → e.place ≡ Block 0 → text e.number ≡ name → e.number < u.number → ResolvesTo text rows.blocks (members_of rows) u e
     resolved_outer e has placed is_named before = by_scope (record {
       block = 0;
@@ -165,7 +165,7 @@ module _ (bytes : List ℕ) (ts : List Token) (m : Module) (s : ModuleScopes) (u
       innermost = λ b other sees. subst (Encloses rows.blocks b) is.outer sees.around;
     })
 
-    -- the use means what has its name in the module's block
+    -- the use means the declaration of its name in the module's block
     meant : (k : ℕ) → Contains s.meanings (record { used = u.number; declared = k }) → (e : Member) × (e.number ≡ k) × ResolvesTo text rows.blocks (members_of rows) u e
     meant k has =
         let means = (is.scopes.meanings u.number k).0 has in
@@ -238,7 +238,7 @@ module _ (bytes : List ℕ) (ts : List Token) (m : Module) (s : ModuleScopes) (u
     resolved_name e (by_scope r) = r.seen.named
     resolved_name e (as_target t n l) = l.named
 
-    -- items of one name are one
+    -- items of one name are equal
     one_item : (a b : Import) → Contains rows.imports a → Contains rows.imports b → text a.alias ≡ text b.alias → a ≡ b
     one_item a b has other same =
         let (e, is_in, placed, number) = alias_member a has in
@@ -317,7 +317,7 @@ module _ (bytes : List ℕ) (ts : List Token) (m : Module) (s : ModuleScopes) (u
           let same = one_place p d is_shape in
           record { it = it; place = place ∙ ap (λ (n : ℕ). Some n) same; at = ap (declaration_at seen) (sym same) ∙ at; may_be = may_be; a_type = e }
 
-      by_place : (p d : ℕ) (it : Declaration) (b : Bool) → may_mean start u.is_target it ≡ b → index_of seen None name ≡ Some p → declaration_at seen p ≡ Some it → known (if b then type_by i p it else None) ≡ shape_at d → IsDenoted d
+      by_place : (p d : ℕ) (it : Declaration) (b : Bool) → may_mean start u.is_target it ≡ b → index_of seen None name ≡ Some p → declaration_at seen p ≡ Some it → known (if b then declared_type_shape i p it else None) ≡ shape_at d → IsDenoted d
       by_place p d it false e place at is_shape = absurd cc
       by_place p d it true e place at is_shape = by_type p d it (is_type it.decl_kind) refl place at e is_shape
 
@@ -356,8 +356,8 @@ module _ (bytes : List ℕ) (ts : List Token) (m : Module) (s : ModuleScopes) (u
       pub alone : (d : ℕ) → (resolve_imported_name w i start u.is_target (Simple name) ≡ shape_at d) ↔ MeansType bytes ts rows s u.number d
       alone d = (λ e. from_denoted d (by_name d (index_of seen None name) refl (sym denoted ∙ e)), to_shape d)
 
-      alias_there : named_by_alias w i name ≡ found_own rows.imports
-      unfolding named_by_alias
+      alias_there : aliased_module_name w i name ≡ found_own rows.imports
+      unfolding aliased_module_name
       alias_there = ap (option_and_then (λ (x : ModuleInterface). module_named x name)) there
 
       from_found : (own : List ℕ) → IsFoundItem rows.imports own → MeansAlias bytes ts rows s u.number own
@@ -372,5 +372,5 @@ module _ (bytes : List ℕ) (ts : List Token) (m : Module) (s : ModuleScopes) (u
           let same : first.item ≡ h.item = one_item first.item h.item first.among h.among (first.is_named ∙ sym is_named) in
           found ∙ ap (λ (n : List ℕ). Some n) (sym first.module_is ∙ ap (λ (x : Import). text x.imported) same ∙ h.named)
 
-      pub qualified : (own : List ℕ) → (named_by_alias w i name ≡ Some own) ↔ MeansAlias bytes ts rows s u.number own
+      pub qualified : (own : List ℕ) → (aliased_module_name w i name ≡ Some own) ↔ MeansAlias bytes ts rows s u.number own
       qualified own = (λ e. from_found own (found_item rows.imports own (sym alias_there ∙ e)), λ h. alias_there ∙ to_found own h)

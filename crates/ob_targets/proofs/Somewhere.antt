@@ -1,4 +1,4 @@
--- Where a tree derives the tokens, each identifier stands somewhere.
+-- If a tree derives the tokens, each identifier has a syntactic position.
 use Rattle.std.proofs.Common.{◌≡◌, ℕ, zero, suc, ◌+◌, ◌==◌, ◌⊎◌, inl, inr, Bool, true, false, List, [], ◌∷◌, cond, map, Option, Some, None, refl, sym, ap, ◌∙◌, subst, arith, eq-eqb}
 use Rattle.std.specs.Prelude.{Contains, position, slice_get}
 use Rattle.std.specs.List.{enumerate_from, filter_map, position_from}
@@ -21,7 +21,7 @@ use Rattle.ob_targets.specs.declared.syntax_position.SyntaxPosition.TheVariants 
 use Rattle.ob_targets.specs.Refers.{identifiers, is_identifier, identifier_number}
 use Rattle.ob_targets.specs.SyntaxPosition.{first, is_alias, is_declared, is_end_name, is_imported_name, is_second, is_selected, is_token, is_use, name_of, syntax_position}
 
--- ---- the first row of a kind
+-- ---- the first entry of a kind
 
 module _ {X : Type 0} (stands : X → Bool) where
   found_step : (n : ℕ) (y : X) (ys : List X) (x : X) (b : Bool) → stands y ≡ b → stands x ≡ true → Contains (y ∷ ys) x → (Contains ys x → position_from stands (n + 1) ys ≡ None → ⊥) →
@@ -37,7 +37,7 @@ module _ {X : Type 0} (stands : X → Bool) where
   found : (xs : List X) (x : X) → Contains xs x → stands x ≡ true → position stands xs ≡ None → ⊥
   found xs x c t none = found_from 0 xs x c t (sym (position_from-zero stands xs) ∙ none)
 
-  -- where the first tells nothing there is none, and what is told otherwise tells nothing
+  -- if the first test finds no entry, there is none, and the other position decides
   none_first : (at : ℕ → SyntaxPosition) (xs : List X) (otherwise : SyntaxPosition) → ((n : ℕ) → at n ≡ syntax_positions.Nowhere → ⊥) → first stands at xs otherwise ≡ syntax_positions.Nowhere →
       ((x : X) → Contains xs x → stands x ≡ true → ⊥) × (otherwise ≡ syntax_positions.Nowhere)
   none_first at xs otherwise never e = by (position stands xs) refl e
@@ -49,7 +49,7 @@ module _ {X : Type 0} (stands : X → Bool) where
 same : (a k : ℕ) → a ≡ k → (a == k) ≡ true
 same a k e = eq-eqb a k e
 
--- ---- what a row names stands somewhere
+---- an identifier of an entry has a syntactic position
 
 module _ (rows : Rows) (k : ℕ) where
   abbrev by_second : SyntaxPosition

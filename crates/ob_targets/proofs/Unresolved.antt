@@ -1,4 +1,4 @@
--- Identifiers that stand for nothing, among the references.
+-- Identifiers that denote nothing, among the references.
 use Rattle.std.proofs.Common.{◌≡◌, ℕ, zero, suc, ◌⊎◌, inl, inr, List, [], ◌∷◌, map, Bool, true, false, cond, refl, sym, ap, ◌∙◌, subst, arith}
 use Rattle.std.specs.List.{Contains, filter}
 use Rattle.std.specs.Prelude.{◌↔◌}
@@ -20,13 +20,13 @@ head_or_tail : {X : Type 0} (y : X) (xs : List X) (x : X) → Contains (y ∷ xs
 head_or_tail y xs x (zero, l, e) = inl e
 head_or_tail y xs x (suc k, l, e) = inr (k, omega arith, e)
 
--- a reference of this number
+-- a reference with this number
 record HasNumber (rs : List Reference) (k : ℕ) : Type 0 where
   row : Reference
   among : Contains rs row
   is : row.number ≡ k
 
--- and one that stands for nothing
+-- and one that denotes nothing
 record HasNothing (rs : List Reference) (k : ℕ) : Type 0 where
   row : Reference
   among : Contains rs row
@@ -49,7 +49,7 @@ nothing_is (targets.«Module» at) e = absurd (let f : false ≡ true = e in cc)
 nothing_is targets.Predeclared e = absurd (let f : false ≡ true = e in cc)
 nothing_is targets.Unresolved e = refl
 
--- the numbers of those that stand for nothing, where the first does or doesn't
+-- the numbers of the references that denote nothing, if the first does or doesn't
 abbrev with_first : Bool → Reference → List Reference → List ℕ
 with_first b r rs = map (λ (x : Reference). x.number) (cond b (r ∷ filter (λ (x : Reference). is_unresolved x.target) rs) (filter (λ (x : Reference). is_unresolved x.target) rs))
 
@@ -67,7 +67,7 @@ found : (rs : List Reference) (k : ℕ) → Contains (unresolved rs) k → HasNo
 found [] k (i, l, e) = absurd (omega arith)
 found (r ∷ rs) k c = found_step r rs k (is_unresolved r.target) refl (λ d. found rs k d) c
 
--- and the other way round
+-- and conversely
 kept_first : (r : Reference) (rs : List Reference) (b : Bool) → true ≡ b → Contains (with_first b r rs) r.number
 kept_first r rs true e = in_head r.number (unresolved rs)
 kept_first r rs false e = absurd (cc)
@@ -103,7 +103,7 @@ module _ (w : World) (rs : List Reference) (k : ℕ) (are : AreReferences w rs) 
         | inr d ↦ in_tail x.number (map (λ (r : Reference). r.number) xs) row.number (mapped xs row d)
       ]
 
-  -- an identifier stands for what its reference says
+  -- an identifier denotes what its reference says
   pub refers_here : Contains (identifiers w.tokens) k → (t : Target) × (role : ℕ) × Refers w k t role
   refers_here is =
       let h : HasNumber rs k = numbered rs k (subst (λ (ns : List ℕ). Contains ns k) (sym are.numbers) is) in

@@ -1,6 +1,6 @@
 pub mod Predeclared
 pub mod SyntaxPosition
-pub mod Contexts
+pub mod SyntaxPositionKinds
 pub mod Targets
 pub mod Steps
 pub mod Refers

@@ -7,7 +7,7 @@ use Rattle.ob_scan.specs.declared.token.Token.{Token}
 use Rattle.module_table.specs.declared.rows.End.{End}
 use Rattle.module_table.specs.declared.rows.Used.{Used}
 use Rattle.ob_types.specs.World.{World}
-use Rattle.ob_targets.specs.declared.known.DesignatorType.{DesignatorType}
+use Rattle.ob_targets.specs.declared.designator_type.DesignatorType.{DesignatorType}
 use Rattle.ob_targets.specs.declared.syntax_position.SyntaxPosition.TheVariants as syntax_positions
 use Rattle.ob_targets.specs.declared.target.Target.{Target}
 use Rattle.ob_targets.specs.declared.target.Target.TheVariants as targets
@@ -19,7 +19,7 @@ use Rattle.ob_targets.specs.Steps.{IsTypeBefore, Selects}
 module _ (w : World) where
   -- the identifier of this token denotes this target, in this role
   pub data Refers (k : ℕ) : Target → ℕ → Type 0 where
-    module_name_token : syntax_position w.rows k ≡ syntax_positions.OwnName → Refers k targets.Own 1
+    own_name : syntax_position w.rows k ≡ syntax_positions.OwnName → Refers k targets.Own 1
     item : {at : ℕ} → syntax_position w.rows k ≡ syntax_positions.Item at → Refers k (targets.«Module» at) 2
     declaration : {at : ℕ} → syntax_position w.rows k ≡ syntax_positions.Declaration at → Refers k (targets.Declared k) 1
     end : {at : ℕ} {e : End} → syntax_position w.rows k ≡ syntax_positions.End at → slice_get w.rows.ends at ≡ Some e → Refers k (end_target e.of) 0

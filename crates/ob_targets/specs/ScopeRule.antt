@@ -15,7 +15,7 @@ use Rattle.table_rules.specs.Declaring.{rows_of}
 use Rattle.ob_interface.specs.Interfaces.{declaration, interface_of}
 use Rattle.ob_interface.specs.OwnTable.{Declares}
 use Rattle.ob_interface.specs.Placed.{declaration_at, index_of}
-use Rattle.ob_scope.specs.Scoped.{AreScopes, ModuleScopes}
+use Rattle.scopes.specs.Scoped.{AreScopes, ModuleScopes}
 
 -- a use in the block of an accepted module: the bytes spell the tokens, the tree derives them, and the scopes are those of the tree's table
 pub record IsBlockUse (bytes : List ℕ) (ts : List Token) (m : Module) (s : ModuleScopes) (u : Used) : Type 0 where

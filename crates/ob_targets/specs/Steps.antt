@@ -1,4 +1,4 @@
--- What is known of a designator, followed from left to right (Oberon-07 report, section 8.1).
+-- The designator types of the prefixes of a designator, from left to right (Oberon-07 report, section 8.1).
 use Rattle.std.specs.Prelude.{◌≡◌, ℕ, zero, suc, ◌==◌, List, [], slice_get, Option, Some, None, Bool, true, false, not}
 use Rattle.module_table.specs.declared.rows.Selector.{Selector}
 use Rattle.module_table.specs.declared.rows.Step.{Step}
@@ -10,25 +10,26 @@ use Rattle.ob_types.specs.declared.nodes.Node.{Node}
 use Rattle.ob_types.specs.declared.nodes.Node.TheVariants as nodes
 use Rattle.ob_types.specs.declared.nodes.Field.{Field}
 use Rattle.ob_types.specs.World.{World, text}
-use Rattle.ob_types.specs.Same.{same}
+use Rattle.ob_types.specs.SameDeclaration.{same}
 use Rattle.ob_types.specs.Shapes.{shape, field_of, base_of, resolve_type_name}
 use Rattle.ob_targets.specs.declared.target.Target.{Target}
 use Rattle.ob_targets.specs.declared.target.Target.TheVariants as targets
-use Rattle.ob_targets.specs.declared.known.DesignatorType.{DesignatorType}
-use Rattle.ob_targets.specs.declared.known.DesignatorType.TheVariants as knowns
+use Rattle.ob_targets.specs.declared.designator_type.DesignatorType.{DesignatorType}
+use Rattle.ob_targets.specs.declared.designator_type.DesignatorType.TheVariants as knowns
 use Rattle.ob_targets.specs.Targets.{exported_target, field_target, target_type, used_target}
 
--- what is known after a step along a relation of types: the related type, and nothing if there is none or if no type is known before it
+-- the designator type after a step along a relation of types: the related type; Nothing if there is none, or if no type is known before
+-- the step
 pub data Follows (Leads : Node → Node → Type 0) : DesignatorType → DesignatorType → Type 0 where
   there : {n m : Node} → Leads n m → Follows Leads (knowns.Typed n) (knowns.Typed m)
   nowhere : {n : Node} → ((m : Node) → Leads n m → ⊥) → Follows Leads (knowns.Typed n) knowns.Nothing
   of_module : {at : ℕ} → Follows Leads (knowns.«Module» at) knowns.Nothing
   of_nothing : Follows Leads knowns.Nothing knowns.Nothing
 
--- what is known after parentheses: a type, if their only content is its name (a type guard), and otherwise nothing
-abbrev pub guard_of : World → Option TypeName → DesignatorType
-guard_of w None = knowns.Nothing
-guard_of w (Some t) = elim (resolve_type_name w t.head t.member) [
+-- the designator type after parentheses: a type, if their only content is its name (a type guard), and otherwise Nothing
+abbrev pub guard_type : World → Option TypeName → DesignatorType
+guard_type w None = knowns.Nothing
+guard_type w (Some t) = elim (resolve_type_name w t.head t.member) [
   | shapes.Array n ↦ knowns.Nothing
   | shapes.Pointer n ↦ knowns.Nothing
   | shapes.Record r ↦ knowns.Nothing
@@ -47,26 +48,26 @@ module _ (w : World) where
   abbrev pub FindsField : Node → List ℕ → Field → Type 0
   FindsField n name f = Finds same (shape w) (λ r. field_of w r name) (base_of w) [] n f
 
-  -- the target of the name after a dot, by what is known before the dot
+  -- the target of the name after a dot, by the designator type before the dot
   pub data Selects : DesignatorType → ℕ → Target → Type 0 where
     exported : {at k : ℕ} → Selects (knowns.«Module» at) k (exported_target w at k)
     field : {n : Node} {k : ℕ} {f : Field} → FindsField n (text w k) f → Selects (knowns.Typed n) k (field_target f)
     no_field : {n : Node} {k : ℕ} → ((f : Field) → FindsField n (text w k) f → ⊥) → Selects (knowns.Typed n) k targets.Unresolved
     unknown : {k : ℕ} → Selects knowns.Nothing k targets.Unresolved
 
-  -- what is known after this number of index expressions, each of which takes one level of an array
+  -- the designator type after this number of index expressions, each of which takes one level of an array
   pub data Levels : ℕ → DesignatorType → DesignatorType → Type 0 where
     none : {o : DesignatorType} → Levels 0 o o
     one : {c : ℕ} {o next last : DesignatorType} → Levels c o next → Follows (HasElement same (shape w)) next last → Levels (suc c) o last
 
-  -- what is known after a selector, by what is known before it
+  -- the designator type after a selector, by the designator type before it
   pub data StepsTo (o : DesignatorType) : Step → DesignatorType → Type 0 where
     to_field : {k : ℕ} {t : Target} → Selects o k t → StepsTo o (steps.Field k) (target_type w t)
     to_elements : {c : ℕ} {next : DesignatorType} → Levels c o next → StepsTo o (steps.Elements c) next
     to_target : {next : DesignatorType} → Follows (HasTarget same (shape w)) o next → StepsTo o steps.Target next
-    by_guard : {t : Option TypeName} → StepsTo o (steps.Arguments t) (guard_of w t)
+    by_guard : {t : Option TypeName} → StepsTo o (steps.Arguments t) (guard_type w t)
 
-  -- what is known before the selector at this index, from the head of its designator on
+  -- the designator type before the selector at this index: that of the head with the selectors before this one
   pub data IsTypeBefore : ℕ → DesignatorType → Type 0 where
     at_head : {i : ℕ} {s : Selector} → slice_get w.rows.selectors i ≡ Some s → begins_designator w.rows.selectors i s ≡ true → IsTypeBefore i (target_type w (used_target w s.of))
     behind : {i : ℕ} {s t : Selector} {o next : DesignatorType} → slice_get w.rows.selectors i ≡ Some s → slice_get w.rows.selectors (suc i) ≡ Some t →

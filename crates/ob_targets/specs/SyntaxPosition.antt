@@ -58,8 +58,9 @@ is_second k u = is_token k u.member
 abbrev pub first : {X : Type 0} → (X → Bool) → (ℕ → SyntaxPosition) → List X → SyntaxPosition → SyntaxPosition
 first stands at rows otherwise = option_map_or at (position stands rows) otherwise
 
--- the syntactic position of a token, by the first of these kinds of entries that has it, or else the given position; by the law one_context only one kind
--- has it, except that an import item's alias is also declared, and that both kinds of names after a dot may have it
+-- the syntactic position of a token, by the first of these kinds of entries that has it, or else the given position. By the law
+-- one_syntax_position only one kind has it, with two exceptions: an import item's alias is also declared, and both kinds of names after a
+-- dot may have it
 abbrev pub syntax_position_or : Rows → ℕ → SyntaxPosition → SyntaxPosition
 syntax_position_or rows k otherwise = if k == module_name_token then syntax_positions.OwnName else
     first (is_alias k) syntax_positions.Item rows.imports (

@@ -16,8 +16,8 @@ use Rattle.ob_targets.specs.Predeclared.{is_predeclared}
 use Rattle.ob_targets.specs.SyntaxPosition.{name_of}
 use Rattle.ob_targets.specs.declared.target.Target.{Target}
 use Rattle.ob_targets.specs.declared.target.Target.TheVariants as targets
-use Rattle.ob_targets.specs.declared.known.DesignatorType.{DesignatorType}
-use Rattle.ob_targets.specs.declared.known.DesignatorType.TheVariants as knowns
+use Rattle.ob_targets.specs.declared.designator_type.DesignatorType.{DesignatorType}
+use Rattle.ob_targets.specs.declared.designator_type.DesignatorType.TheVariants as knowns
 
 -- ---- targets
 
@@ -29,8 +29,8 @@ declared_target w d = elim (item_of w d) [ None ↦ targets.Declared d | Some at
 abbrev pub used_target : World → ℕ → Target
 used_target w k = elim (meaning w k) [ Some d ↦ declared_target w d | None ↦ if is_predeclared (text w k) then targets.Predeclared else targets.Unresolved ]
 
--- the target of a name after a module and a dot: what the module exports under this name, Unresolved if it exports none, or the name itself if the
--- module isn't in the tree
+-- the target of a name after a module and a dot: the declaration that the module exports under this name, Unresolved if it exports none,
+-- or the name itself if the module isn't in the tree
 abbrev pub exported_target : World → ℕ → ℕ → Target
 exported_target w at k = elim (module_of_item w at) [ None ↦ targets.External at k | Some i ↦ elim (exported w i (text w k)) [ None ↦ targets.Unresolved | Some d ↦ targets.Imported i d ] ]
 
@@ -54,7 +54,7 @@ abbrev pub field_target : Field → Target
 field_target (fields.Own k) = targets.Declared k
 field_target (fields.Other i d) = targets.Imported i d
 
--- ---- what is known of a target
+-- ---- designator types of targets
 
 -- whether a declaration of this kind holds a value: a variable, a parameter or a field
 abbrev pub holds_value : DeclKind → Bool
@@ -66,16 +66,16 @@ holds_value decl_kinds.Procedure = false
 holds_value decl_kinds.Parameter = true
 holds_value decl_kinds.Field = true
 
--- what is known of a declaration of this kind and type: its type, if it holds a value
-abbrev pub typed : Option DeclKind → Option Node → DesignatorType
-typed None type_expr = knowns.Nothing
-typed (Some s) None = knowns.Nothing
-typed (Some s) (Some n) = if holds_value s then knowns.Typed n else knowns.Nothing
+-- the designator type of a declaration of this kind and type: the type if the declaration holds a value, and otherwise Nothing
+abbrev pub type_if_value : Option DeclKind → Option Node → DesignatorType
+type_if_value None type_expr = knowns.Nothing
+type_if_value (Some s) None = knowns.Nothing
+type_if_value (Some s) (Some n) = if holds_value s then knowns.Typed n else knowns.Nothing
 
--- what is known of a target: the module, or the declared type of what holds a value, and otherwise nothing
+-- the designator type of a target: the module, or the type of a declaration that holds a value, and otherwise Nothing
 abbrev pub target_type : World → Target → DesignatorType
-target_type w (targets.Declared k) = typed (decl_kind_of w k) (type_node_of w k)
-target_type w (targets.Imported i d) = typed (imported_kind w i d) (Some (nodes.Other i d 0))
+target_type w (targets.Declared k) = type_if_value (decl_kind_of w k) (type_node_of w k)
+target_type w (targets.Imported i d) = type_if_value (imported_kind w i d) (Some (nodes.Other i d 0))
 target_type w (targets.External at n) = knowns.Nothing
 target_type w targets.Own = knowns.Nothing
 target_type w (targets.«Module» at) = knowns.«Module» at

@@ -7,13 +7,13 @@ ghost use Rattle.ob_tree.specs.Derives.{Derives};
 ghost use Rattle.module_table.specs.declared.rows.Used.{Used};
 ghost use Rattle.table_rules.specs.Declaring.{rows_of};
 ghost use Rattle.ob_interface.specs.Interfaces.{interface_of, start_at, Simple};
-ghost use Rattle.ob_scope.specs.Scoped.{ModuleScopes};
+ghost use Rattle.scopes.specs.Scoped.{ModuleScopes};
 ghost use Rattle.type_graph.specs.declared.shape.Shape.TheVariants as shapes;
 ghost use Rattle.ob_types.specs.Shapes.{resolve_imported_name};
-ghost use Rattle.ob_types.specs.World.{named_by_alias, World};
+ghost use Rattle.ob_types.specs.World.{aliased_module_name, World};
 ghost use Rattle.ob_types.specs.declared.nodes.Named.TheVariants as named;
 ghost use Rattle.ob_types.specs.declared.nodes.Node.TheVariants as nodes;
-ghost use Rattle.ob_targets.specs.Contexts.{HasSyntaxPosition, SyntaxPositionKind};
+ghost use Rattle.ob_targets.specs.SyntaxPositionKinds.{HasSyntaxPosition, SyntaxPositionKind};
 ghost use Rattle.ob_targets.specs.Refers.{identifiers, unresolved, AreReferences, Refers, DenotesNothing};
 ghost use Rattle.ob_targets.specs.ScopeRule.{IsBlockUse, MeansAlias, MeansType};
 ghost use Rattle.ob_targets.specs.SyntaxPosition.{syntax_position};
@@ -22,7 +22,7 @@ ghost use Rattle.ob_targets.specs.declared.target.Reference.{Reference};
 ghost use Rattle.ob_targets.specs.declared.target.Target.{Target};
 
 /// An identifier denotes at most one target, in at most one role.
-/// So it denotes at most one of: a declaration, a name of an external module, a module, a predeclared name, and nothing.
+/// So an identifier denotes at most one of: a declaration, a name of an external module, a module, a predeclared name, and nothing.
 pub fn one_target()
     // Two targets of one identifier are equal.
     ensures target { (w : World) (k : ℕ) (t u : Target) (r s : ℕ) → Refers w k t r → Refers w k u s → t ≡ u }
@@ -57,9 +57,8 @@ pub fn each_identifier_has_position()
     ensures { (tokens : List Token) (m : Module) (k : ℕ) → Derives (map (λ (t : Token). t.kind) tokens) m → Contains (identifiers tokens) k → syntax_position (rows_of m) k ≢ syntax_positions.Nowhere }
 {}
 
-/// A token has at most one context in the module table of a tree.
-/// It is the module's own name, the name after `:=` in an import item, or a declared identifier (an import item's alias is one).
-/// Otherwise it is the name after END, a name that is looked up, or a name after a dot.
+/// A token has at most one context in the module table of a tree: the module's own name, the name after `:=` in an import item, a declared
+/// identifier (also an import item's alias), the name after END, a name that is looked up, or a name after a dot.
 pub fn one_syntax_position()
     // Two contexts of one token are equal.
     ensures { (m : Module) (k : ℕ) (c d : SyntaxPositionKind) → HasSyntaxPosition (rows_of m) k c → HasSyntaxPosition (rows_of m) k d → c ≡ d }
@@ -75,5 +74,5 @@ pub fn one_scope_rule()
     // A name before a dot denotes the module of this name if and only if it means an alias of that module by the module's own scopes.
     ensures qualified { (bytes : List ℕ) (ts : List Token) (m : Module) (s : ModuleScopes) (u : Used) (w : World) (i : ℕ) (name : List ℕ) →
         IsBlockUse bytes ts m s u → slice_get w.reached i ≡ Some (interface_of bytes ts (rows_of m)) →
-        (named_by_alias w i (text_at bytes ts u.number) ≡ Some name) ↔ MeansAlias bytes ts (rows_of m) s u.number name }
+        (aliased_module_name w i (text_at bytes ts u.number) ≡ Some name) ↔ MeansAlias bytes ts (rows_of m) s u.number name }
 {}

@@ -15,7 +15,7 @@ fn is_basic_type(name: &[u8]) -> bool
         || name == b"SET".as_slice()
 }
 
-fn is_function(name: &[u8]) -> bool
+fn is_predeclared_function(name: &[u8]) -> bool
     ensures { result ≡ list_any (bytes_eq name.now) functions }
 {
     name == b"ABS".as_slice()
@@ -30,7 +30,7 @@ fn is_function(name: &[u8]) -> bool
         || name == b"CHR".as_slice()
 }
 
-fn is_procedure(name: &[u8]) -> bool
+fn is_predeclared_procedure(name: &[u8]) -> bool
     ensures { result ≡ list_any (bytes_eq name.now) procedures }
 {
     name == b"INC".as_slice()
@@ -49,5 +49,5 @@ pub fn is_predeclared(name: &[u8]) -> bool
     // procedures.
     ensures { result ≡ is_predeclared name.now }
 {
-    is_basic_type(name) || is_function(name) || is_procedure(name)
+    is_basic_type(name) || is_predeclared_function(name) || is_predeclared_procedure(name)
 }

@@ -1,6 +1,7 @@
 //! The syntactic positions of identifiers.
 
-/// The syntactic position of an identifier in its module. An index is that of a module table's entry in the list of its kind.
+/// The syntactic position of an identifier in its module. An index is the index of an entry of the module table, in the list of the
+/// entries of its kind.
 #[derive(Clone, Copy, Drop)]
 pub enum SyntaxPosition {
     /// After MODULE: the module's own name.
@@ -9,7 +10,7 @@ pub enum SyntaxPosition {
     Item(usize),
     /// Declared by the entry at this index of the declared identifiers, and not by an import item.
     Declaration(usize),
-    /// After the END of the entry at this index.
+    /// The name after an END, by its index in the list of the names after END.
     End(usize),
     /// The use at this index: the head of a designator, the first identifier of a qualident, a label, or the variable of a FOR.
     Use(usize),
@@ -17,6 +18,6 @@ pub enum SyntaxPosition {
     Selected(usize),
     /// After a dot in a qualident, whose first identifier is the use at this index.
     Second(usize),
-    /// In no entry.
+    /// No entry has the identifier.
     Nowhere,
 }

@@ -3,7 +3,7 @@ ghost use Rattle.std.specs.Prelude.{length, IfOk, Ok};
 ghost use Rattle.module_table.specs.Tables.{rows_in};
 ghost use Rattle.module_table.specs.Trees.{AreTreeRows};
 ghost use Rattle.ob_scan.specs.Spelling.{IsOutcome};
-ghost use Rattle.ob_scope.specs.Identified.{IsIdentifier};
+ghost use Rattle.scopes.specs.IdentifierNames.{IsIdentifier};
 
 use module_table::Table;
 use ob_scan::Tokens;

@@ -6,7 +6,7 @@ use Rattle.ob_tree.specs.declared.expression.Literal.{Literal}
 use Rattle.ob_tree.specs.declared.name.OneOrMore.{OneOrMore}
 use Rattle.ob_tree.specs.TreeEvents.{Events, Value, construct, word, used, completed, selected, if_present, if_true, each, separated, times}
 
--- it holds of nothing, of one after the other, of a token that neither declares nor repeats a name, and of a construct
+-- it holds for the empty sequence, concatenations, a token that neither declares nor repeats a name, and constructs
 pub record IsClosed (P : Events → Type 0) : Type 0 where
   pub nothing : P []
   pub one_after : (a b : Events) → P a → P b → P (a ++ b)

@@ -18,7 +18,7 @@ use Rattle.ob_tree.proofs.ExpressionLayers.{factor_shown, selector_shown, design
 use Rattle.ob_tree.proofs.Closed.{IsClosed, closed-is, closed-both, closed-construct, closed-there, closed-map}
 
 module _ (P : Events → Type 0) (closed : IsClosed P) where
-  -- of each production
+  -- for each production
 
   abbrev predicates : ExpressionPredicates
   predicates = record {

@@ -40,7 +40,7 @@ module _ (P : Events → Type 0) (closed : IsClosed P) where
   unfolding label_range_events
   range_held r = closed-both P closed (label_held r.low) (closed-there P closed (λ l. word kinds.DotDot ++ label_events l) r.high (λ l. closed-both P closed (closed.a_word kinds.DotDot) (label_held l)))
 
-  -- of each production, and of a branch with any word in it
+  -- for each production, and for a branch with any keyword
 
   abbrev predicates : StatementPredicates
   predicates = record {

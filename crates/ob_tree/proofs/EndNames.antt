@@ -53,7 +53,7 @@ gathers = record {
   of_selection = λ n. refl;
 }
 
--- ---- what has none
+-- ---- sequences without names after END
 
 -- no name after END is in it
 abbrev NoEnd : Events → Type 0
@@ -92,7 +92,7 @@ import_none i =
 part_none : {X : Type 0} (k : Kind) (f : X → Events) (xs : List X) → ((x : X) → NoEnd (f x)) → NoEnd (part k f xs)
 part_none k f xs w = closed-both NoEnd no_end (no_end.a_word k) (closed-each NoEnd no_end (λ x. f x ++ word kinds.Semicolon) xs (λ x. closed-both NoEnd no_end (w x) (no_end.a_word kinds.Semicolon)))
 
--- ---- what has some
+-- ---- sequences with names after END
 
 -- the names after END in a sequence that follows one without any
 past : (a b : Events) → NoEnd a → endings_in (a ++ b) ≡ endings_in b
@@ -104,7 +104,7 @@ endings-append = gathered-append endings_in gathers
 pub endings-each_push : {X : Type 0} (f : X → Events) (xs : List X) (x : X) → endings_in (each f (xs ++ x ∷ [])) ≡ endings_in (each f xs) ++ endings_in (f x)
 endings-each_push f xs x = gathered-each_push endings_in gathers f xs x
 
--- the procedures' alone
+-- only the procedures contain names after END
 pub declarations_ends : (d : Declarations) → endings_in (declarations_events d) ≡ endings_in (each (λ p. procedure_events p ++ word kinds.Semicolon) (out-Declarations d).procedures.items)
 declarations_ends d =
     ap endings_in (declarations_out d)

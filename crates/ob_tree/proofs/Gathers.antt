@@ -20,7 +20,7 @@ pub record Gathers {A : Type 0} (f : Events → List A) : Type 0 where
   pub of_completion : (n : ℕ) → f (completed n) ≡ []
   pub of_selection : (n : ℕ) → f (selected n) ≡ []
 
--- nothing is gathered of it
+-- nothing is collected from it
 pub record Without {A : Type 0} (f : Events → List A) (o : Events) : Type 0 where
   pub none : f o ≡ []
 

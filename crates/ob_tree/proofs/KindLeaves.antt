@@ -20,7 +20,7 @@ words n kinds.Real text e = absurd cc
 words n kinds.Text text e = absurd cc
 words n k text e = refl
 
--- an identifier, a literal, or a text of its own
+-- a kind is an identifier, a literal, or has a fixed text
 abbrev Is : Kind → Type 0
 Is k = (k ≡ kinds.Ident) ⊎ (((l : Literal) × (k ≡ literal_kind l)) ⊎ ((text : List ℕ) × (text_of k ≡ Some text)))
 

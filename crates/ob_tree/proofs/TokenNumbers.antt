@@ -40,5 +40,5 @@ leaf_numbers : (at : ℕ) (ks : List Kind) → leaves_at at (leaves_from at ks) 
 leaf_numbers at [] = refl
 leaf_numbers at (k ∷ ks) = rw (leaf_number at k) (ap (λ (ns : List ℕ). at ∷ ns) (leaf_numbers (at + 1) ks))
 
-pub all_numbers : (ks : List Kind) (m : Module) → Derives ks m → yields m ≡ range_with_len 0 (length ks)
-all_numbers ks m e = event_numbers 0 (module_events m) ∙ ap (λ (ls : List Leaf). leaves_at 0 ls) (sym e) ∙ leaf_numbers 0 ks
+pub each_token_occurs_once : (ks : List Kind) (m : Module) → Derives ks m → yields m ≡ range_with_len 0 (length ks)
+each_token_occurs_once ks m e = event_numbers 0 (module_events m) ∙ ap (λ (ls : List Leaf). leaves_at 0 ls) (sym e) ∙ leaf_numbers 0 ks

@@ -32,7 +32,7 @@ variable_events v = construct constructs.VariableDeclaration (var_events v)
 abbrev pub part : {X : Type 0} → Kind → (X → Events) → List X → Events
 part k f xs = word k ++ each (λ x. f x ++ word kinds.Semicolon) xs
 
--- Each step below is one layer of a tree in which every child is replaced by its event sequence.
+-- Each `.._step` below gives the event sequence of a node from the event sequences of its children.
 
 -- DeclarationSequence = [CONST {ConstDeclaration ";"}] [TYPE {TypeDeclaration ";"}] [VAR {VariableDeclaration ";"}]
 --   {ProcedureDeclaration ";"}

@@ -12,7 +12,7 @@ use Rattle.ob_tree.specs.TreeEvents.{Events, Begins, Ends, Identifier, Value, Wo
 abbrev pub spelling : Module → List Leaf
 spelling m = tokens_of (module_events m)
 
--- the tree derives tokens of these kinds: its tokens are those, and each identifier and literal carries the number of its token
+-- the tree derives tokens of these kinds: its leaves have these kinds in order, and each identifier and literal has its token's number
 abbrev pub Derives : List Kind → Module → Type 0
 Derives kinds m = leaves_from 0 kinds ≡ spelling m
 

@@ -53,7 +53,7 @@ mul_kind products.Div = kinds.Div
 mul_kind products.Mod = kinds.Mod
 mul_kind products.And = kinds.Ampersand
 
--- Each step below is one layer of a tree in which every child is replaced by its event sequence.
+-- Each `.._step` below gives the event sequence of a node from the event sequences of its children.
 
 -- factor = integer | real | string | NIL | TRUE | FALSE | set | designator | "(" expression ")" | "~" factor
 -- set = "{" [element {"," element}] "}"
@@ -108,7 +108,7 @@ sum_step s = construct constructs.SimpleExpression (if_present (λ x. word (sign
 abbrev pub term_step : Term-F Events Events Events Events Events Events Events Events Events → Events
 term_step t = construct constructs.Term (t.first ++ each (λ p. word (mul_kind p.0) ++ p.1) t.rest.items)
 
--- Each definition below folds the steps over the trees of one production.
+-- Each definition below gives the event sequence of a whole tree of one production, by folding the steps over the tree.
 unfoldable pub factor_events : Factor → Events
 factor_events = fold-Factor Events Events Events Events Events Events Events Events Events factor_step selector_step designator_step element_step element_list_step expr_step expr_list_step sum_step term_step
 

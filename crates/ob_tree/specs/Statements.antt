@@ -27,8 +27,8 @@ label_events (labels.Name q) = qualident_events q
 unfoldable pub label_range_events : LabelRange → Events
 label_range_events r = label_events r.low ++ if_present (λ l. word kinds.DotDot ++ label_events l) r.high
 
--- Each step below is one layer of a tree in which every child is replaced by its event sequence. A branch takes the keyword between its
--- condition and its statements as an argument: THEN in an IF, DO in a WHILE.
+-- Each `.._step` below gives the event sequence of a node from the event sequences of its children. A branch takes the keyword between
+-- its condition and its statements as an argument: THEN in an IF, DO in a WHILE.
 abbrev pub KeywordEvents : Type 0
 KeywordEvents = Kind → Events
 
@@ -74,7 +74,7 @@ for_step f =
     word kinds.For ++ (used f.variable ++ (word kinds.Assign ++ (expr_events f.from ++ (word kinds.To ++ (expr_events f.to ++
     (if_present (λ e. word kinds.By ++ expr_events e) f.by ++ (word kinds.Do ++ (f.body ++ word kinds.End))))))))
 
--- Each definition below folds the steps over the trees of one production.
+-- Each definition below gives the event sequence of a whole tree of one production, by folding the steps over the tree.
 unfoldable pub case_events : Case → Events
 case_events = fold-Case Events Events KeywordEvents Events Events case_step stmt_step branch_step for_step block_step
 

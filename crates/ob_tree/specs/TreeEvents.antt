@@ -11,9 +11,9 @@ use Rattle.ob_tree.specs.Constructs.{Construct, is_level}
 
 -- an event: the begin or the end of a construct, or a token
 pub data TreeEvent : Type 0 where
-  Begins : Construct → ℕ → TreeEvent  -- a construct of so many levels
+  Begins : Construct → ℕ → TreeEvent  -- a construct, and its number of levels
   Ends : Construct → TreeEvent
-  Identifier : Role → ℕ → TreeEvent  -- what it does, and its number
+  Identifier : Role → ℕ → TreeEvent  -- its role, and its token number
   Value : Literal → ℕ → TreeEvent
   Word : Kind → TreeEvent
 

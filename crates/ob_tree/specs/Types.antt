@@ -25,7 +25,7 @@ parameters_events p =
     word kinds.LeftParen ++ (if_present (separated kinds.Semicolon section_events) p.sections ++
     (word kinds.RightParen ++ if_present (λ q. word kinds.Colon ++ qualident_events q) p.result))
 
--- Each step below is one layer of a tree in which every child is replaced by its event sequence.
+-- Each `.._step` below gives the event sequence of a node from the event sequences of its children.
 
 -- type = qualident | ArrayType | RecordType | PointerType | ProcedureType
 -- ArrayType = ARRAY expression {"," expression} OF type
@@ -54,7 +54,7 @@ record_step r =
 abbrev pub var_step : VarDecl-F Events Events Events Events → Events
 var_step v = separated kinds.Comma identdef_events v.names ++ (word kinds.Colon ++ v.type_expr)
 
--- Each definition below folds the steps over the trees of one production.
+-- Each definition below gives the event sequence of a whole tree of one production, by folding the steps over the tree.
 unfoldable pub type_events : TypeForm → Events
 type_events = fold-TypeForm Events Events Events Events type_step fields_step record_step var_step
 

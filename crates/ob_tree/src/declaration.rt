@@ -79,7 +79,7 @@ pub enum TypeForm {
     RecordOf(Record),
     /// A pointer type, with the type of its target.
     PointerTo(Box<TypeForm>),
-    /// A procedure type, with its formal parameters if it has any list of them.
+    /// A procedure type, with its list of formal parameters, if it has one.
     ProcOf(Option<Parameters>),
 }
 

@@ -11,7 +11,7 @@ ghost use Rattle.ob_tree.specs.declared.declaration.Module.{Module};
 ghost use Rattle.ob_tree.specs.Derives.{Derives, yields};
 
 /// Each kind of token becomes one kind of leaf: an identifier a `Name`, a literal a `Value`, any token with a fixed spelling a `Word`.
-pub fn leaves_of_kinds()
+pub fn kinds_determine_leaves()
     // An identifier becomes a `Name`.
     ensures names { (n : ℕ) → leaf_of n kinds.Ident ≡ leafs.Name n }
     // A literal becomes a `Value` of its kind.
@@ -23,6 +23,6 @@ pub fn leaves_of_kinds()
 {}
 
 /// If a tree derives tokens, their numbers occur in it exactly once, in order.
-pub fn all_numbers()
+pub fn each_token_occurs_once()
     ensures { (kinds : List Kind) (m : Module) → Derives kinds m → yields m ≡ range_with_len 0 (length kinds) }
 {}

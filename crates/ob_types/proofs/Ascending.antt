@@ -35,7 +35,7 @@ place_of_images p f xs =
     ap (λ (n : ℕ). cond (nat_lt n (length (map f xs))) (Some n) None) (first_of_images p f xs)
     ∙ ap (λ (n : ℕ). cond (nat_lt (position_or_len (λ x. p (f x)) xs) n) (Some (position_or_len (λ x. p (f x)) xs)) None) (length-map xs f)
 
--- ---- names that ascend
+---- sorted names
 
 module _ {X : Type 0} (name : X → List ℕ) where
   abbrev pub Ascend : List X → Type 0
@@ -68,7 +68,7 @@ module _ {X : Type 0} (name : X → List ℕ) where
       ∙ ap is_eq (subst (λ (n : List ℕ). slice_cmp nat_cmp (name (get_or (x ∷ xs) j x)) n ≡ Less) is (less (x ∷ xs) s x i j h l)))
       (tells (get_or (x ∷ xs) i x) key ∙ ap is_eq (at x))
 
-  -- a binary search finds the first of a name
+  -- a binary search finds the first module of a name
   pub searched : (xs : List X) (key : List ℕ) (r : Result ℕ ℕ) → Ascend xs → IsSearchInRange r (length xs) → IsBinarySearchResult (λ (x : X). slice_cmp nat_cmp (name x) key) xs r
       → result_ok r ≡ position (λ (x : X). bytes_eq (name x) key) xs
   searched xs key (Ok i) s bound at = sym (found xs key i s bound at)
@@ -93,7 +93,7 @@ ascends reached s k d h =
     subst (λ (m : ModuleInterface). slice_cmp nat_cmp m.name (arc_value (get_or reached (k + 1) d)).name ≡ Less) (get_or-map arc_value reached k d (arc_value d) (omega arith))
     (subst (λ (n : ModuleInterface). slice_cmp nat_cmp (get_or (map arc_value reached) k (arc_value d)).name n.name ≡ Less) (get_or-map arc_value reached (k + 1) d (arc_value d) h) (s k (arc_value d) l))
 
--- what a binary search by name answers
+-- the result of a binary search by name
 pub among_modules : (reached : List Shared) (key : List ℕ) (r : Result ℕ ℕ) → AreByName (map arc_value reached) → IsSearchInRange r (length reached)
     → IsBinarySearchResult (λ (a : Shared). slice_cmp nat_cmp (name_of a) key) reached r → result_ok r ≡ module_number_in (map arc_value reached) key
 among_modules reached key r s bound at = searched name_of reached key r (ascends reached s) bound at ∙ sym (place_of_images (λ (m : ModuleInterface). bytes_eq m.name key) arc_value reached)

@@ -1,4 +1,4 @@
--- Results for all modules of a tree, translated to the modules that one of them reaches.
+-- Precomputed results for all modules of a tree, translated to the modules that one of them reaches.
 use Rattle.std.proofs.Common.{◌≡◌, ℕ, List, Bool, Option, Some, None, sym, ap, ◌∙◌, subst}
 use Rattle.std.specs.Prelude.{slice_get, IfSome}
 use Rattle.ob_interface.specs.Interfaces.{ModuleInterface}
@@ -6,7 +6,7 @@ use Rattle.type_graph.specs.declared.jump.Jump.{Jump}
 use Rattle.type_graph.specs.declared.jump.Jump.TheVariants as jumps
 use Rattle.type_graph.specs.Link.{IsTypeEnd}
 use Rattle.type_graph.specs.PathOrder.{IsJump}
-use Rattle.ob_types.specs.Alike.{part_alike, record_alike, AreNodesCommon, AreRecordsCommon, IsCommonModule}
+use Rattle.ob_types.specs.CommonModules.{part_alike, record_alike, AreNodesCommon, AreRecordsCommon, IsCommonModule}
 use Rattle.ob_types.specs.declared.nodes.Node.{Node}
 use Rattle.ob_types.specs.declared.nodes.Node.TheVariants as nodes
 use Rattle.ob_types.specs.declared.nodes.Record.{Record}
@@ -15,7 +15,7 @@ use Rattle.ob_types.specs.ModuleNumbers.{module_number_in}
 use Rattle.ob_types.specs.Shapes.{base_of, field_of, shape}
 use Rattle.ob_types.specs.Within.{AreWithin}
 use Rattle.ob_types.specs.World.{World, module_number}
-use Rattle.ob_types.proofs.Alike.{end_known, hop_from, hop_onto, lacks_field, no_end_known}
+use Rattle.ob_types.proofs.CommonModules.{end_known, hop_from, hop_onto, lacks_field, no_end_known}
 use Rattle.ob_types.proofs.Within.{imports_alike, number_is, place_is}
 
 -- the world of the tree reaches these modules

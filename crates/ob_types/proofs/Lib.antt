@@ -1,9 +1,9 @@
-pub mod Same
+pub mod SameDeclaration
 pub mod Firsts
 pub mod Ascending
 pub mod Backwards
 pub mod Telling
-pub mod Alike
+pub mod CommonModules
 pub mod Within
 pub mod PrecomputedEnds
 pub mod Lending

@@ -6,16 +6,16 @@ use Rattle.std.specs.Ordering.{nat_cmp}
 use Rattle.std.proofs.lemmas.Map.Lookups.{exact_pairs, exact_unsigned}
 use Rattle.type_graph.specs.Link.{IsTypeEnd}
 use Rattle.ob_types.specs.declared.nodes.Node.{Node}
-use Rattle.ob_types.specs.declared.precomputed.Ends.{Ends}
+use Rattle.ob_types.specs.declared.precomputed.TypeEnds.{TypeEnds}
 use Rattle.ob_types.specs.PrecomputedEnds.{key_cmp, AreAllEndsOf, AreEndsOf}
 use Rattle.ob_types.specs.Shapes.{shape}
 use Rattle.ob_types.specs.World.{World}
 
 -- the table stores the ends of one more declaration
-pub one_more : (w : World) (i d : ℕ) (ends : Ends) (before after : BTreeMap (ℕ × ℕ) Ends) → ((k : ℕ × ℕ) → get key_cmp after k ≡ cond (is_at (key_cmp (i, d)) k) (Some ends) (get key_cmp before k)) → AreEndsOf w i d ends → AreAllEndsOf w before → AreAllEndsOf w after
+pub one_more : (w : World) (i d : ℕ) (ends : TypeEnds) (before after : BTreeMap (ℕ × ℕ) TypeEnds) → ((k : ℕ × ℕ) → get key_cmp after k ≡ cond (is_at (key_cmp (i, d)) k) (Some ends) (get key_cmp before k)) → AreEndsOf w i d ends → AreAllEndsOf w before → AreAllEndsOf w after
 one_more w i d ends before after adds more are = record { each = λ j e listed is. (at j e listed (is_at (key_cmp (i, d)) (j, e)) refl (sym (adds (j, e)) ∙ is)) }
   where
-    at : (j e : ℕ) (listed : Ends) (b : Bool) → is_at (key_cmp (i, d)) (j, e) ≡ b → cond b (Some ends) (get key_cmp before (j, e)) ≡ Some listed → AreEndsOf w j e listed
+    at : (j e : ℕ) (listed : TypeEnds) (b : Bool) → is_at (key_cmp (i, d)) (j, e) ≡ b → cond b (Some ends) (get key_cmp before (j, e)) ≡ Some listed → AreEndsOf w j e listed
     at j e listed false f is = are.each j e listed is
     at j e listed true f is =
         let same : ends ≡ listed = cc in

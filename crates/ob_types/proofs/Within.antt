@@ -8,12 +8,12 @@ use Rattle.std.proofs.lemmas.Option.{slice_get-get_or}
 use Rattle.std.proofs.lemmas.Slice.Eq.{bytes_eq-Decides}
 use Rattle.ob_interface.specs.Interfaces.{ModuleInterface}
 use Rattle.ob_interface.specs.Placed.{module_named}
-use Rattle.ob_scope.proofs.Elements.{contains_slice}
-use Rattle.ob_types.specs.Alike.{IsCommonModule}
+use Rattle.module_table.proofs.Elements.{contains_slice}
+use Rattle.ob_types.specs.CommonModules.{IsCommonModule}
 use Rattle.ob_types.specs.ModuleNumbers.{module_number_in}
 use Rattle.ob_types.specs.Within.{AreWithin}
-use Rattle.ob_types.specs.World.{World, module_number, named_by_alias}
-use Rattle.ob_types.proofs.Alike.{no_homes, module_numbers, AreHomesAlike, AreImportsAlike}
+use Rattle.ob_types.specs.World.{World, module_number, aliased_module_name}
+use Rattle.ob_types.proofs.CommonModules.{no_homes, module_numbers, AreHomesAlike, AreImportsAlike}
 
 pub record IsPlaced (modules : List ModuleInterface) (k : ℕ) (name : List ℕ) : Type 0 where
   pub module_there : ModuleInterface
@@ -34,14 +34,14 @@ module _ (w v : World) (within : AreWithin v.reached w.reached) where
   twin_of i m at named =
       let (j, l, e) = within.among m (contains_slice w.reached i m at) in
       let external : slice_get v.reached j ≡ Some m = slice_get-get_or v.reached j m l ∙ ap (λ (x : ModuleInterface). Some x) e in
-      (j, record { common = m; here = at; external = external; resolve_type_name = named; resolve_imported_name = within.named j m external })
+      (j, record { common = m; here = at; external = external; index_in_first = named; index_in_second = within.named j m external })
 
   pub number_is : (i j : ℕ) (m : ModuleInterface) → slice_get w.reached i ≡ Some m → module_number w m.name ≡ Some i → module_number v m.name ≡ Some j → IsCommonModule w v i j
   number_is i j m at named is =
       let (k, t) = twin_of i m at named in
       let e : Some m ≡ Some t.common = sym at ∙ t.here in
       let same : m ≡ t.common = cc in
-      let f : Some k ≡ Some j = sym t.resolve_imported_name ∙ ap (λ (x : ModuleInterface). module_number v x.name) (sym same) ∙ is in
+      let f : Some k ≡ Some j = sym t.index_in_second ∙ ap (λ (x : ModuleInterface). module_number v x.name) (sym same) ∙ is in
       subst (λ (n : ℕ). IsCommonModule w v i n) (let g : k ≡ j = cc in g) t
 
   home_placed : (name : List ℕ) (i : ℕ) → module_number w name ≡ Some i → IsPlaced w.reached i name
@@ -55,7 +55,7 @@ module _ (w v : World) (within : AreWithin v.reached w.reached) where
       let (j, t) = twin_of i p.module_there p.at (ap (module_number w) p.named ∙ is) in
       let e : Some p.module_there ≡ Some t.common = sym p.at ∙ t.here in
       let same : p.module_there ≡ t.common = cc in
-      (j, ap (module_number v) (sym p.named ∙ ap (λ (x : ModuleInterface). x.name) same) ∙ t.resolve_imported_name, t)
+      (j, ap (module_number v) (sym p.named ∙ ap (λ (x : ModuleInterface). x.name) same) ∙ t.index_in_second, t)
 
   pub place_is : (i j : ℕ) (m : ModuleInterface) → slice_get v.reached j ≡ Some m → module_number w m.name ≡ Some i → IsCommonModule w v i j
   unfolding module_number
@@ -72,8 +72,8 @@ module _ (w v : World) (within : AreWithin v.reached w.reached) where
       let (j, is, t) = home_twin name k here in
       subst (λ (o : Option ℕ). AreHomesAlike w v (Some k) o) (sym is ∙ external) (module_numbers t)
 
-  named_by : (i : ℕ) (alias name : List ℕ) (m : ModuleInterface) → slice_get w.reached i ≡ Some m → named_by_alias w i alias ≡ Some name → module_named m alias ≡ Some name
-  unfolding named_by_alias
+  named_by : (i : ℕ) (alias name : List ℕ) (m : ModuleInterface) → slice_get w.reached i ≡ Some m → aliased_module_name w i alias ≡ Some name → module_named m alias ≡ Some name
+  unfolding aliased_module_name
   named_by i alias name m at e = sym (ap (option_and_then (λ (x : ModuleInterface). module_named x alias)) at) ∙ e
 
   pub imports_alike : AreImportsAlike w v

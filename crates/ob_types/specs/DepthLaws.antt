@@ -19,8 +19,8 @@ use Rattle.ob_types.specs.declared.nodes.Node.TheVariants as nodes
 use Rattle.ob_types.specs.declared.nodes.Record.{Record}
 use Rattle.ob_types.specs.declared.nodes.Record.TheVariants as records
 use Rattle.ob_types.specs.Depths.{part_count, imported_part_count, depth, all_parts, height}
-use Rattle.ob_types.specs.Shapes.{TypeShape, known, is_type, type_by, imported_type, exported_type, type_as, local_type, module_of_alias, resolve_type_name, type_if_visible, visible_type, may_mean, resolve_imported_name, local_shape, imported_part, imported_base_shape, shape, base_name, base_of}
-use Rattle.ob_types.specs.World.{World, text, meaning, decl_kind_of, type_index_of, record_at, module_number, exported, imported_declaration, named_declaration, named_by_alias, imported_base, imported_part as part_row_there}
+use Rattle.ob_types.specs.Shapes.{TypeShape, known, is_type, declared_type_shape, imported_type, exported_type, type_as, local_type, module_of_alias, resolve_type_name, type_if_visible, visible_type, may_mean, resolve_imported_name, local_shape, imported_part, imported_base_shape, shape, base_name, base_of}
+use Rattle.ob_types.specs.World.{World, text, meaning, decl_kind_of, type_index_of, record_at, module_number, exported, imported_declaration, named_declaration, aliased_module_name, imported_base, imported_part as part_row_there}
 
 -- ---- a type's name denotes a name or nothing known
 
@@ -52,12 +52,12 @@ map_name : (f : ℕ → TypeShape) (o : Option ℕ) → ((p : ℕ) → IsNameSha
 map_name f None h = tt
 map_name f (Some p) h = h p
 
-by_name : (i d : ℕ) (it : Declaration) → IsNameIf (type_by i d it)
+by_name : (i d : ℕ) (it : Declaration) → IsNameIf (declared_type_shape i d it)
 by_name i d it = if_name (is_type it.decl_kind) _ tt
 
 there_name : (w : World) (i d : ℕ) → IsNameIf (imported_type w i d)
 unfolding imported_type
-there_name w i d = then_name (type_by i d) (imported_declaration w i d) (by_name i d)
+there_name w i d = then_name (declared_type_shape i d) (imported_declaration w i d) (by_name i d)
 
 exported_name : (w : World) (name : List ℕ) (i : ℕ) → IsNameIf (exported_type w name i)
 unfolding exported_type
@@ -66,13 +66,13 @@ exported_name w name i = then_name (imported_type w i) (exported w i name) (ther
 as_name : (w : World) (k : ℕ) (s : DeclKind) → IsNameIf (type_as w k s)
 as_name w k s = if_name (is_type s) _ (map_name _ (type_index_of w k) (λ p. tt))
 
-module_name_token : (w : World) (k : ℕ) → IsNameIf (local_type w k)
+local_name : (w : World) (k : ℕ) → IsNameIf (local_type w k)
 unfolding local_type
-module_name_token w k = then_name (type_as w k) (decl_kind_of w k) (as_name w k)
+local_name w k = then_name (type_as w k) (decl_kind_of w k) (as_name w k)
 
 here_name : (w : World) (head : ℕ) (member : Option ℕ) → IsNameShape (resolve_type_name w head member)
 unfolding resolve_type_name
-here_name w head None = known_name _ (then_name (local_type w) (meaning w head) (module_name_token w))
+here_name w head None = known_name _ (then_name (local_type w) (meaning w head) (local_name w))
 here_name w head (Some m) = known_name _ (then_name (exported_type w (text w m)) (module_of_alias w head) (exported_name w (text w m)))
 
 seen_by_name : (i d start : ℕ) (is_target : Bool) (it : Declaration) → IsNameIf (type_if_visible i d start is_target it)
@@ -85,7 +85,7 @@ seen_name w i start is_target d = then_name (type_if_visible i d start is_target
 that_name : (w : World) (i start : ℕ) (is_target : Bool) (n : TypeName) → IsNameShape (resolve_imported_name w i start is_target n)
 unfolding resolve_imported_name
 that_name w i start is_target (Simple name) = known_name _ (then_name (visible_type w i start is_target) (named_declaration w i name) (seen_name w i start is_target))
-that_name w i start is_target (Qualified alias name) = known_name _ (then_name (exported_type w name) (option_and_then (module_number w) (named_by_alias w i alias)) (exported_name w name))
+that_name w i start is_target (Qualified alias name) = known_name _ (then_name (exported_type w name) (option_and_then (module_number w) (aliased_module_name w i alias)) (exported_name w name))
 
 -- a name is no other kind of type
 not_name : (s t : TypeShape) → IsNameShape s → s ≡ t → (IsNameShape t → ⊥) → ⊥

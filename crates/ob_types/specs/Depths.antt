@@ -15,7 +15,7 @@ part_count it = length it.type_expr
 unfoldable pub imported_part_count : World → ℕ → ℕ → ℕ
 imported_part_count w i d = unwrap_or (option_map part_count (imported_declaration w i d)) 0
 
--- the depth of a type: the number of components from it to the end of its list, plus one; 0 for a name
+-- the depth of a type: the number of components from it to the end of its list, plus one; 0 for a name that is no component
 unfoldable pub depth : World → Node → ℕ
 depth w (nodes.Own k) = length w.rows.parts + 1 - k
 depth w (nodes.Name head member) = 0

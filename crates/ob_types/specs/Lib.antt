@@ -1,12 +1,12 @@
 pub mod World
 pub mod Shapes
-pub mod Same
+pub mod SameDeclaration
 pub mod ModuleNumbers
-pub mod Parted
-pub mod Listed
+pub mod WorldOfParts
+pub mod FieldLists
 pub mod Depths
 pub mod DepthLaws
 pub mod NameLaws
-pub mod Alike
+pub mod CommonModules
 pub mod Within
 pub mod PrecomputedEnds

@@ -16,8 +16,8 @@ use Rattle.ob_types.specs.declared.nodes.Node.{Node}
 use Rattle.ob_types.specs.declared.nodes.Node.TheVariants as nodes
 use Rattle.ob_types.specs.declared.nodes.Record.{Record}
 use Rattle.ob_types.specs.declared.nodes.Record.TheVariants as records
-use Rattle.ob_types.specs.Shapes.{TypeShape, known, is_type, type_by, imported_type, exported_type, type_as, local_type, module_of_alias, resolve_type_name, type_if_visible, visible_type, may_mean, resolve_imported_name, local_shape, imported_part, imported_base_shape, shape, is_pointer_target}
-use Rattle.ob_types.specs.World.{World, text, meaning, decl_kind_of, type_index_of, module_number, exported, imported_declaration, named_declaration, named_by_alias, imported_base, imported_part as part_row_there}
+use Rattle.ob_types.specs.Shapes.{TypeShape, known, is_type, declared_type_shape, imported_type, exported_type, type_as, local_type, module_of_alias, resolve_type_name, type_if_visible, visible_type, may_mean, resolve_imported_name, local_shape, imported_part, imported_base_shape, shape, is_pointer_target}
+use Rattle.ob_types.specs.World.{World, text, meaning, decl_kind_of, type_index_of, module_number, exported, imported_declaration, named_declaration, aliased_module_name, imported_base, imported_part as part_row_there}
 
 -- ---- equality
 
@@ -73,12 +73,12 @@ if_given : (w : World) (b : Bool) (o : Option TypeShape) → IsGivenIf w o → I
 if_given w true o h = h
 if_given w false o h = tt
 
-by_given : (w : World) (i d : ℕ) (it : Declaration) → IsGivenIf w (type_by i d it)
+by_given : (w : World) (i d : ℕ) (it : Declaration) → IsGivenIf w (declared_type_shape i d it)
 by_given w i d it = if_given w (is_type it.decl_kind) (Some (shapes.Named (named.Other i d) (nodes.Other i d 0))) refl
 
 there_given : (w : World) (i d : ℕ) → IsGivenIf w (imported_type w i d)
 unfolding imported_type
-there_given w i d = then_given w (type_by i d) (imported_declaration w i d) (by_given w i d)
+there_given w i d = then_given w (declared_type_shape i d) (imported_declaration w i d) (by_given w i d)
 
 exported_given : (w : World) (name : List ℕ) (i : ℕ) → IsGivenIf w (exported_type w name i)
 unfolding exported_type
@@ -101,7 +101,7 @@ here_given w head None = known_given w _ (then_given w (local_type w) (meaning w
 here_given w head (Some m) = known_given w _ (then_given w (exported_type w (text w m)) (module_of_alias w head) (exported_given w (text w m)))
 
 seen_by_given : (w : World) (i d start : ℕ) (is_target : Bool) (it : Declaration) → IsGivenIf w (type_if_visible i d start is_target it)
-seen_by_given w i d start is_target it = if_given w (may_mean start is_target it) (type_by i d it) (by_given w i d it)
+seen_by_given w i d start is_target it = if_given w (may_mean start is_target it) (declared_type_shape i d it) (by_given w i d it)
 
 seen_given : (w : World) (i start : ℕ) (is_target : Bool) (d : ℕ) → IsGivenIf w (visible_type w i start is_target d)
 unfolding visible_type
@@ -110,7 +110,7 @@ seen_given w i start is_target d = then_given w (type_if_visible i d start is_ta
 that_given : (w : World) (i start : ℕ) (is_target : Bool) (n : TypeName) → IsGiven w (resolve_imported_name w i start is_target n)
 unfolding resolve_imported_name
 that_given w i start is_target (Simple name) = known_given w _ (then_given w (visible_type w i start is_target) (named_declaration w i name) (seen_given w i start is_target))
-that_given w i start is_target (Qualified alias name) = known_given w _ (then_given w (exported_type w name) (option_and_then (module_number w) (named_by_alias w i alias)) (exported_given w name))
+that_given w i start is_target (Qualified alias name) = known_given w _ (then_given w (exported_type w name) (option_and_then (module_number w) (aliased_module_name w i alias)) (exported_given w name))
 
 own_part_given : (w : World) (k b x : ℕ) (q : PartRow) → IsGiven w (local_shape w k (record { declared_by = b; number = x; part = q }))
 own_part_given w k b x parts.Array = tt

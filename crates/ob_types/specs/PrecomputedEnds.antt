@@ -10,7 +10,7 @@ use Rattle.type_graph.specs.Link.{IsTypeEnd}
 use Rattle.type_graph.specs.declared.paths.HeavyPaths.{HeavyPaths}
 use Rattle.ob_types.specs.declared.nodes.Node.TheVariants as nodes
 use Rattle.ob_types.specs.declared.nodes.Record.{Record}
-use Rattle.ob_types.specs.declared.precomputed.Ends.{Ends}
+use Rattle.ob_types.specs.declared.precomputed.TypeEnds.{TypeEnds}
 use Rattle.ob_types.specs.ModuleNumbers.{AreNumberedModules}
 use Rattle.ob_types.specs.Shapes.{base_of, field_of, shape}
 use Rattle.ob_types.specs.World.{World}
@@ -20,16 +20,16 @@ abbrev pub key_cmp : ℕ × ℕ → ℕ × ℕ → Ordering
 key_cmp a b = ordering_then (nat_cmp a.0 b.0) (nat_cmp a.1 b.1)
 
 -- the ends of the type that declaration d of module i gives
-pub record AreEndsOf (w : World) (i d : ℕ) (ends : Ends) : Type 0 where
+pub record AreEndsOf (w : World) (i d : ℕ) (ends : TypeEnds) : Type 0 where
   pub by_names : IsTypeEnd (shape w) false (nodes.Other i d 0) ends.by_names
   pub by_pointers : IsTypeEnd (shape w) true (nodes.Other i d 0) ends.by_pointers
 
 -- every stored pair of ends is right
-pub record AreAllEndsOf (w : World) (all : BTreeMap (ℕ × ℕ) Ends) : Type 0 where
-  pub each : (i d : ℕ) (ends : Ends) → get key_cmp all (i, d) ≡ Some ends → AreEndsOf w i d ends
+pub record AreAllEndsOf (w : World) (all : BTreeMap (ℕ × ℕ) TypeEnds) : Type 0 where
+  pub each : (i d : ℕ) (ends : TypeEnds) → get key_cmp all (i, d) ≡ Some ends → AreEndsOf w i d ends
 
 -- all precomputed results are right in a world that reaches exactly these modules, sorted by name
-pub record ArePrecomputed (modules : List ModuleInterface) (paths : Option (Box (HeavyPaths Record))) (ends : BTreeMap (ℕ × ℕ) Ends) : Type 0 where
+pub record ArePrecomputed (modules : List ModuleInterface) (paths : Option (Box (HeavyPaths Record))) (ends : BTreeMap (ℕ × ℕ) TypeEnds) : Type 0 where
   pub tree : World
   pub reached : tree.reached ≡ modules
   pub module_numbers : AreNumberedModules modules

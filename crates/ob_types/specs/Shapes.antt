@@ -19,7 +19,7 @@ use Rattle.ob_types.specs.declared.nodes.Record.{Record}
 use Rattle.ob_types.specs.declared.nodes.Record.TheVariants as records
 use Rattle.ob_types.specs.declared.nodes.Field.{Field}
 use Rattle.ob_types.specs.declared.nodes.Field.TheVariants as fields
-use Rattle.ob_types.specs.World.{World, text, meaning, decl_kind_of, type_index_of, type_node_of, item_of, field_at, record_at, module_number, module_of_item, exported_at, exported, imported_declaration, named_declaration, named_by_alias, imported_part as part_row_there, imported_base}
+use Rattle.ob_types.specs.World.{World, text, meaning, decl_kind_of, type_index_of, type_node_of, item_of, field_at, record_at, module_number, module_of_item, exported_at, exported, imported_declaration, named_declaration, aliased_module_name, imported_part as part_row_there, imported_base}
 
 -- a type of the graph
 abbrev pub TypeShape : Type 0
@@ -43,12 +43,12 @@ is_type decl_kinds.Field = false
 -- ---- names
 
 -- the type that declaration d of module i gives, if it is a type declaration
-abbrev pub type_by : ℕ → ℕ → Declaration → Option TypeShape
-type_by i d it = if is_type it.decl_kind then Some (shapes.Named (named.Other i d) (nodes.Other i d 0)) else None
+abbrev pub declared_type_shape : ℕ → ℕ → Declaration → Option TypeShape
+declared_type_shape i d it = if is_type it.decl_kind then Some (shapes.Named (named.Other i d) (nodes.Other i d 0)) else None
 
 -- the type that a reached module's declaration gives, by the indexes of both
 unfoldable pub imported_type : World → ℕ → ℕ → Option TypeShape
-imported_type w i d = option_and_then (type_by i d) (imported_declaration w i d)
+imported_type w i d = option_and_then (declared_type_shape i d) (imported_declaration w i d)
 
 -- the type of this name that a module exports
 unfoldable pub exported_type : World → List ℕ → ℕ → Option TypeShape
@@ -78,7 +78,7 @@ may_mean start is_target it = nat_lt it.start start || (is_target && is_type it.
 
 -- the type that a declaration gives, if a name at this offset may mean it
 abbrev pub type_if_visible : ℕ → ℕ → ℕ → Bool → Declaration → Option TypeShape
-type_if_visible i d start is_target it = if may_mean start is_target it then type_by i d it else None
+type_if_visible i d start is_target it = if may_mean start is_target it then declared_type_shape i d it else None
 
 -- the type that declaration d of the reached module i gives, if a name at this offset may mean it
 unfoldable pub visible_type : World → ℕ → ℕ → Bool → ℕ → Option TypeShape
@@ -87,11 +87,11 @@ visible_type w i start is_target d = option_and_then (type_if_visible i d start 
 -- the type that a name at this offset denotes in the source of a reached module
 unfoldable pub resolve_imported_name : World → ℕ → ℕ → Bool → TypeName → TypeShape
 resolve_imported_name w i start is_target (Simple name) = known (option_and_then (visible_type w i start is_target) (named_declaration w i name))
-resolve_imported_name w i start is_target (Qualified alias name) = known (option_and_then (exported_type w name) (option_and_then (module_number w) (named_by_alias w i alias)))
+resolve_imported_name w i start is_target (Qualified alias name) = known (option_and_then (exported_type w name) (option_and_then (module_number w) (aliased_module_name w i alias)))
 
 -- ---- type expressions
 
--- a component of the module itself, with index k
+-- the type at this component of the module itself, which has the index k
 abbrev pub local_shape : World → ℕ → TypePart → TypeShape
 local_shape w k p = of p.part
   where
@@ -116,7 +116,7 @@ unfoldable pub is_pointer_target : World → ℕ → ℕ → ℕ → Bool
 is_pointer_target w i d zero = false
 is_pointer_target w i d (suc j) = is_pointer (part_row_there w i d j)
 
--- a component of a declaration of a reached module
+-- the type at component j of declaration d of the reached module i
 abbrev pub imported_part : World → ℕ → ℕ → ℕ → Part → TypeShape
 imported_part w i d j Array = shapes.Array (nodes.Other i d (suc j))
 imported_part w i d j Pointer = shapes.Pointer (nodes.Other i d (suc j))
@@ -142,7 +142,7 @@ unfoldable pub field_of : World → Record → List ℕ → Option Field
 field_of w (records.Own r) name = option_map fields.Own (field_at w r name)
 field_of w (records.Other i r) name = option_map (fields.Other i) (option_and_then (λ (m : ModuleInterface). exported_at m (Some r) name) (slice_get w.reached i))
 
--- the base of a record, by its name
+-- the base of a record, as the node of its name
 abbrev pub base_name : RecordRow → Option Node
 base_name row = option_map (λ (b : NameRow). nodes.Name b.head b.member) row.base
 

@@ -14,7 +14,7 @@ use Rattle.module_table.specs.declared.rows.DeclKind.{DeclKind}
 use Rattle.module_table.specs.Parts.{Rows}
 use Rattle.ob_interface.specs.Interfaces.{Base, Declaration, ModuleInterface, Part}
 use Rattle.ob_interface.specs.Placed.{index_of, declaration_at, type_part, module_named, base_named, owner_index}
-use Rattle.ob_scope.specs.Scoped.{Meaning, ModuleScopes}
+use Rattle.scopes.specs.Scoped.{Meaning, ModuleScopes}
 use Rattle.ob_types.specs.declared.nodes.Node.{Node}
 use Rattle.ob_types.specs.declared.nodes.Node.TheVariants as nodes
 
@@ -136,5 +136,5 @@ unfoldable pub named_declaration : World → ℕ → List ℕ → Option ℕ
 named_declaration w i name = option_and_then (λ (m : ModuleInterface). index_of m None name) (slice_get w.reached i)
 
 -- the own name of the module that an alias of a reached module denotes
-unfoldable pub named_by_alias : World → ℕ → List ℕ → Option (List ℕ)
-named_by_alias w i alias = option_and_then (λ (m : ModuleInterface). module_named m alias) (slice_get w.reached i)
+unfoldable pub aliased_module_name : World → ℕ → List ℕ → Option (List ℕ)
+aliased_module_name w i alias = option_and_then (λ (m : ModuleInterface). module_named m alias) (slice_get w.reached i)

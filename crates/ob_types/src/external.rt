@@ -1,12 +1,12 @@
 //! Look-ups in the interfaces of the reached modules, by the indexes of modules and declarations.
-#![tactic(auto, unfolding(crate::specs::World::exported_at, crate::specs::World::exported, crate::specs::World::imported_declaration, crate::specs::World::imported_kind, crate::specs::World::imported_part, crate::specs::World::imported_base, crate::specs::World::imported_owner, crate::specs::World::named_declaration, crate::specs::World::named_by_alias))]
+#![tactic(auto, unfolding(crate::specs::World::exported_at, crate::specs::World::exported, crate::specs::World::imported_declaration, crate::specs::World::imported_kind, crate::specs::World::imported_part, crate::specs::World::imported_base, crate::specs::World::imported_owner, crate::specs::World::named_declaration, crate::specs::World::aliased_module_name))]
 
 ghost use Rattle.std.specs.Prelude.{◌≡◌, ◌+◌, ◌<◌, ◌^◌, None, Some, OnSome, slice_get};
 ghost use Rattle.std.specs.Option.{option_and_then, option_map};
 ghost use Rattle.ob_interface.specs.Views.{base_value, declaration_value, part_value};
 ghost use Rattle.ob_interface.specs.Interfaces.{ModuleInterface};
-ghost use Rattle.ob_types.specs.Parted.{world_of};
-ghost use Rattle.ob_types.specs.World.{imported_base, imported_declaration, named_declaration, exported, exported_at, named_by_alias, imported_owner, imported_part, imported_kind};
+ghost use Rattle.ob_types.specs.WorldOfParts.{world_of};
+ghost use Rattle.ob_types.specs.World.{imported_base, imported_declaration, named_declaration, exported, exported_at, aliased_module_name, imported_owner, imported_part, imported_kind};
 
 use crate::parts::Parts;
 use module_table::DeclKind;
@@ -100,8 +100,8 @@ impl<'a> Parts<'a> {
     }
 
     /// The own name of the module that an alias denotes.
-    pub(crate) fn named_by_alias(&self, reached: u32, alias: &[u8]) -> Option<&'a [u8]>
-        ensures { option_map (λ m. m.now) result ≡ named_by_alias (world_of self.now) reached alias.now }
+    pub(crate) fn aliased_module_name(&self, reached: u32, alias: &[u8]) -> Option<&'a [u8]>
+        ensures { option_map (λ m. m.now) result ≡ aliased_module_name (world_of self.now) reached alias.now }
     {
         self.module(reached)?.module_of(alias)
     }

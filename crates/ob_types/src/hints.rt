@@ -5,7 +5,7 @@ use std::alloc::{AllocError, Global};
 
 /// Hints are stored only if a table has at most this many tokens, and components of type expressions, for each declared identifier. So
 /// building them takes time linear in the number of declared identifiers.
-const MOST_EACH: usize = 256;
+const MAX_PER_IDENTIFIER: usize = 256;
 
 /// The hints of a declared identifier: the indexes of its declaration group and of the outermost component of its type.
 #[derive(Clone, Copy, Drop)]
@@ -66,7 +66,7 @@ fn hints_of_declared(alloc: Global, table: &Table) -> Result<Vec<Hint>, AllocErr
 }
 
 /// Stores the index of each declared identifier at its token.
-fn note_indexes(indexes: &mut [u32], rows: &[Declared]) {
+fn store_indexes(indexes: &mut [u32], rows: &[Declared]) {
     for at in 0..rows.len() {
         let token = rows[at].number as usize;
         if token < indexes.len() {
@@ -77,12 +77,16 @@ fn note_indexes(indexes: &mut [u32], rows: &[Declared]) {
 
 /// Whether a table with this number of tokens has enough declared identifiers to store hints.
 fn is_worthwhile(table: &Table, tokens: usize) -> bool {
-    let most = table.declared().len().saturating_mul(MOST_EACH);
+    let most = table.declared().len().saturating_mul(MAX_PER_IDENTIFIER);
     tokens <= most && table.parts().len() <= most
 }
 
 /// The hints of a table with this number of tokens. If they aren't stored, entries are found by binary search.
-pub(crate) fn hints_of(alloc: Global, table: &Table, tokens: usize) -> Result<Hints, AllocError> {
+pub(crate) fn build_hints(
+    alloc: Global,
+    table: &Table,
+    tokens: usize,
+) -> Result<Hints, AllocError> {
     if !is_worthwhile(table, tokens) {
         return Ok(Hints {
             declared: Vec::new(alloc),
@@ -91,7 +95,7 @@ pub(crate) fn hints_of(alloc: Global, table: &Table, tokens: usize) -> Result<Hi
     }
     let of_declared = hints_of_declared(alloc, table)?;
     let mut declared = vec![in alloc; 0u32; tokens]?;
-    note_indexes(declared.as_mut_slice(), table.declared());
+    store_indexes(declared.as_mut_slice(), table.declared());
     Ok(Hints {
         declared,
         of_declared,

@@ -31,7 +31,7 @@ pub(crate) fn decl_group_if_at(rows: &[DeclGroup], at: usize, first: u32) -> Opt
 }
 
 /// Whether the component before this index belongs to an earlier declaration group.
-fn is_first(parts: &[TypePart], at: usize, first: u32) -> bool
+fn begins_type_expr(parts: &[TypePart], at: usize, first: u32) -> bool
     requires { IsMonotoneBy (λ (p : PartRow). p.declared_by) parts.now }
     ensures { result ≡ true → (j : ℕ) (p : PartRow) → j < at → slice_get parts.now j ≡ Some p → p.declared_by < first }
 {
@@ -50,7 +50,7 @@ pub(crate) fn type_if_at(parts: &[TypePart], at: usize, first: u32) -> Option<us
     ensures { IfSome result (λ index. position (λ (p : PartRow). p.declared_by == first) parts.now ≡ Some index) }
 {
     let part = parts.get(at)?;
-    if part.declared_by == first && is_first(parts, at, first) {
+    if part.declared_by == first && begins_type_expr(parts, at, first) {
         Some(at)
     } else {
         None
@@ -74,7 +74,7 @@ pub(crate) fn find_type_part(parts: &[TypePart], first: u32) -> Option<usize>
 }
 
 /// Whether the token comes after all aliases, as most do: import items come before all other declarations.
-fn all_before(imports: &[Import], alias: u32) -> bool
+fn follows_all_aliases(imports: &[Import], alias: u32) -> bool
     requires { IsMonotoneBy (λ (i : ImportItem). i.alias) imports.now }
     ensures { result ≡ true → position (λ (i : ImportItem). i.alias == alias) imports.now ≡ None }
 {
@@ -90,7 +90,7 @@ pub(crate) fn find_import(imports: &[Import], alias: u32) -> Option<u32>
     requires few { length imports.now ≤ 2 ^ 32 }
     ensures { result ≡ position (λ (i : ImportItem). i.alias == alias) imports.now }
 {
-    if all_before(imports, alias) {
+    if follows_all_aliases(imports, alias) {
         return None;
     }
     let at = imports.partition_point(|item| item.alias < alias);

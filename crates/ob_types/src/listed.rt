@@ -4,9 +4,9 @@ ghost use Rattle.std.specs.Arc.{arc_value};
 ghost use Rattle.ob_interface.specs.Views.{declaration_value};
 ghost use Rattle.ob_scan.specs.Spelling.{AreInText};
 ghost use Rattle.type_graph.specs.ListedFields.{AreAllFields};
-ghost use Rattle.ob_types.specs.Parted.{world_of, IsBounded};
+ghost use Rattle.ob_types.specs.WorldOfParts.{world_of, IsBounded};
 ghost use Rattle.ob_types.specs.Shapes.{field_of};
-ghost use Rattle.ob_types.specs.Listed.{ListsDeclaration, ListsModule, ListsLocal, ListsReached, ListsRow};
+ghost use Rattle.ob_types.specs.FieldLists.{ListsDeclaration, ListsModule, ListsLocal, ListsReached, ListsRow};
 
 use crate::names::record_of;
 use crate::nodes::Record;
@@ -17,7 +17,7 @@ use std::alloc::{AllocError, Global};
 use type_graph::RecordField;
 
 /// Appends an identifier that the module declares, if it is a field.
-fn add_row<'a>(
+fn append_if_field<'a>(
     parts: &Parts<'a>,
     fields: &mut Vec<RecordField<'a, Record>>,
     index: usize,
@@ -39,7 +39,7 @@ fn add_row<'a>(
 }
 
 /// Appends the fields that the module declares.
-fn add_local<'a>(
+fn append_local_fields<'a>(
     parts: &Parts<'a>,
     fields: &mut Vec<RecordField<'a, Record>>,
 ) -> Result<(), AllocError>
@@ -48,13 +48,13 @@ fn add_local<'a>(
 {
     let rows = parts.table.declared();
     for index in 0..rows.len() {
-        add_row(parts, fields, index, rows[index])?;
+        append_if_field(parts, fields, index, rows[index])?;
     }
     Ok(())
 }
 
 /// Appends a declaration of a reached module, if it is an exported field.
-fn add_declaration<'a>(
+fn append_if_exported_field<'a>(
     fields: &mut Vec<RecordField<'a, Record>>,
     reached: u32,
     declaration: &Declaration<'a>,
@@ -74,7 +74,7 @@ fn add_declaration<'a>(
 }
 
 /// Appends the fields that a reached module exports.
-fn add_module<'a>(
+fn append_module_fields<'a>(
     module: &'a Interface,
     fields: &mut Vec<RecordField<'a, Record>>,
     reached: u32,
@@ -84,14 +84,14 @@ fn add_module<'a>(
     for index in 0..module.declaration_count() {
         match module.declaration_at(index as u32) {
             None => return Ok(()),
-            Some(declaration) => add_declaration(fields, reached, &declaration)?,
+            Some(declaration) => append_if_exported_field(fields, reached, &declaration)?,
         }
     }
     Ok(())
 }
 
 /// Appends the fields that all reached modules export.
-fn add_reached<'a>(
+fn append_reached_fields<'a>(
     parts: &Parts<'a>,
     fields: &mut Vec<RecordField<'a, Record>>,
 ) -> Result<(), AllocError>
@@ -100,7 +100,7 @@ fn add_reached<'a>(
 {
     let reached = parts.reached;
     for at in 0..reached.len() {
-        add_module(&reached[at], fields, at as u32)?;
+        append_module_fields(&reached[at], fields, at as u32)?;
     }
     Ok(())
 }
@@ -115,8 +115,8 @@ pub(crate) fn list_fields<'a>(
     ensures { IfOk result (λ fields. AreAllFields (field_of (world_of parts.now)) fields.items) }
 {
     let mut fields = Vec::new(alloc);
-    add_local(parts, &mut fields)?;
-    add_reached(parts, &mut fields)?;
+    append_local_fields(parts, &mut fields)?;
+    append_reached_fields(parts, &mut fields)?;
     Ok(fields)
 }
 
@@ -153,7 +153,7 @@ pub(crate) fn last_part<'a>(module: &'a Interface, index: u32) -> Option<(usize,
 }
 
 /// Appends the records of the declarations of a reached module.
-fn add_records(
+fn append_records(
     module: &Interface,
     records: &mut Vec<Record>,
     reached: u32,
@@ -182,13 +182,13 @@ pub(crate) fn list_records(alloc: Global, parts: &Parts<'_>) -> Result<Vec<Recor
     let mut records = local_records(alloc, parts)?;
     let reached = parts.reached;
     for at in 0..reached.len() {
-        add_records(&reached[at], &mut records, at as u32)?;
+        append_records(&reached[at], &mut records, at as u32)?;
     }
     Ok(records)
 }
 
-/// An estimate of the number of declarations of a reached module, at most twice that number.
-fn about(module: &Interface) -> u64 {
+/// An upper estimate of the number of declarations of a reached module: the smallest power of two that isn't below it.
+fn estimate_declaration_count(module: &Interface) -> u64 {
     let mut many = 1_u32;
     for _ in 0..32 {
         if module.declaration_at(many).is_none() {
@@ -208,7 +208,7 @@ pub(crate) fn size_estimate(parts: &Parts<'_>) -> u64 {
         .saturating_add(parts.table.records().len());
     let mut size = own as u64;
     for module in parts.reached {
-        size = size.saturating_add(about(module));
+        size = size.saturating_add(estimate_declaration_count(module));
     }
     size
 }

@@ -6,7 +6,7 @@ ghost use Rattle.indexmap.specs.IndexMap.{get};
 ghost use Rattle.module_table.specs.declared.rows.DeclGroup.{DeclGroup as Construct};
 ghost use Rattle.ob_scan.specs.Spelling.{AreInText};
 ghost use Rattle.ob_types.specs.ModuleNumbers.{AreNumberedModules};
-ghost use Rattle.ob_types.specs.Parted.{module_by_item, field_key_eq, world_of, AreFields, FieldKey};
+ghost use Rattle.ob_types.specs.WorldOfParts.{module_by_item, field_key_eq, world_of, AreFields, FieldKey};
 ghost use Rattle.ob_types.specs.World.{decl_group_from, is_of_record, text};
 
 use crate::module_numbers::index_of;
@@ -38,7 +38,7 @@ pub(crate) fn record_of(parts: &Parts<'_>, index: usize, first: u32) -> Option<u
 }
 
 /// Inserts an identifier if it is a field. A later insertion replaces an earlier one of equal key.
-fn add_field<'a>(
+fn insert_if_field<'a>(
     parts: &Parts<'a>,
     fields: &mut IndexMap<(u32, Name<'a>), u32, Seed>,
     index: usize,
@@ -59,7 +59,7 @@ fn add_field<'a>(
 
 /// The fields by record and name. Inserting from the last to the first keeps the first of several with one name. The map is boxed, so
 /// that moving it copies one pointer.
-pub(crate) fn fields_of<'a>(
+pub(crate) fn index_fields<'a>(
     alloc: Global,
     parts: &Parts<'a>,
 ) -> Result<Box<IndexMap<(u32, Name<'a>), u32, Seed>>, AllocError>
@@ -72,7 +72,7 @@ pub(crate) fn fields_of<'a>(
     let mut at = rows.len();
     'rows: while at > 0 {
         at -= 1;
-        add_field(parts, &mut fields, at, rows[at])?;
+        insert_if_field(parts, &mut fields, at, rows[at])?;
     }
     Ok(fields)
 }

@@ -3,7 +3,7 @@
 
 ghost use Rattle.std.specs.Prelude.{◌≡◌, ◌+◌, ◌<◌, ◌^◌, OnSome, slice_get};
 ghost use Rattle.ob_scan.specs.Spelling.{AreInText};
-ghost use Rattle.ob_types.specs.Parted.{world_of, IsBounded};
+ghost use Rattle.ob_types.specs.WorldOfParts.{world_of, IsBounded};
 ghost use Rattle.ob_types.specs.World.{declared_at, decl_group_from, decl_group_of, type_index_of, type_index_from, item_of, meaning, owner_at, record_at, decl_kind_of, text};
 
 use crate::hints::Hints;
@@ -11,7 +11,7 @@ use crate::indexes::{decl_group_if_at, declared_if_at, find_import, find_type_pa
 use module_table::{DeclGroup, DeclKind, Declared, Record, Table, TypePart};
 use ob_interface::Interface;
 use ob_scan::{Token, TokenTexts};
-use ob_scope::Scopes;
+use scopes::Scopes;
 use std::sync::Arc;
 
 /// A module's bytes, tokens, table and scopes, the interfaces of the modules that it reaches, and hints for its table.

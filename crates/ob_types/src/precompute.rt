@@ -4,9 +4,11 @@ ghost use Rattle.std.specs.Prelude.{◌≡◌, IfOk, IfSome};
 ghost use Rattle.ob_types.specs.PrecomputedEnds.{AreAllEndsOf};
 ghost use Rattle.ob_types.specs.declared.nodes.Node.TheVariants as nodes;
 
-use crate::chain_lengths::{Link, all_chain_ends, digest_of, records_of, renamed};
+use crate::chain_lengths::{
+    ChainLink, chain_end_names, chain_end_records, digest_links, find_chain_ends,
+};
 use crate::nodes::Node;
-use crate::precomputed::{Ends, PrecomputedTypes, share_modules};
+use crate::precomputed::{PrecomputedTypes, TypeEnds, share_modules};
 use crate::types::Types;
 use std::alloc::{AllocError, Global};
 use std::collections::BTreeMap;
@@ -24,18 +26,18 @@ fn type_expr(reached: u32, declaration: u32) -> Node
 }
 
 /// The ends of the types that these declarations give.
-fn ends_of(
+fn compute_ends(
     alloc: Global,
     finder: &mut Finder<'_, Types<'_>>,
     links: &[(u32, u32)],
-) -> Result<BTreeMap<(u32, u32), Ends>, AllocError>
+) -> Result<BTreeMap<(u32, u32), TypeEnds>, AllocError>
     ensures graph { finder.new ≡ finder.old }
     ensures ends { IfOk result (AreAllEndsOf finder.old) }
 {
     let mut all = BTreeMap::new(alloc);
     for (reached, declaration) in links {
         let node = type_expr(*reached, *declaration);
-        let ends = Ends {
+        let ends = TypeEnds {
             by_names: finder.end(false, node)?,
             by_pointers: finder.end(true, node)?,
         };
@@ -48,17 +50,17 @@ fn ends_of(
 fn build_precomputed(
     alloc: Global,
     types: &Types<'_>,
-    chain_ends: &[Link],
+    chain_ends: &[ChainLink],
 ) -> Result<PrecomputedTypes, AllocError>
     ensures { IfOk result (λ s. s ≡ types.now.reached) }
 {
-    let digest = digest_of(chain_ends).to_le_bytes();
+    let digest = digest_links(chain_ends).to_le_bytes();
     let mut finder = Finder::new(alloc, types, &digest, chain_ends.len());
-    let names = renamed(alloc, chain_ends)?;
-    let ends = ends_of(alloc, &mut finder, names.as_slice())?;
-    let records = records_of(alloc, chain_ends)?;
+    let names = chain_end_names(alloc, chain_ends)?;
+    let ends = compute_ends(alloc, &mut finder, names.as_slice())?;
+    let records = chain_end_records(alloc, chain_ends)?;
     Ok(PrecomputedTypes {
-        modules: share_modules(alloc, types.indexed.parts.reached)?,
+        modules: share_modules(alloc, types.indexed_module.parts.reached)?,
         paths: finder.decompose(records.as_slice())?,
         ends,
     })
@@ -72,7 +74,7 @@ pub fn precompute_types(
 ) -> Result<Option<Box<PrecomputedTypes>>, AllocError>
     ensures { IfOk result (λ known. IfSome known (λ s. s.value ≡ types.now.reached)) }
 {
-    let chain_ends = all_chain_ends(alloc, &types.indexed)?;
+    let chain_ends = find_chain_ends(alloc, &types.indexed_module)?;
     if chain_ends.is_empty() {
         return Ok(None);
     }

@@ -5,15 +5,15 @@ ghost use Rattle.std.specs.Prelude.{◌≡◌, ℕ, None, IfOk, IfSome, map};
 ghost use Rattle.std.specs.Arc.{arc_value};
 ghost use Rattle.type_graph.specs.Link.{IsTypeEnd};
 ghost use Rattle.type_graph.specs.PathOrder.{IsJump};
-ghost use Rattle.ob_types.specs.Alike.{AreNodesCommon, AreRecordsCommon, IsCommonModule};
+ghost use Rattle.ob_types.specs.CommonModules.{AreNodesCommon, AreRecordsCommon, IsCommonModule};
 ghost use Rattle.ob_types.specs.PrecomputedEnds.{AreEndsOf};
-ghost use Rattle.ob_types.specs.Parted.{world_of};
+ghost use Rattle.ob_types.specs.WorldOfParts.{world_of};
 ghost use Rattle.ob_types.specs.Shapes.{base_of, field_of, shape};
 ghost use Rattle.ob_types.specs.Within.{AreWithin};
 ghost use Rattle.ob_types.specs.World.{World};
 ghost use Rattle.ob_types.specs.declared.nodes.Node.TheVariants as nodes;
 
-use crate::indexed::Indexed;
+use crate::indexed_module::IndexedModule;
 use crate::module_numbers::index_of;
 use crate::nodes::{Field, Named, Node, Record};
 use ob_interface::Interface;
@@ -25,14 +25,14 @@ use type_graph::{HeavyPaths, Jump, jump_along};
 
 /// The ends of a declaration's type: through names, and through names and pointers.
 #[derive(Clone, Copy, Drop)]
-pub(crate) struct Ends {
+pub(crate) struct TypeEnds {
     pub(crate) by_names: Option<Node>,
     pub(crate) by_pointers: Option<Node>,
 }
 
-impl Ends {
+impl TypeEnds {
     /// The end through names, and through pointers if `pointers` is set.
-    fn along(self, pointers: bool) -> Option<Node>
+    fn end_along(self, pointers: bool) -> Option<Node>
         ensures { (w : World) (i d : ℕ) → AreEndsOf w i d self → IsTypeEnd (shape w) pointers (nodes.Other i d 0) result }
     {
         if pointers {
@@ -50,7 +50,7 @@ pub struct PrecomputedTypes {
     pub(crate) modules: Vec<Arc<Interface>>,
     pub(crate) paths: Option<Box<HeavyPaths<Record>>>,
     /// The ends by the indexes of module and declaration.
-    pub(crate) ends: BTreeMap<(u32, u32), Ends>,
+    pub(crate) ends: BTreeMap<(u32, u32), TypeEnds>,
 }
 
 impl Model for PrecomputedTypes {
@@ -82,7 +82,7 @@ pub(crate) fn share_modules(
 
 impl PrecomputedTypes {
     /// The index in the tree of a module that is reached here.
-    fn number_of(&self, here: &Indexed<'_>, reached: u32) -> Option<u32>
+    fn tree_index(&self, here: &IndexedModule<'_>, reached: u32) -> Option<u32>
         requires { AreWithin self.now (world_of here.now.parts).reached }
         ensures { (v : World) → v.reached ≡ self.now → IfSome result (IsCommonModule (world_of here.now.parts) v reached) }
     {
@@ -95,7 +95,7 @@ impl PrecomputedTypes {
     }
 
     /// The index here of a module of the tree.
-    fn index_of(&self, here: &Indexed<'_>, number: u32) -> Option<u32>
+    fn index_of(&self, here: &IndexedModule<'_>, number: u32) -> Option<u32>
         requires { AreWithin self.now (world_of here.now.parts).reached }
         ensures { (v : World) → v.reached ≡ self.now → IfSome result (λ i. IsCommonModule (world_of here.now.parts) v i number) }
     {
@@ -104,7 +104,7 @@ impl PrecomputedTypes {
     }
 
     /// The node here that corresponds to a node of the tree.
-    fn node_of(&self, here: &Indexed<'_>, node: Node) -> Option<Node>
+    fn node_in_reached(&self, here: &IndexedModule<'_>, node: Node) -> Option<Node>
         requires { AreWithin self.now (world_of here.now.parts).reached }
         ensures { (v : World) → v.reached ≡ self.now → IfSome result (λ n. AreNodesCommon (world_of here.now.parts) v n node) }
     {
@@ -127,7 +127,7 @@ impl PrecomputedTypes {
     }
 
     /// The record here that corresponds to a record of the tree.
-    fn record_of(&self, here: &Indexed<'_>, record: Record) -> Option<Record>
+    fn record_of(&self, here: &IndexedModule<'_>, record: Record) -> Option<Record>
         requires { AreWithin self.now (world_of here.now.parts).reached }
         ensures { (v : World) → v.reached ≡ self.now → IfSome result (λ r. AreRecordsCommon (world_of here.now.parts) v r «record») }
     {
@@ -140,8 +140,13 @@ impl PrecomputedTypes {
         }
     }
 
-    /// The precomputed end of a type.
-    pub(crate) fn end(&self, here: &Indexed<'_>, pointers: bool, node: Node) -> Option<Option<Node>>
+    /// The precomputed end of a type; `None` if it isn't precomputed.
+    pub(crate) fn end(
+        &self,
+        here: &IndexedModule<'_>,
+        pointers: bool,
+        node: Node,
+    ) -> Option<Option<Node>>
         requires { AreWithin self.now (world_of here.now.parts).reached }
         ensures { IfSome result (IsTypeEnd (shape (world_of here.now.parts)) pointers node) }
     {
@@ -153,18 +158,18 @@ impl PrecomputedTypes {
         else {
             return None;
         };
-        let number = self.number_of(here, reached)?;
+        let number = self.tree_index(here, reached)?;
         let ends = *self.ends.get(&(number, declaration))?;
-        match ends.along(pointers) {
+        match ends.end_along(pointers) {
             None => Some(None),
-            Some(last) => Some(Some(self.node_of(here, last)?)),
+            Some(last) => Some(Some(self.node_in_reached(here, last)?)),
         }
     }
 
-    /// The precomputed jump of a search for a name from a record that lacks the field.
+    /// The precomputed jump of a search for a name from a record that lacks the field; `None` if it isn't precomputed.
     pub(crate) fn jump(
         &self,
-        here: &Indexed<'_>,
+        here: &IndexedModule<'_>,
         record: Record,
         name: &[u8],
     ) -> Option<Jump<Record>>
@@ -177,7 +182,7 @@ impl PrecomputedTypes {
             return None;
         };
         let external = Record::Other {
-            reached: self.number_of(here, reached)?,
+            reached: self.tree_index(here, reached)?,
             record,
         };
         match jump_along::<Node, Named, Record, Field>(paths, external, name) {

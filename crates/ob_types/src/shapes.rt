@@ -4,12 +4,12 @@
 ghost use Rattle.std.specs.Prelude.{◌≡◌, ◌+◌, ◌<◌, ◌^◌};
 ghost use Rattle.std.specs.Option.{option_and_then, option_map};
 ghost use Rattle.ob_interface.specs.Views.{name_value, part_value};
-ghost use Rattle.ob_types.specs.Parted.{world_of};
+ghost use Rattle.ob_types.specs.WorldOfParts.{world_of};
 ghost use Rattle.ob_types.specs.Shapes.{base_of, is_pointer_target, exported_type, field_of, is_pointer, resolve_imported_name, local_shape, imported_part, visible_type, shape, type_of_field};
-ghost use Rattle.ob_types.specs.World.{named_declaration, module_number, named_by_alias};
+ghost use Rattle.ob_types.specs.World.{named_declaration, module_number, aliased_module_name};
 ghost use Rattle.ob_types.specs.declared.nodes.Node.TheVariants as nodes;
 
-use crate::indexed::{Indexed, is_type, known, type_by};
+use crate::indexed_module::{IndexedModule, declared_type_shape, is_type, known};
 use crate::nodes::{Field, Named, Node, Record};
 use module_table::{Part as PartRow, TypePart};
 use ob_interface::{Part, TypeName};
@@ -25,7 +25,7 @@ fn is_pointer(part: Option<Part<'_>>) -> bool
     }
 }
 
-impl<'a> Indexed<'a> {
+impl<'a> IndexedModule<'a> {
     /// The type that a declaration of a reached module gives, if a name at this offset may mean it.
     fn visible_type(
         &self,
@@ -38,14 +38,14 @@ impl<'a> Indexed<'a> {
     {
         let external = self.parts.imported_declaration(reached, declaration)?;
         if external.start < start || (is_target && is_type(external.decl_kind)) {
-            type_by(reached, declaration, external.decl_kind)
+            declared_type_shape(reached, declaration, external.decl_kind)
         } else {
             None
         }
     }
 
     /// The type that an unqualified name denotes in the source of a reached module.
-    fn imported_simple(
+    fn imported_simple_type(
         &self,
         reached: u32,
         start: u32,
@@ -59,16 +59,16 @@ impl<'a> Indexed<'a> {
     }
 
     /// The type that a qualified name denotes in the source of a reached module.
-    fn imported_qualified(
+    fn imported_qualified_type(
         &self,
         reached: u32,
         alias: &[u8],
         name: &[u8],
     ) -> Option<Shape<Node, Named, Record>>
-        ensures { result ≡ option_and_then (exported_type (world_of self.now.parts) name.now) (option_and_then (module_number (world_of self.now.parts)) (named_by_alias (world_of self.now.parts) reached alias.now)) }
+        ensures { result ≡ option_and_then (exported_type (world_of self.now.parts) name.now) (option_and_then (module_number (world_of self.now.parts)) (aliased_module_name (world_of self.now.parts) reached alias.now)) }
     {
-        let module_name_token = self.parts.named_by_alias(reached, alias)?;
-        let module_number = self.module_number(module_name_token)?;
+        let imported_name = self.parts.aliased_module_name(reached, alias)?;
+        let module_number = self.module_number(imported_name)?;
         self.exported_type(name, module_number)
     }
 
@@ -83,14 +83,16 @@ impl<'a> Indexed<'a> {
         ensures { result ≡ resolve_imported_name (world_of self.now.parts) reached start is_target (name_value name.entry) }
     {
         match name {
-            TypeName::Simple(name) => known(self.imported_simple(reached, start, is_target, name)),
-            TypeName::Qualified(alias, name) => known(self.imported_qualified(
+            TypeName::Simple(name) => known(self.imported_simple_type(
+                reached, start, is_target, name,
+            )),
+            TypeName::Qualified(alias, name) => known(self.imported_qualified_type(
                 reached, alias, name,
             )),
         }
     }
 
-    /// A component of the module itself, with its index.
+    /// The type at this component of the module itself; `index` is the component's index.
     fn local_shape(&self, index: usize, row: TypePart) -> Shape<Node, Named, Record>
         requires { index + 1 < 2 ^ 64 }
         ensures { result ≡ local_shape (world_of self.now.parts) index row }
@@ -115,7 +117,7 @@ impl<'a> Indexed<'a> {
         }
     }
 
-    /// A component of a declaration of a reached module, with its index.
+    /// The type at this component of a declaration of a reached module; `at` is the component's index.
     fn imported_part(
         &self,
         reached: u32,
@@ -169,7 +171,7 @@ impl<'a> Indexed<'a> {
     }
 
     /// The base of a record of a reached module.
-    fn shape_of_base(&self, reached: u32, record: u32) -> Shape<Node, Named, Record>
+    fn base_shape(&self, reached: u32, record: u32) -> Shape<Node, Named, Record>
         ensures { result ≡ shape (world_of self.now.parts) (nodes.OtherBase reached «record») }
     {
         match self.parts.imported_base(reached, record) {
@@ -190,7 +192,7 @@ impl<'a> Indexed<'a> {
                 declaration,
                 part,
             } => self.imported_shape(reached, declaration, part),
-            Node::OtherBase { reached, record } => self.shape_of_base(reached, record),
+            Node::OtherBase { reached, record } => self.base_shape(reached, record),
         }
     }
 
@@ -210,7 +212,7 @@ impl<'a> Indexed<'a> {
         }
     }
 
-    /// The base of a record, by its name.
+    /// The base of a record, as the node of its name.
     pub(crate) fn base(&self, record: Record) -> Option<Node>
         ensures { result ≡ base_of (world_of self.now.parts) «record» }
     {

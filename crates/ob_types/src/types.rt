@@ -11,8 +11,8 @@ ghost use Rattle.ob_types.specs.World.{exported, type_node_of, module_of_item, i
 ghost use Rattle.ob_types.specs.Shapes.{resolve_type_name, type_of_field};
 ghost use Rattle.ob_types.specs.Within.{AreWithin};
 
-use crate::hints::hints_of;
-use crate::indexed::Indexed;
+use crate::hints::build_hints;
+use crate::indexed_module::IndexedModule;
 use crate::listed::{list_records, size_estimate};
 use crate::nodes::{Field, Named, Node, Record};
 use crate::parts::Parts;
@@ -20,7 +20,7 @@ use crate::precomputed::PrecomputedTypes;
 use module_table::{DeclKind, Table};
 use ob_interface::Interface;
 use ob_scan::Token;
-use ob_scope::Scopes;
+use scopes::Scopes;
 use std::alloc::{AllocError, Global};
 use std::marker::Model;
 use std::sync::Arc;
@@ -34,22 +34,22 @@ use type_graph::{Jump, RecordField, Shape, TypeGraph};
 /// If several entries match a look-up, it returns the first one in file order.
 #[derive(Drop)]
 pub struct Types<'a> {
-    pub(crate) indexed: Indexed<'a>,
+    pub(crate) indexed_module: IndexedModule<'a>,
     /// Precomputed results for all modules of the tree.
     precomputed: Option<&'a PrecomputedTypes>,
 }
 
 impl<'a> Model for Types<'a> {
     ghost use Rattle.std.specs.Prelude.{IfSome};
-    ghost use Rattle.ob_types.specs.Parted.{world_of};
+    ghost use Rattle.ob_types.specs.WorldOfParts.{world_of};
     ghost use Rattle.ob_types.specs.Within.{AreWithin};
     ghost use Rattle.ob_types.specs.World.{World};
 
     ghost Value = { World };
 
-    ghost view = { λ t. world_of t.indexed.parts };
+    ghost view = { λ t. world_of t.indexed_module.parts };
 
-    ghost invariant = { λ t. IfSome t.precomputed (λ s. AreWithin s.now (world_of t.indexed.parts).reached) };
+    ghost invariant = { λ t. IfSome t.precomputed (λ s. AreWithin s.now (world_of t.indexed_module.parts).reached) };
 }
 
 impl<'a> Types<'a> {
@@ -77,11 +77,11 @@ impl<'a> Types<'a> {
             table,
             scopes,
             reached,
-            hints: hints_of(alloc, table, tokens.len())?,
+            hints: build_hints(alloc, table, tokens.len())?,
         };
-        let indexed = Indexed::new(alloc, parts)?;
+        let indexed_module = IndexedModule::new(alloc, parts)?;
         Ok(Types {
-            indexed,
+            indexed_module,
             precomputed: None,
         })
     }
@@ -101,21 +101,21 @@ impl<'a> Types<'a> {
         ensures { AreInText self.now.bytes self.now.tokens }
     {
         // Using a field makes the type's invariant known to the prover here.
-        let _ = &self.indexed;
+        let _ = &self.indexed_module;
     }
 
     /// The bytes of a token; empty if the number is beyond the last token.
     pub fn text(&self, token: u32) -> &'a [u8]
         ensures { result.now ≡ text self.now token }
     {
-        self.indexed.text(token)
+        self.indexed_module.text(token)
     }
 
     /// The token of the declaration that this use means.
     pub fn meaning(&self, used: u32) -> Option<u32>
         ensures { result ≡ meaning self.now used }
     {
-        self.indexed.parts.meaning(used)
+        self.indexed_module.parts.meaning(used)
     }
 
     /// Equals `meaning`, in constant time if uses are asked for in order: `cursor` is a hint, 0 for the first use, and is left at the next
@@ -123,119 +123,121 @@ impl<'a> Types<'a> {
     pub fn meaning_by_hint(&self, cursor: &mut usize, used: u32) -> Option<u32>
         ensures { result ≡ meaning self.now used }
     {
-        self.indexed.parts.meaning_by_hint(cursor, used)
+        self.indexed_module.parts.meaning_by_hint(cursor, used)
     }
 
     /// The kind of declaration of the identifier with this token.
     pub fn decl_kind(&self, declared: u32) -> Option<DeclKind>
         ensures { result ≡ decl_kind_of self.now declared }
     {
-        self.indexed.parts.decl_kind(declared)
+        self.indexed_module.parts.decl_kind(declared)
     }
 
     /// The index of the import item whose alias this token declares.
     pub fn item(&self, declared: u32) -> Option<u32>
         ensures { result ≡ item_of self.now declared }
     {
-        self.indexed.parts.item(declared)
+        self.indexed_module.parts.item(declared)
     }
 
     /// The index of the reached module that the import item with this index names; `None` if that module isn't in the tree.
     pub fn module_number(&self, item: u32) -> Option<u32>
         ensures { result ≡ module_of_item self.now item }
     {
-        self.indexed.module_of_item(item)
+        self.indexed_module.module_of_item(item)
     }
 
     /// The index of the exported declaration of a name in the block of a reached module.
     pub fn exported(&self, reached: u32, name: &[u8]) -> Option<u32>
         ensures { result ≡ exported self.now reached name.now }
     {
-        self.indexed.parts.exported(reached, name)
+        self.indexed_module.parts.exported(reached, name)
     }
 
     /// The kind of a declaration of a reached module.
     pub fn imported_kind(&self, reached: u32, declaration: u32) -> Option<DeclKind>
         ensures { result ≡ imported_kind self.now reached declaration }
     {
-        self.indexed.parts.imported_kind(reached, declaration)
+        self.indexed_module
+            .parts
+            .imported_kind(reached, declaration)
     }
 
     /// The type of the identifier with this token, as a node.
     pub fn type_expr(&self, declared: u32) -> Option<Node>
         ensures { result ≡ type_node_of self.now declared }
     {
-        self.indexed.type_expr(declared)
+        self.indexed_module.type_expr(declared)
     }
 
     /// The type of a field, as declared.
     pub fn type_of_field(&self, field: Field) -> Option<Node>
         ensures { result ≡ type_of_field self.now field }
     {
-        self.indexed.type_of_field(field)
+        self.indexed_module.type_of_field(field)
     }
 
     /// The type that a name denotes in the module: one identifier, or an alias with the name after the dot, by their tokens.
     pub fn named(&self, head: u32, member: Option<u32>) -> Shape<Node, Named, Record>
         ensures { result ≡ resolve_type_name self.now head member }
     {
-        self.indexed.resolve_type_name(head, member)
+        self.indexed_module.resolve_type_name(head, member)
     }
 
     /// The first identifier of the declaration whose type is this record, directly or through arrays and pointers.
     pub fn owner(&self, record: u32) -> Option<u32>
         ensures { result ≡ owner_at self.now «record» }
     {
-        self.indexed.parts.owner(record)
+        self.indexed_module.parts.owner(record)
     }
 
     /// The index of the declaration of a reached module whose type is this record, directly or through arrays and pointers.
     pub fn imported_owner(&self, reached: u32, record: u32) -> Option<u32>
         ensures { result ≡ imported_owner self.now reached «record» }
     {
-        self.indexed.parts.imported_owner(reached, record)
+        self.indexed_module.parts.imported_owner(reached, record)
     }
 
     /// The module's bytes.
     pub fn bytes(&self) -> &'a [u8]
         ensures { result.now ≡ self.now.bytes }
     {
-        self.indexed.parts.bytes
+        self.indexed_module.parts.bytes
     }
 
     /// The module's tokens.
     pub fn tokens(&self) -> &'a [Token]
         ensures { result.now ≡ self.now.tokens }
     {
-        self.indexed.parts.tokens
+        self.indexed_module.parts.tokens
     }
 
     /// The module's table.
     pub fn table(&self) -> &'a Table
         ensures { rows_in result.now ≡ self.now.rows }
     {
-        self.indexed.parts.table
+        self.indexed_module.parts.table
     }
 
     /// The module's scopes.
     pub fn scopes(&self) -> &'a Scopes
         ensures { result.now ≡ self.now.scopes }
     {
-        self.indexed.parts.scopes
+        self.indexed_module.parts.scopes
     }
 
     /// The interfaces of the reached modules, sorted by name.
     pub fn reached(&self) -> &'a [Arc<Interface>]
         ensures { map arc_value result.now ≡ self.now.reached }
     {
-        self.indexed.parts.reached
+        self.indexed_module.parts.reached
     }
 
     /// The interface of the reached module with this index.
     pub fn interface(&self, reached: u32) -> Option<&'a Interface>
         ensures { option_map (λ m. m.now) result ≡ slice_get self.now.reached reached }
     {
-        self.indexed.parts.module(reached)
+        self.indexed_module.parts.module(reached)
     }
 }
 
@@ -264,35 +266,35 @@ impl TypeGraph for Types<'_> {
     ghost height = { height };
 
     fn shape(&self, node: Node) -> Shape<Node, Named, Record> {
-        self.indexed.shape(node)
+        self.indexed_module.shape(node)
     }
 
     fn field(&self, record: Record, name: &[u8]) -> Option<Field> {
-        self.indexed.field(record, name)
+        self.indexed_module.field(record, name)
     }
 
     fn base(&self, record: Record) -> Option<Node> {
-        self.indexed.base(record)
+        self.indexed_module.base(record)
     }
 
     fn size(&self) -> u64 {
-        size_estimate(&self.indexed.parts)
+        size_estimate(&self.indexed_module.parts)
     }
 
     fn records(&self, alloc: Global) -> Result<Vec<Record>, AllocError> {
-        list_records(alloc, &self.indexed.parts)
+        list_records(alloc, &self.indexed_module.parts)
     }
 
     fn fields(&self, alloc: Global) -> Result<Vec<RecordField<'_, Record>>, AllocError> {
-        self.indexed.all_fields(alloc)
+        self.indexed_module.all_fields(alloc)
     }
 
     fn precomputed_end(&self, pointers: bool, node: Node) -> Option<Option<Node>> {
-        self.precomputed?.end(&self.indexed, pointers, node)
+        self.precomputed?.end(&self.indexed_module, pointers, node)
     }
 
     fn precomputed_jump(&self, record: Record, name: &[u8]) -> Option<Jump<Record>> {
-        self.precomputed?.jump(&self.indexed, record, name)
+        self.precomputed?.jump(&self.indexed_module, record, name)
     }
 
     ghost deep = { deep };

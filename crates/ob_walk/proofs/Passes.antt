@@ -9,7 +9,7 @@ use Rattle.ob_walk.specs.Items.{items_of, declared_by, number_at, used_by}
 use Rattle.ob_tree.specs.declared.role.Role.TheVariants.{Declares, Aliases, Imports, Uses, Completes, Selects, Names, Repeats}
 use Rattle.ob_tree.specs.TreeEvents.{Events, Begins, Ends, Identifier, Value, Word, tokens_of}
 use Rattle.ob_tree.specs.Derives.{declared_in, numbers_from, used_in}
-use Rattle.ob_tree.proofs.TokenNumbers.{all_numbers}
+use Rattle.ob_tree.proofs.TokenNumbers.{each_token_occurs_once}
 
 -- ---- one more item
 
@@ -78,4 +78,4 @@ used-items (Identifier (Repeats name) n ∷ ms) = used-items ms
 used-items (Value k n ∷ ms) = used-items ms
 used-items (Word k ∷ ms) = used-items ms
 
-pub ruleset passes = (all_numbers, filter_map-append, take_at_read, take_all, declared-items, used-items, item_numbers, append-nil)
+pub ruleset passes = (each_token_occurs_once, filter_map-append, take_at_read, take_all, declared-items, used-items, item_numbers, append-nil)

@@ -20,7 +20,7 @@ number_at at (items.Identifier r n) = n
 number_at at (items.Value n) = n
 number_at at items.Word = at
 
--- the number of an identifier if the item declares it, and if the item is looked up
+-- the number of the identifier, if the item declares it (`declared_by`), or if the scope rule looks it up (`used_by`)
 abbrev pub declared_by : Item → Option ℕ
 declared_by (items.Identifier (Declares starred) n) = Some n
 declared_by (items.Identifier Aliases n) = Some n

@@ -1,4 +1,4 @@
-//! Walks over a tree that emit each token with its role, in order: one function for each production.
+//! Walks over a tree that emit its tokens in order, identifiers with their roles. Functions follow the productions of the grammar.
 
 pub(crate) mod declarations;
 mod expressions;

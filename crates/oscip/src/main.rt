@@ -10,8 +10,8 @@ ghost use Rattle.oscip_job.specs.Jobs.{HasPackage, HasWorkers, IsPackage, IsWork
 
 use atomic_file::{ContentFault, ReplaceFault, StdFile, StdFiles, replace_file};
 use byte_sink::{Sink, ToWrite};
-use index_run::{OpenBoard, answer_index, run_unresolved};
-use oscip_job::{Indexing, Job, JobFault, Output, job_of};
+use index_run::{OpenBoardGate, answer_index, run_unresolved};
+use oscip_job::{IndexRequest, Job, JobFault, Output, job_of};
 use oscip_run::{
     Reader, RunFault, Stream, SystemFiles, TreeRun, end_of, end_of_tree, end_without_job,
     line_of_run, run_net, run_question, run_tree, style_of_job, tree_files,
@@ -25,7 +25,7 @@ use std::rt::{Env, Files};
 use std::sync::Wait;
 use std::thread::Threads;
 use std::{env, fs, io};
-use text_escape::LocationStyle;
+use texts::LocationStyle;
 
 /// The fault that the file of this path can't be written, or `Memory`.
 fn cannot_write(alloc: Global, path: &str) -> RunFault {
@@ -37,9 +37,9 @@ fn cannot_write(alloc: Global, path: &str) -> RunFault {
 
 /// Writes an index to the file of this path, after creating or emptying the file. Fails with `CannotWrite` for the path if the file can't
 /// be opened or written.
-fn index_to_file<R: Files + AllocGlobal + Threads + Wait + Sync>(
+fn write_index_file<R: Files + AllocGlobal + Threads + Wait + Sync>(
     rt: &R,
-    indexing: &Indexing,
+    indexing: &IndexRequest,
     sources: &[Source],
     path: &str,
 ) -> Result<(), RunFault>
@@ -51,7 +51,7 @@ fn index_to_file<R: Files + AllocGlobal + Threads + Wait + Sync>(
         return Err(cannot_write(rt.alloc(), path));
     };
     let mut sink = ToWrite::new(file);
-    match answer_index(rt, rt.alloc(), indexing, sources, &OpenBoard, &mut sink) {
+    match answer_index(rt, rt.alloc(), indexing, sources, &OpenBoardGate, &mut sink) {
         Err(RunFault::Device) => Err(cannot_write(rt.alloc(), path)),
         ended => ended,
     }
@@ -61,7 +61,7 @@ fn index_to_file<R: Files + AllocGlobal + Threads + Wait + Sync>(
 /// partial file.
 fn replace_index<R: Files<File = File> + AllocGlobal + Threads + Wait + Sync>(
     rt: &R,
-    indexing: &Indexing,
+    indexing: &IndexRequest,
     sources: &[Source],
     path: &str,
 ) -> Result<(), RunFault>
@@ -75,7 +75,7 @@ fn replace_index<R: Files<File = File> + AllocGlobal + Threads + Wait + Sync>(
         requires package { IsPackage (string_bytes indexing.now.package) }
         requires workers { IsWorkerCount indexing.now.workers }
     {
-        match answer_index(rt, alloc, indexing, sources, &OpenBoard, file) {
+        match answer_index(rt, alloc, indexing, sources, &OpenBoardGate, file) {
             Ok(()) => Ok(()),
             Err(RunFault::Device) => Err(ContentFault::Device),
             Err(fault) => Err(ContentFault::Other(fault)),
@@ -93,7 +93,7 @@ fn replace_index<R: Files<File = File> + AllocGlobal + Threads + Wait + Sync>(
 /// Writes an index to the output of the job.
 fn write_index<R: Files<File = File> + AllocGlobal + Threads + Wait + Sync, S: Sink>(
     rt: &R,
-    indexing: &Indexing,
+    indexing: &IndexRequest,
     sources: &[Source],
     sink: &mut S,
 ) -> Result<(), RunFault>
@@ -105,8 +105,8 @@ fn write_index<R: Files<File = File> + AllocGlobal + Threads + Wait + Sync, S: S
         Output::File(path) if indexing.is_atomic => {
             replace_index(rt, indexing, sources, path.as_str())
         }
-        Output::File(path) => index_to_file(rt, indexing, sources, path.as_str()),
-        Output::Hex => answer_index(rt, rt.alloc(), indexing, sources, &OpenBoard, sink),
+        Output::File(path) => write_index_file(rt, indexing, sources, path.as_str()),
+        Output::Hex => answer_index(rt, rt.alloc(), indexing, sources, &OpenBoardGate, sink),
     }
 }
 
@@ -114,7 +114,7 @@ fn write_index<R: Files<File = File> + AllocGlobal + Threads + Wait + Sync, S: S
 fn run_index<R: Files<File = File> + AllocGlobal + Threads + Wait + Sync, F: Reader, S: Sink>(
     rt: &R,
     reader: &F,
-    indexing: &Indexing,
+    indexing: &IndexRequest,
     sink: &mut S,
 ) -> Result<TreeRun, RunFault>
     requires package { IsPackage (string_bytes indexing.now.package) }
@@ -158,7 +158,7 @@ fn run_job<
 }
 
 /// Runs the job, reports its fault, and returns the exit status.
-fn end_of_job<
+fn run_and_report<
     R: Files<File = File> + AllocGlobal + Print + Threads + Wait + Sync + Clone + Drop,
     E: Sink,
 >(rt: &R, job: &Job, stderr: &mut Stream<E>) -> ExitCode
@@ -172,7 +172,7 @@ fn end_of_job<
 }
 
 /// Reports why there is no job, or writes the help, and returns the exit status.
-fn end_of_words<R: AllocGlobal + Print, E: Sink>(
+fn report_no_job<R: AllocGlobal + Print, E: Sink>(
     rt: &R,
     fault: &JobFault,
     stderr: &mut Stream<E>,
@@ -187,13 +187,13 @@ fn run<R: Files<File = File> + AllocGlobal + Print + Threads + Wait + Sync + Clo
     stderr: &mut Stream<E>,
 ) -> ExitCode {
     match job_of(rt.alloc(), words) {
-        Ok(job) => end_of_job(rt, &job, stderr),
-        Err(fault) => end_of_words(rt, &fault, stderr),
+        Ok(job) => run_and_report(rt, &job, stderr),
+        Err(fault) => report_no_job(rt, &fault, stderr),
     }
 }
 
 /// The fault for a command line with an argument that isn't UTF-8.
-fn not_words(alloc: Global) -> JobFault {
+fn non_utf8_fault(alloc: Global) -> JobFault {
     match String::from_str(alloc, "error: a word of the command line isn't UTF-8\n") {
         Ok(text) => JobFault::Line { text },
         Err(_) => JobFault::Memory,
@@ -201,18 +201,18 @@ fn not_words(alloc: Global) -> JobFault {
 }
 
 /// The arguments of the command line, the program's name first.
-fn words_of<R: Env + AllocGlobal>(rt: &R) -> io::Result<Vec<String>> {
+fn command_line_arguments<R: Env + AllocGlobal>(rt: &R) -> io::Result<Vec<String>> {
     let words = env::args(rt)?;
     Ok(words.collect(rt.alloc())?)
 }
 
 fn main(rt: HostRuntime) -> ExitCode {
     let mut stderr = Stream::new(ToWrite::new(rt.stderr()));
-    match words_of(&rt) {
+    match command_line_arguments(&rt) {
         Ok(words) => run(&rt, words.as_slice(), &mut stderr),
         Err(error) if error.kind() == ErrorKind::OutOfMemory => {
-            end_of_words(&rt, &JobFault::Memory, &mut stderr)
+            report_no_job(&rt, &JobFault::Memory, &mut stderr)
         }
-        Err(_) => end_of_words(&rt, &not_words(rt.alloc()), &mut stderr),
+        Err(_) => report_no_job(&rt, &non_utf8_fault(rt.alloc()), &mut stderr),
     }
 }

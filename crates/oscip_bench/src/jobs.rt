@@ -2,7 +2,7 @@
 
 use crate::digest::Digest;
 use cut_solve::OpenGate;
-use index_run::{OpenBoard, index_to, unresolved_to};
+use index_run::{OpenBoardGate, index_to, unresolved_to};
 use ob_board::IndexOptions;
 use oscip_job::IndexQuestion;
 use oscip_run::{
@@ -13,7 +13,7 @@ use source_tree::{Source, in_order};
 use std::alloc::{AllocError, Global};
 use std::sync::Wait;
 use std::thread::Threads;
-use text_escape::LocationStyle;
+use texts::LocationStyle;
 
 /// Why a workload failed.
 #[derive(Clone, Copy, Debug)]
@@ -52,7 +52,7 @@ pub fn index<R: Threads + Wait + AllocGlobal + Sync>(
     let alloc = rt.alloc();
     let (package, root) = (String::new(alloc), String::new(alloc));
     let options = IndexOptions { package, root };
-    let ended = index_to(rt, alloc, sources, &options, 1, &OpenBoard, digest);
+    let ended = index_to(rt, alloc, sources, &options, 1, &OpenBoardGate, digest);
     digest.end(status_of_write(&ended));
     Ok(())
 }

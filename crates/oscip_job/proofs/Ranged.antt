@@ -1,4 +1,4 @@
--- What a parse that succeeds found for an option of a command is good, where the option's parser lets only the good through.
+-- A value that a successful parse found for an option is one that the option's parser accepts.
 use Rattle.std.proofs.Common.{◌≡◌, ◌∙◌, ℕ, Bool, true, false, cond, zero, suc, List, [], ◌∷◌, ◌++◌, Option, Some, None, refl, sym, subst, arith, fold, length, ◌&&◌, ◌||◌, ◌+◌, min, is_some}
 use Rattle.std.specs.Prelude.{find, option_map, slice_get, IfSome}
 use Rattle.std.specs.Option.{option_map_or}

@@ -13,13 +13,13 @@ use Rattle.oscip_job.specs.declared.job.Job.{Job}
 use Rattle.oscip_job.specs.declared.job.Job.TheVariants.{Tree, Network, Ask, Index, Unresolved}
 use Rattle.oscip_job.specs.declared.job.AskedSymbol.{AskedSymbol}
 use Rattle.oscip_job.specs.declared.job.AskedSymbol.TheVariants.{At, Named}
-use Rattle.oscip_job.specs.declared.job.Cutting.{Cutting}
+use Rattle.oscip_job.specs.declared.job.CutRequest.{CutRequest}
 use Rattle.oscip_job.specs.declared.job.Direction.{Direction}
 use Rattle.oscip_job.specs.declared.job.Direction.TheVariants.{Imported, Importing}
-use Rattle.oscip_job.specs.declared.job.Drawing.{Drawing}
+use Rattle.oscip_job.specs.declared.job.PictureRequest.{PictureRequest}
 use Rattle.oscip_job.specs.declared.job.IndexQuestion.{IndexQuestion}
 use Rattle.oscip_job.specs.declared.job.IndexQuestion.TheVariants.{PlacesOf, SymbolAt, Symbols}
-use Rattle.oscip_job.specs.declared.job.Indexing.{Indexing}
+use Rattle.oscip_job.specs.declared.job.IndexRequest.{IndexRequest}
 use Rattle.oscip_job.specs.declared.job.NetQuestion.{NetQuestion}
 use Rattle.oscip_job.specs.declared.job.NetQuestion.TheVariants.{Cut, Check, Dot, Why, Reach}
 use Rattle.oscip_job.specs.declared.job.Output.{Output}
@@ -27,8 +27,8 @@ use Rattle.oscip_job.specs.declared.job.Output.TheVariants as outputs
 use Rattle.oscip_job.specs.declared.job.Places.{Places}
 use Rattle.oscip_job.specs.declared.job.Places.TheVariants.{Definitions, References}
 use Rattle.oscip_job.specs.declared.job.Position.{Position}
-use Rattle.oscip_job.specs.declared.job.Reaching.{Reaching}
-use Rattle.oscip_job.specs.declared.job.Reported.{Reported}
+use Rattle.oscip_job.specs.declared.job.ReachRequest.{ReachRequest}
+use Rattle.oscip_job.specs.declared.job.ReportInput.{ReportInput}
 use Rattle.oscip_job.specs.declared.job.SourceTree.{SourceTree}
 use Rattle.oscip_job.specs.declared.job.TreeQuestion.{TreeQuestion}
 use Rattle.oscip_job.specs.declared.job.TreeQuestion.TheVariants.{OfNet, Crossings, Net, Rules, Faults, Modules}
@@ -114,16 +114,16 @@ abbrev pub why_app : App
 why_app = with_tree_options (with_modules (with_rule (new_app (codes "why")) (required_rule (codes "DIR"))))
 
 -- the command with [--back] M
-abbrev pub with_reached : App → App
-with_reached app = with_rule (with_rule app (required_rule (codes "M"))) (flag_rule (codes "back"))
+abbrev pub with_reach_arguments : App → App
+with_reach_arguments app = with_rule (with_rule app (required_rule (codes "M"))) (flag_rule (codes "back"))
 
 -- reach [--back] DIR M
 abbrev pub reach_app : App
-reach_app = with_tree_options (with_reached (with_rule (new_app (codes "reach")) (required_rule (codes "DIR"))))
+reach_app = with_tree_options (with_reach_arguments (with_rule (new_app (codes "reach")) (required_rule (codes "DIR"))))
 
 -- reach-net [--back] FILE M
 abbrev pub reach_net_app : App
-reach_net_app = with_reached (with_rule (new_app (codes "reach-net")) (required_rule (codes "FILE")))
+reach_net_app = with_reach_arguments (with_rule (new_app (codes "reach-net")) (required_rule (codes "FILE")))
 
 -- modules DIR
 abbrev pub modules_app : App
@@ -199,12 +199,12 @@ abbrev pub text_rule : Text → Rule
 text_rule id = record (new_rule id) { long = Some id; value_names = 1; defaults = [] ∷ [] }
 
 -- the command with [--package TEXT] [--root TEXT] [--workers N] [--atomic]
-abbrev pub with_options : App → App
-with_options app = with_rule (with_workers (with_rule (with_rule app (text_rule (codes "package"))) (text_rule (codes "root")))) (flag_rule (codes "atomic"))
+abbrev pub with_index_options : App → App
+with_index_options app = with_rule (with_workers (with_rule (with_rule app (text_rule (codes "package"))) (text_rule (codes "root")))) (flag_rule (codes "atomic"))
 
 -- index [--hex] [--package TEXT] [--root TEXT] [--workers N] [--atomic] DIR [OUT]
 abbrev pub index_app : App
-index_app = with_tree_options (with_options (with_output (with_rule (new_app (codes "index")) (required_rule (codes "DIR")))))
+index_app = with_tree_options (with_index_options (with_output (with_rule (new_app (codes "index")) (required_rule (codes "DIR")))))
 
 -- unresolved DIR
 abbrev pub unresolved_app : App
@@ -215,40 +215,40 @@ abbrev pub program_app : App
 program_app = record (new_app (codes "oscip")) { top = record (new_app (codes "oscip")).top { subcommand_required = true; has_version = true } }
 
 -- the program with the commands cut, check and crossings
-abbrev pub with_trees : App → App
-with_trees app = with_subcommand (with_subcommand (with_subcommand app cut_app.top) check_app.top) crossings_app.top
+abbrev pub with_tree_commands : App → App
+with_tree_commands app = with_subcommand (with_subcommand (with_subcommand app cut_app.top) check_app.top) crossings_app.top
 
 -- the program with the commands net, why and rules
-abbrev pub with_imports : App → App
-with_imports app = with_subcommand (with_subcommand (with_subcommand app net_app.top) why_app.top) rules_app.top
+abbrev pub with_import_commands : App → App
+with_import_commands app = with_subcommand (with_subcommand (with_subcommand app net_app.top) why_app.top) rules_app.top
 
 -- the program with the commands cut-net, check-net and why-net
-abbrev pub with_nets : App → App
-with_nets app = with_subcommand (with_subcommand (with_subcommand app cut_net_app.top) check_net_app.top) why_net_app.top
+abbrev pub with_net_commands : App → App
+with_net_commands app = with_subcommand (with_subcommand (with_subcommand app cut_net_app.top) check_net_app.top) why_net_app.top
 
 -- the program with the commands modules, reach and reach-net
-abbrev pub with_lists : App → App
-with_lists app = with_subcommand (with_subcommand (with_subcommand app modules_app.top) reach_app.top) reach_net_app.top
+abbrev pub with_list_commands : App → App
+with_list_commands app = with_subcommand (with_subcommand (with_subcommand app modules_app.top) reach_app.top) reach_net_app.top
 
 -- the program with the commands dot and dot-net
-abbrev pub with_pictures : App → App
-with_pictures app = with_subcommand (with_subcommand app dot_app.top) dot_net_app.top
+abbrev pub with_picture_commands : App → App
+with_picture_commands app = with_subcommand (with_subcommand app dot_app.top) dot_net_app.top
 
 -- the program with the commands def and refs
-abbrev pub with_indexes : App → App
-with_indexes app = with_subcommand (with_subcommand app def_app.top) refs_app.top
+abbrev pub with_location_commands : App → App
+with_location_commands app = with_subcommand (with_subcommand app def_app.top) refs_app.top
 
 -- the program with the commands symbol and symbols
-abbrev pub with_symbols : App → App
-with_symbols app = with_subcommand (with_subcommand app symbol_app.top) symbols_app.top
+abbrev pub with_symbol_commands : App → App
+with_symbol_commands app = with_subcommand (with_subcommand app symbol_app.top) symbols_app.top
 
 -- the program with the commands index, unresolved and faults
-abbrev pub with_indexers : App → App
-with_indexers app = with_subcommand (with_subcommand (with_subcommand app index_app.top) unresolved_app.top) faults_app.top
+abbrev pub with_index_commands : App → App
+with_index_commands app = with_subcommand (with_subcommand (with_subcommand app index_app.top) unresolved_app.top) faults_app.top
 
 -- the program with all its commands
 abbrev pub oscip : App
-oscip = with_indexers (with_symbols (with_indexes (with_pictures (with_lists (with_nets (with_imports (with_trees program_app)))))))
+oscip = with_index_commands (with_symbol_commands (with_location_commands (with_picture_commands (with_list_commands (with_net_commands (with_import_commands (with_tree_commands program_app)))))))
 
 -- clap found this text for the argument
 abbrev pub Finds : List Row → Text → Text → Type 0
@@ -332,7 +332,7 @@ abbrev pub AsksForAtomic : List Row → Type 0
 AsksForAtomic rows = IsPresent rows (codes "atomic") ⊎ IsPresent rows (codes "skip-faults")
 
 -- the request for an index has the values of its arguments
-abbrev pub HasIndexing : List Row → Indexing → Type 0
+abbrev pub HasIndexing : List Row → IndexRequest → Type 0
 HasIndexing rows it =
     HasTree rows it.tree × HasOutput rows it.output × Finds rows (codes "package") (string_bytes it.package)
     × Finds rows (codes "root") (string_bytes it.root) × FindsNumber rows (codes "workers") it.workers × (it.is_atomic ≡ true ↔ AsksForAtomic rows)
@@ -342,17 +342,17 @@ abbrev pub HasTwoNames : List Row → Text → Text → TwoNames → Type 0
 HasTwoNames rows first second names = Finds rows first (string_bytes names.from) × Finds rows second (string_bytes names.to)
 
 -- the request for a cut has the values of its arguments
-abbrev pub HasCutting : List Row → Cutting → Type 0
+abbrev pub HasCutting : List Row → CutRequest → Type 0
 HasCutting rows it =
     Finds rows (codes "A") (string_bytes it.from) × Finds rows (codes "B") (string_bytes it.to)
     × FindsNumber rows (codes "workers") it.workers × MayFind rows (codes "prices") it.prices
 
 -- the report and its prices are the values of their arguments
-abbrev pub HasReported : List Row → Reported → Type 0
+abbrev pub HasReported : List Row → ReportInput → Type 0
 HasReported rows it = Finds rows (codes "REPORT") (string_bytes it.report) × MayFind rows (codes "prices") it.prices
 
 -- the request for a picture has the values of its arguments, and is by flow if and only if --flow was given
-abbrev pub HasDrawing : List Row → Drawing → Type 0
+abbrev pub HasDrawing : List Row → PictureRequest → Type 0
 HasDrawing rows it = HasReported rows it.reported × (it.by_flow ≡ true ↔ IsPresent rows (codes "flow"))
 
 -- the direction is against the imports if and only if --back was given
@@ -361,7 +361,7 @@ HasDirection rows Imported = IsPresent rows (codes "back") → ⊥
 HasDirection rows Importing = IsPresent rows (codes "back")
 
 -- the request for reached modules has the values of its arguments
-abbrev pub HasReaching : List Row → Reaching → Type 0
+abbrev pub HasReaching : List Row → ReachRequest → Type 0
 HasReaching rows it = Finds rows (codes "M") (string_bytes it.module) × HasDirection rows it.direction
 
 -- the question about a network has the values of its arguments

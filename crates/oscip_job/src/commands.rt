@@ -1,7 +1,7 @@
 //! The commands of the program and their arguments, as `clap` parses them.
 ghost use Rattle.std.specs.Prelude.{◌≡◌, IfOk, codes, false};
 ghost use Rattle.clap.specs.Words.{app_of, new_app, new_rule, rule_of, with_rule, with_subcommand, App};
-ghost use Rattle.oscip_job.specs.Jobs.{asking_app, crossings_app, exclude_rule, faults_app, flag_rule, index_app, index_question_app, modules_app, net_app, number_rule, oscip, program_app, reach_app, reach_net_app, required_rule, rules_app, symbol_app, symbol_rule, symbols_app, text_rule, unresolved_app, with_editor, with_flow, with_imports, with_indexers, with_indexes, with_lists, with_modules, with_nets, with_options, with_output, with_pictures, with_position, with_prices, with_reached, with_symbols, with_tree_options, with_trees, with_walk_options, with_workers};
+ghost use Rattle.oscip_job.specs.Jobs.{asking_app, crossings_app, exclude_rule, faults_app, flag_rule, index_app, index_question_app, modules_app, net_app, number_rule, oscip, program_app, reach_app, reach_net_app, required_rule, rules_app, symbol_app, symbol_rule, symbols_app, text_rule, unresolved_app, with_editor, with_flow, with_import_commands, with_index_commands, with_location_commands, with_list_commands, with_modules, with_net_commands, with_index_options, with_output, with_picture_commands, with_position, with_prices, with_reach_arguments, with_symbol_commands, with_tree_options, with_tree_commands, with_walk_options, with_workers};
 ghost use Rattle.oscip_job.specs.Making.{Reads};
 
 use crate::helps::{
@@ -43,7 +43,7 @@ fn with_arg<'a>(alloc: Global, command: Box<Command<'a>>, arg: Arg<'a>) -> Comma
 }
 
 /// Adds a required argument.
-fn with_required<'a>(
+fn with_required_argument<'a>(
     alloc: Global,
     command: CommandResult<'a>,
     id: &'a str,
@@ -57,7 +57,7 @@ fn with_required<'a>(
 }
 
 /// Adds an optional argument.
-fn with_value<'a>(
+fn with_optional_argument<'a>(
     alloc: Global,
     command: CommandResult<'a>,
     id: &'a str,
@@ -87,8 +87,8 @@ fn with_modules<'a>(
 ) -> CommandResult<'a>
     ensures { (app : App) → IfOk command.entry (λ c. Reads app c.value) → IfOk result (λ c. Reads (with_modules app) c.value) }
 {
-    let command = with_required(alloc, command, "A", first_help);
-    with_required(alloc, command, "B", second_help)
+    let command = with_required_argument(alloc, command, "A", first_help);
+    with_required_argument(alloc, command, "B", second_help)
 }
 
 /// Adds the option `--workers`: the number of threads, from 1 to 64.
@@ -129,7 +129,7 @@ fn with_cut_options<'a>(alloc: Global, command: CommandResult<'a>) -> CommandRes
 fn with_report<'a>(alloc: Global, command: CommandResult<'a>, help: &'a str) -> CommandResult<'a>
     ensures { (app : App) → IfOk command.entry (λ c. Reads app c.value) → IfOk result (λ c. Reads (with_prices (with_rule app (required_rule (codes "REPORT")))) c.value) }
 {
-    let command = with_required(alloc, command, "REPORT", help);
+    let command = with_required_argument(alloc, command, "REPORT", help);
     with_prices(alloc, command)
 }
 
@@ -145,7 +145,7 @@ fn cutting<'a>(
     ensures { IfOk result (λ c. Reads (with_prices (with_workers (with_modules (with_rule (new_app name.entry.now) (required_rule id.entry.now))))) c.value) }
 {
     let command = named(alloc, name, about, end);
-    let command = with_required(alloc, command, id, help);
+    let command = with_required_argument(alloc, command, id, help);
     let command = with_modules(
         alloc,
         command,
@@ -156,7 +156,7 @@ fn cutting<'a>(
 }
 
 /// A command that checks or draws: the argument `id` is what was cut, followed by the report and the option of its prices.
-fn checking<'a>(
+fn new_report_command<'a>(
     alloc: Global,
     name: &'a str,
     about: &'a str,
@@ -168,7 +168,7 @@ fn checking<'a>(
     ensures { IfOk result (λ c. Reads (with_prices (with_rule (with_rule (new_app name.entry.now) (required_rule id.entry.now)) (required_rule (codes "REPORT")))) c.value) }
 {
     let command = named(alloc, name, about, end);
-    let command = with_required(alloc, command, id, help);
+    let command = with_required_argument(alloc, command, id, help);
     with_report(alloc, command, report_help)
 }
 
@@ -242,11 +242,11 @@ fn with_flow<'a>(alloc: Global, command: CommandResult<'a>) -> CommandResult<'a>
 }
 
 /// Adds the names of two modules, M and N.
-fn with_users<'a>(alloc: Global, command: CommandResult<'a>) -> CommandResult<'a>
+fn with_two_modules<'a>(alloc: Global, command: CommandResult<'a>) -> CommandResult<'a>
     ensures { (app : App) → IfOk command.entry (λ c. Reads app c.value) → IfOk result (λ c. Reads (with_rule (with_rule app (required_rule (codes "M"))) (required_rule (codes "N"))) c.value) }
 {
-    let command = with_required(alloc, command, "M", "The name of the module that uses N");
-    with_required(
+    let command = with_required_argument(alloc, command, "M", "The name of the module that uses N");
+    with_required_argument(
         alloc,
         command,
         "N",
@@ -263,8 +263,8 @@ fn crossings_command<'a>(alloc: Global) -> CommandResult<'a>
         "Print where an Oberon-07 module uses another: what to rewrite to remove that import",
         CROSSINGS_END,
     );
-    let command = with_required(alloc, command, "DIR", FOLDER_HELP);
-    let command = with_users(alloc, command);
+    let command = with_required_argument(alloc, command, "DIR", FOLDER_HELP);
+    let command = with_two_modules(alloc, command);
     with_tree_options(alloc, command, SKIP_FAULTS_HELP)
 }
 
@@ -277,7 +277,7 @@ fn net_command<'a>(alloc: Global) -> CommandResult<'a>
         "Print which Oberon-07 module imports which, and by how many uses, as a network",
         NET_END,
     );
-    let command = with_required(alloc, command, "DIR", FOLDER_HELP);
+    let command = with_required_argument(alloc, command, "DIR", FOLDER_HELP);
     with_tree_options(alloc, command, SKIP_FAULTS_HELP)
 }
 
@@ -290,13 +290,13 @@ fn rules_command<'a>(alloc: Global) -> CommandResult<'a>
         "Check Oberon-07 modules against rules that say which may not import which",
         RULES_END,
     );
-    let command = with_required(alloc, command, "DIR", FOLDER_HELP);
-    let command = with_required(alloc, command, "FILE", RULES_HELP);
+    let command = with_required_argument(alloc, command, "DIR", FOLDER_HELP);
+    let command = with_required_argument(alloc, command, "FILE", RULES_HELP);
     with_tree_options(alloc, command, SKIP_FAULTS_HELP)
 }
 
 /// A command that searches for a path of imports: the argument `id` is what it searches, followed by the names of two modules.
-fn chaining<'a>(
+fn new_path_command<'a>(
     alloc: Global,
     name: &'a str,
     about: &'a str,
@@ -307,7 +307,7 @@ fn chaining<'a>(
     ensures { IfOk result (λ c. Reads (with_modules (with_rule (new_app name.entry.now) (required_rule id.entry.now))) c.value) }
 {
     let command = named(alloc, name, about, end);
-    let command = with_required(alloc, command, id, help);
+    let command = with_required_argument(alloc, command, id, help);
     with_modules(
         alloc,
         command,
@@ -317,10 +317,10 @@ fn chaining<'a>(
 }
 
 /// Adds the name of a module, and the flag `--back` for the direction against the imports.
-fn with_reached<'a>(alloc: Global, command: CommandResult<'a>) -> CommandResult<'a>
-    ensures { (app : App) → IfOk command.entry (λ c. Reads app c.value) → IfOk result (λ c. Reads (with_reached app) c.value) }
+fn with_reach_arguments<'a>(alloc: Global, command: CommandResult<'a>) -> CommandResult<'a>
+    ensures { (app : App) → IfOk command.entry (λ c. Reads app c.value) → IfOk result (λ c. Reads (with_reach_arguments app) c.value) }
 {
-    let command = with_required(alloc, command, "M", "The name of the module");
+    let command = with_required_argument(alloc, command, "M", "The name of the module");
     with_flag(alloc, command, "back", "List the modules that reach M")
 }
 
@@ -333,8 +333,8 @@ fn reach_command<'a>(alloc: Global) -> CommandResult<'a>
         "List the Oberon-07 modules that a module reaches by one or more imports",
         REACH_END,
     );
-    let command = with_required(alloc, command, "DIR", FOLDER_HELP);
-    let command = with_reached(alloc, command);
+    let command = with_required_argument(alloc, command, "DIR", FOLDER_HELP);
+    let command = with_reach_arguments(alloc, command);
     with_tree_options(alloc, command, SKIP_FAULTS_HELP)
 }
 
@@ -347,8 +347,8 @@ fn reach_net_command<'a>(alloc: Global) -> CommandResult<'a>
         "List the modules of a network that a module reaches by one or more imports",
         REACH_NET_END,
     );
-    let command = with_required(alloc, command, "FILE", NETWORK_HELP);
-    with_reached(alloc, command)
+    let command = with_required_argument(alloc, command, "FILE", NETWORK_HELP);
+    with_reach_arguments(alloc, command)
 }
 
 fn modules_command<'a>(alloc: Global) -> CommandResult<'a>
@@ -360,12 +360,12 @@ fn modules_command<'a>(alloc: Global) -> CommandResult<'a>
         "List Oberon-07 modules and the imported ones without a file",
         MODULES_END,
     );
-    let command = with_required(alloc, command, "DIR", FOLDER_HELP);
+    let command = with_required_argument(alloc, command, "DIR", FOLDER_HELP);
     with_tree_options(alloc, command, SKIP_FAULTS_HELP)
 }
 
 /// Adds a number from 0 to 2,147,483,647.
-fn with_number<'a>(
+fn with_number_argument<'a>(
     alloc: Global,
     command: CommandResult<'a>,
     required: bool,
@@ -389,14 +389,14 @@ fn with_position<'a>(alloc: Global, command: CommandResult<'a>, required: bool) 
     let command = command?;
     let path = Arg::new(alloc, "PATH").required(required).help(PATH_HELP);
     let command = with_arg(alloc, command, path);
-    let command = with_number(
+    let command = with_number_argument(
         alloc,
         command,
         required,
         "LINE",
         "A line of the document, counted from 0, or with --editor from 1",
     );
-    with_number(
+    with_number_argument(
         alloc,
         command,
         required,
@@ -406,11 +406,16 @@ fn with_position<'a>(alloc: Global, command: CommandResult<'a>, required: bool) 
 }
 
 /// A command with the index that it queries.
-fn on_index<'a>(alloc: Global, name: &'a str, about: &'a str, end: &'a str) -> CommandResult<'a>
+fn new_index_query<'a>(
+    alloc: Global,
+    name: &'a str,
+    about: &'a str,
+    end: &'a str,
+) -> CommandResult<'a>
     ensures { IfOk result (λ c. Reads (index_question_app name.entry.now) c.value) }
 {
     let command = named(alloc, name, about, end);
-    with_required(
+    with_required_argument(
         alloc,
         command,
         "INDEX",
@@ -440,7 +445,7 @@ fn asking<'a>(
 ) -> CommandResult<'a>
     ensures { IfOk result (λ c. Reads (asking_app name.entry.now) c.value) }
 {
-    let command = on_index(alloc, name, about, end);
+    let command = new_index_query(alloc, name, about, end);
     let command = with_position(alloc, command, false);
     let command = with_symbol(alloc, command);
     let command = with_editor(alloc, command, EDITOR_HELP);
@@ -450,7 +455,7 @@ fn asking<'a>(
 fn symbol_command<'a>(alloc: Global) -> CommandResult<'a>
     ensures { IfOk result (λ c. Reads symbol_app c.value) }
 {
-    let command = on_index(
+    let command = new_index_query(
         alloc,
         "symbol",
         "Print the text of the symbol at a position, by an index in the SCIP format",
@@ -463,13 +468,13 @@ fn symbol_command<'a>(alloc: Global) -> CommandResult<'a>
 fn symbols_command<'a>(alloc: Global) -> CommandResult<'a>
     ensures { IfOk result (λ c. Reads symbols_app c.value) }
 {
-    let command = on_index(
+    let command = new_index_query(
         alloc,
         "symbols",
         "List which symbols are defined where, by an index in the SCIP format",
         SYMBOLS_END,
     );
-    let command = with_value(
+    let command = with_optional_argument(
         alloc,
         command,
         "PATH",
@@ -482,7 +487,7 @@ fn symbols_command<'a>(alloc: Global) -> CommandResult<'a>
 fn with_output<'a>(alloc: Global, command: CommandResult<'a>) -> CommandResult<'a>
     ensures { (app : App) → IfOk command.entry (λ c. Reads app c.value) → IfOk result (λ c. Reads (with_output app) c.value) }
 {
-    let command = with_value(alloc, command, "OUT", OUT_HELP);
+    let command = with_optional_argument(alloc, command, "OUT", OUT_HELP);
     with_flag(
         alloc,
         command,
@@ -492,7 +497,7 @@ fn with_output<'a>(alloc: Global, command: CommandResult<'a>) -> CommandResult<'
 }
 
 /// Adds an option with a text, which is empty by default.
-fn with_text<'a>(
+fn with_text_option<'a>(
     alloc: Global,
     command: CommandResult<'a>,
     id: &'a str,
@@ -510,16 +515,16 @@ fn with_text<'a>(
 }
 
 /// Adds the options of a command that makes an index.
-fn with_options<'a>(alloc: Global, command: CommandResult<'a>) -> CommandResult<'a>
-    ensures { (app : App) → IfOk command.entry (λ c. Reads app c.value) → IfOk result (λ c. Reads (with_options app) c.value) }
+fn with_index_options<'a>(alloc: Global, command: CommandResult<'a>) -> CommandResult<'a>
+    ensures { (app : App) → IfOk command.entry (λ c. Reads app c.value) → IfOk result (λ c. Reads (with_index_options app) c.value) }
 {
-    let command = with_text(
+    let command = with_text_option(
         alloc,
         command,
         "package",
         "The package in the symbols: not `.`, and no leading space",
     );
-    let command = with_text(
+    let command = with_text_option(
         alloc,
         command,
         "root",
@@ -538,9 +543,9 @@ fn index_command<'a>(alloc: Global) -> CommandResult<'a>
         "Write an index of Oberon-07 modules in the SCIP format, for code browsers",
         INDEX_END,
     );
-    let command = with_required(alloc, command, "DIR", FOLDER_HELP);
+    let command = with_required_argument(alloc, command, "DIR", FOLDER_HELP);
     let command = with_output(alloc, command);
-    let command = with_options(alloc, command);
+    let command = with_index_options(alloc, command);
     let command = with_tree_options(alloc, command, INDEX_SKIP_FAULTS_HELP);
     with_usage(alloc, command, INDEX_USAGE)
 }
@@ -554,7 +559,7 @@ fn unresolved_command<'a>(alloc: Global) -> CommandResult<'a>
         "List identifiers of Oberon-07 modules that are not declared, imported or predeclared",
         UNRESOLVED_END,
     );
-    let command = with_required(alloc, command, "DIR", FOLDER_HELP);
+    let command = with_required_argument(alloc, command, "DIR", FOLDER_HELP);
     with_tree_options(alloc, command, SKIP_FAULTS_HELP)
 }
 
@@ -567,12 +572,12 @@ fn faults_command<'a>(alloc: Global) -> CommandResult<'a>
         "List files of a folder that have faults, each with its first one",
         FAULTS_END,
     );
-    let command = with_required(alloc, command, "DIR", FOLDER_HELP);
+    let command = with_required_argument(alloc, command, "DIR", FOLDER_HELP);
     with_walk_options(alloc, command)
 }
 
 /// Adds a command to the program.
-fn with_sub<'a>(
+fn add_command<'a>(
     alloc: Global,
     program: CommandResult<'a>,
     command: CommandResult<'a>,
@@ -587,8 +592,8 @@ fn with_sub<'a>(
 }
 
 /// Adds the commands `cut`, `check` and `crossings`.
-fn with_trees<'a>(alloc: Global, program: CommandResult<'a>) -> CommandResult<'a>
-    ensures { (app : App) → IfOk program.entry (λ c. app_of c.value ≡ app) → IfOk result (λ c. app_of c.value ≡ with_trees app) }
+fn with_tree_commands<'a>(alloc: Global, program: CommandResult<'a>) -> CommandResult<'a>
+    ensures { (app : App) → IfOk program.entry (λ c. app_of c.value ≡ app) → IfOk result (λ c. app_of c.value ≡ with_tree_commands app) }
 {
     let cut = cutting(
         alloc,
@@ -599,8 +604,8 @@ fn with_trees<'a>(alloc: Global, program: CommandResult<'a>) -> CommandResult<'a
         FOLDER_HELP,
     );
     let cut = with_tree_options(alloc, cut, SKIP_FAULTS_HELP);
-    let program = with_sub(alloc, program, cut);
-    let check = checking(
+    let program = add_command(alloc, program, cut);
+    let check = new_report_command(
         alloc,
         "check",
         "Check a report's proof that its cut of Oberon-07 modules is cheapest",
@@ -610,18 +615,18 @@ fn with_trees<'a>(alloc: Global, program: CommandResult<'a>) -> CommandResult<'a
         "The report of a cut between two of the modules",
     );
     let check = with_tree_options(alloc, check, SKIP_FAULTS_HELP);
-    let program = with_sub(alloc, program, check);
+    let program = add_command(alloc, program, check);
     let crossings = crossings_command(alloc);
-    with_sub(alloc, program, crossings)
+    add_command(alloc, program, crossings)
 }
 
 /// Adds the commands `net`, `why` and `rules`.
-fn with_imports<'a>(alloc: Global, program: CommandResult<'a>) -> CommandResult<'a>
-    ensures { (app : App) → IfOk program.entry (λ c. app_of c.value ≡ app) → IfOk result (λ c. app_of c.value ≡ with_imports app) }
+fn with_import_commands<'a>(alloc: Global, program: CommandResult<'a>) -> CommandResult<'a>
+    ensures { (app : App) → IfOk program.entry (λ c. app_of c.value ≡ app) → IfOk result (λ c. app_of c.value ≡ with_import_commands app) }
 {
     let net = net_command(alloc);
-    let program = with_sub(alloc, program, net);
-    let why = chaining(
+    let program = add_command(alloc, program, net);
+    let why = new_path_command(
         alloc,
         "why",
         "Print why an Oberon-07 module reaches another: the shortest path of imports",
@@ -630,14 +635,14 @@ fn with_imports<'a>(alloc: Global, program: CommandResult<'a>) -> CommandResult<
         FOLDER_HELP,
     );
     let why = with_tree_options(alloc, why, SKIP_FAULTS_HELP);
-    let program = with_sub(alloc, program, why);
+    let program = add_command(alloc, program, why);
     let rules = rules_command(alloc);
-    with_sub(alloc, program, rules)
+    add_command(alloc, program, rules)
 }
 
 /// Adds the commands `cut-net`, `check-net` and `why-net`.
-fn with_nets<'a>(alloc: Global, program: CommandResult<'a>) -> CommandResult<'a>
-    ensures { (app : App) → IfOk program.entry (λ c. app_of c.value ≡ app) → IfOk result (λ c. app_of c.value ≡ with_nets app) }
+fn with_net_commands<'a>(alloc: Global, program: CommandResult<'a>) -> CommandResult<'a>
+    ensures { (app : App) → IfOk program.entry (λ c. app_of c.value ≡ app) → IfOk result (λ c. app_of c.value ≡ with_net_commands app) }
 {
     let cut = cutting(
         alloc,
@@ -647,8 +652,8 @@ fn with_nets<'a>(alloc: Global, program: CommandResult<'a>) -> CommandResult<'a>
         "FILE",
         NETWORK_HELP,
     );
-    let program = with_sub(alloc, program, cut);
-    let check = checking(
+    let program = add_command(alloc, program, cut);
+    let check = new_report_command(
         alloc,
         "check-net",
         "Check a report's proof that its cut of a network is cheapest",
@@ -657,8 +662,8 @@ fn with_nets<'a>(alloc: Global, program: CommandResult<'a>) -> CommandResult<'a>
         NETWORK_HELP,
         "The report of a cut between two of its modules",
     );
-    let program = with_sub(alloc, program, check);
-    let why = chaining(
+    let program = add_command(alloc, program, check);
+    let why = new_path_command(
         alloc,
         "why-net",
         "Print why a module of a network reaches another: the shortest path of imports",
@@ -666,26 +671,26 @@ fn with_nets<'a>(alloc: Global, program: CommandResult<'a>) -> CommandResult<'a>
         "FILE",
         NETWORK_HELP,
     );
-    with_sub(alloc, program, why)
+    add_command(alloc, program, why)
 }
 
 /// Adds the commands `modules`, `reach` and `reach-net`.
-fn with_lists<'a>(alloc: Global, program: CommandResult<'a>) -> CommandResult<'a>
-    ensures { (app : App) → IfOk program.entry (λ c. app_of c.value ≡ app) → IfOk result (λ c. app_of c.value ≡ with_lists app) }
+fn with_list_commands<'a>(alloc: Global, program: CommandResult<'a>) -> CommandResult<'a>
+    ensures { (app : App) → IfOk program.entry (λ c. app_of c.value ≡ app) → IfOk result (λ c. app_of c.value ≡ with_list_commands app) }
 {
     let modules = modules_command(alloc);
-    let program = with_sub(alloc, program, modules);
+    let program = add_command(alloc, program, modules);
     let reach = reach_command(alloc);
-    let program = with_sub(alloc, program, reach);
+    let program = add_command(alloc, program, reach);
     let reach_net = reach_net_command(alloc);
-    with_sub(alloc, program, reach_net)
+    add_command(alloc, program, reach_net)
 }
 
 /// Adds the commands `dot` and `dot-net`.
-fn with_pictures<'a>(alloc: Global, program: CommandResult<'a>) -> CommandResult<'a>
-    ensures { (app : App) → IfOk program.entry (λ c. app_of c.value ≡ app) → IfOk result (λ c. app_of c.value ≡ with_pictures app) }
+fn with_picture_commands<'a>(alloc: Global, program: CommandResult<'a>) -> CommandResult<'a>
+    ensures { (app : App) → IfOk program.entry (λ c. app_of c.value ≡ app) → IfOk result (λ c. app_of c.value ≡ with_picture_commands app) }
 {
-    let tree = checking(
+    let tree = new_report_command(
         alloc,
         "dot",
         "Draw a report on Oberon-07 modules, in the language DOT of Graphviz",
@@ -696,8 +701,8 @@ fn with_pictures<'a>(alloc: Global, program: CommandResult<'a>) -> CommandResult
     );
     let tree = with_flow(alloc, tree);
     let tree = with_tree_options(alloc, tree, SKIP_FAULTS_HELP);
-    let program = with_sub(alloc, program, tree);
-    let net = checking(
+    let program = add_command(alloc, program, tree);
+    let net = new_report_command(
         alloc,
         "dot-net",
         "Draw a report on a network, in the language DOT of Graphviz",
@@ -707,12 +712,12 @@ fn with_pictures<'a>(alloc: Global, program: CommandResult<'a>) -> CommandResult
         "The report of a cut between two of its modules",
     );
     let net = with_flow(alloc, net);
-    with_sub(alloc, program, net)
+    add_command(alloc, program, net)
 }
 
 /// Adds the commands `def` and `refs`.
-fn with_indexes<'a>(alloc: Global, program: CommandResult<'a>) -> CommandResult<'a>
-    ensures { (app : App) → IfOk program.entry (λ c. app_of c.value ≡ app) → IfOk result (λ c. app_of c.value ≡ with_indexes app) }
+fn with_location_commands<'a>(alloc: Global, program: CommandResult<'a>) -> CommandResult<'a>
+    ensures { (app : App) → IfOk program.entry (λ c. app_of c.value ≡ app) → IfOk result (λ c. app_of c.value ≡ with_location_commands app) }
 {
     let def = asking(
         alloc,
@@ -721,7 +726,7 @@ fn with_indexes<'a>(alloc: Global, program: CommandResult<'a>) -> CommandResult<
         DEF_END,
         DEF_USAGE,
     );
-    let program = with_sub(alloc, program, def);
+    let program = add_command(alloc, program, def);
     let refs = asking(
         alloc,
         "refs",
@@ -729,29 +734,29 @@ fn with_indexes<'a>(alloc: Global, program: CommandResult<'a>) -> CommandResult<
         REFS_END,
         REFS_USAGE,
     );
-    with_sub(alloc, program, refs)
+    add_command(alloc, program, refs)
 }
 
 /// Adds the commands `symbol` and `symbols`.
-fn with_symbols<'a>(alloc: Global, program: CommandResult<'a>) -> CommandResult<'a>
-    ensures { (app : App) → IfOk program.entry (λ c. app_of c.value ≡ app) → IfOk result (λ c. app_of c.value ≡ with_symbols app) }
+fn with_symbol_commands<'a>(alloc: Global, program: CommandResult<'a>) -> CommandResult<'a>
+    ensures { (app : App) → IfOk program.entry (λ c. app_of c.value ≡ app) → IfOk result (λ c. app_of c.value ≡ with_symbol_commands app) }
 {
     let symbol = symbol_command(alloc);
-    let program = with_sub(alloc, program, symbol);
+    let program = add_command(alloc, program, symbol);
     let symbols = symbols_command(alloc);
-    with_sub(alloc, program, symbols)
+    add_command(alloc, program, symbols)
 }
 
 /// Adds the commands `index`, `unresolved` and `faults`.
-fn with_indexers<'a>(alloc: Global, program: CommandResult<'a>) -> CommandResult<'a>
-    ensures { (app : App) → IfOk program.entry (λ c. app_of c.value ≡ app) → IfOk result (λ c. app_of c.value ≡ with_indexers app) }
+fn with_index_commands<'a>(alloc: Global, program: CommandResult<'a>) -> CommandResult<'a>
+    ensures { (app : App) → IfOk program.entry (λ c. app_of c.value ≡ app) → IfOk result (λ c. app_of c.value ≡ with_index_commands app) }
 {
     let index = index_command(alloc);
-    let program = with_sub(alloc, program, index);
+    let program = add_command(alloc, program, index);
     let unresolved = unresolved_command(alloc);
-    let program = with_sub(alloc, program, unresolved);
+    let program = add_command(alloc, program, unresolved);
     let faults = faults_command(alloc);
-    with_sub(alloc, program, faults)
+    add_command(alloc, program, faults)
 }
 
 /// The program without commands.
@@ -773,12 +778,12 @@ pub(crate) fn command<'a>(alloc: Global) -> CommandResult<'a>
     ensures { IfOk result (λ c. app_of c.value ≡ oscip) }
 {
     let program = bare(alloc);
-    let program = with_trees(alloc, program);
-    let program = with_imports(alloc, program);
-    let program = with_nets(alloc, program);
-    let program = with_lists(alloc, program);
-    let program = with_pictures(alloc, program);
-    let program = with_indexes(alloc, program);
-    let program = with_symbols(alloc, program);
-    with_indexers(alloc, program)
+    let program = with_tree_commands(alloc, program);
+    let program = with_import_commands(alloc, program);
+    let program = with_net_commands(alloc, program);
+    let program = with_list_commands(alloc, program);
+    let program = with_picture_commands(alloc, program);
+    let program = with_location_commands(alloc, program);
+    let program = with_symbol_commands(alloc, program);
+    with_index_commands(alloc, program)
 }

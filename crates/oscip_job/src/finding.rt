@@ -6,8 +6,9 @@ ghost use Rattle.oscip_job.specs.Jobs.{oscip, AsksForAtomic, Finds, FindsAll, Fi
 
 use crate::commands::command;
 use crate::job::{
-    AskedSymbol, Cutting, Direction, Drawing, IndexQuestion, Indexing, Job, JobFault, NetQuestion,
-    Output, Places, Position, Reaching, Reported, SourceTree, TreeQuestion, TwoNames,
+    AskedSymbol, CutRequest, Direction, IndexQuestion, IndexRequest, Job, JobFault, NetQuestion,
+    Output, PictureRequest, Places, Position, ReachRequest, ReportInput, SourceTree, TreeQuestion,
+    TwoNames,
 };
 use clap::ArgMatches;
 use clap::error::ErrorKind;
@@ -69,7 +70,7 @@ impl From<AllocError> for Refusal {
 }
 
 /// The fault for an invalid command line, with this message.
-fn refused(alloc: Global, text: &str) -> JobFault {
+fn line_fault(alloc: Global, text: &str) -> JobFault {
     match String::from_str(alloc, text) {
         Ok(text) => JobFault::Line { text },
         Err(_) => JobFault::Memory,
@@ -79,13 +80,13 @@ fn refused(alloc: Global, text: &str) -> JobFault {
 /// The fault with the message of this `Refusal`.
 fn fault_of(alloc: Global, refusal: Refusal) -> JobFault {
     match refusal {
-        Refusal::Missing => refused(alloc, ONE_SYMBOL),
-        Refusal::Empty => refused(alloc, NO_SYMBOL),
-        Refusal::Document => refused(alloc, NO_DOCUMENT),
-        Refusal::Output => refused(alloc, ONE_OUTPUT),
-        Refusal::Atomic => refused(alloc, NO_FILE),
-        Refusal::Package => refused(alloc, WRONG_PACKAGE),
-        Refusal::FromOne => refused(alloc, FROM_ONE),
+        Refusal::Missing => line_fault(alloc, ONE_SYMBOL),
+        Refusal::Empty => line_fault(alloc, NO_SYMBOL),
+        Refusal::Document => line_fault(alloc, NO_DOCUMENT),
+        Refusal::Output => line_fault(alloc, ONE_OUTPUT),
+        Refusal::Atomic => line_fault(alloc, NO_FILE),
+        Refusal::Package => line_fault(alloc, WRONG_PACKAGE),
+        Refusal::FromOne => line_fault(alloc, FROM_ONE),
         Refusal::Memory => JobFault::Memory,
     }
 }
@@ -112,7 +113,7 @@ fn value_of(alloc: Global, found: &ArgMatches<'_>, id: &str) -> Result<String, R
 }
 
 /// A copy of the value of an argument, if it is given.
-fn value_if_present(
+fn optional_value(
     alloc: Global,
     found: &ArgMatches<'_>,
     id: &str,
@@ -186,7 +187,7 @@ fn two_names(
 }
 
 /// The request for a cut, without its input.
-fn cutting_of(alloc: Global, found: &ArgMatches<'_>) -> Result<Cutting, Refusal>
+fn cutting_of(alloc: Global, found: &ArgMatches<'_>) -> Result<CutRequest, Refusal>
     requires { HasWorkersInRange (rows_of (found_of found.now)) }
     ensures values { IfOk result (HasCutting (rows_of (found_of found.now))) }
     ensures workers { IfOk result (λ it. IsWorkerCount it.workers) }
@@ -194,8 +195,8 @@ fn cutting_of(alloc: Global, found: &ArgMatches<'_>) -> Result<Cutting, Refusal>
     let workers = workers_of(found)?;
     let from = value_of(alloc, found, "A")?;
     let to = value_of(alloc, found, "B")?;
-    let prices = value_if_present(alloc, found, "prices")?;
-    Ok(Cutting {
+    let prices = optional_value(alloc, found, "prices")?;
+    Ok(CutRequest {
         from,
         to,
         workers,
@@ -204,21 +205,21 @@ fn cutting_of(alloc: Global, found: &ArgMatches<'_>) -> Result<Cutting, Refusal>
 }
 
 /// The report and its prices, without the input that the report is about.
-fn reported_of(alloc: Global, found: &ArgMatches<'_>) -> Result<Reported, Refusal>
+fn reported_of(alloc: Global, found: &ArgMatches<'_>) -> Result<ReportInput, Refusal>
     ensures { IfOk result (HasReported (rows_of (found_of found.now))) }
 {
     let report = value_of(alloc, found, "REPORT")?;
-    let prices = value_if_present(alloc, found, "prices")?;
-    Ok(Reported { report, prices })
+    let prices = optional_value(alloc, found, "prices")?;
+    Ok(ReportInput { report, prices })
 }
 
 /// The request for a picture, without the input that the report is about.
-fn drawing_of(alloc: Global, found: &ArgMatches<'_>) -> Result<Drawing, Refusal>
+fn drawing_of(alloc: Global, found: &ArgMatches<'_>) -> Result<PictureRequest, Refusal>
     ensures { IfOk result (HasDrawing (rows_of (found_of found.now))) }
 {
     let by_flow = is_present(found, "flow");
     let reported = reported_of(alloc, found)?;
-    Ok(Drawing { reported, by_flow })
+    Ok(PictureRequest { reported, by_flow })
 }
 
 /// The direction of imports: against them with `--back`.
@@ -233,12 +234,12 @@ fn direction_of(found: &ArgMatches<'_>) -> Direction
 }
 
 /// The request for reached modules, without its input.
-fn reaching_of(alloc: Global, found: &ArgMatches<'_>) -> Result<Reaching, Refusal>
+fn reaching_of(alloc: Global, found: &ArgMatches<'_>) -> Result<ReachRequest, Refusal>
     ensures { IfOk result (HasReaching (rows_of (found_of found.now))) }
 {
     let module = value_of(alloc, found, "M")?;
     let direction = direction_of(found);
-    Ok(Reaching { module, direction })
+    Ok(ReachRequest { module, direction })
 }
 
 /// The question about a network that the command of this name asks. The name is without a final `-net`.
@@ -362,7 +363,7 @@ fn named_symbol(alloc: Global, found: &ArgMatches<'_>, symbol: &str) -> Result<A
     if found.get_str("LINE").is_some() || found.get_str("COL").is_some() {
         return Err(Refusal::Missing);
     }
-    let path = value_if_present(alloc, found, "PATH")?;
+    let path = optional_value(alloc, found, "PATH")?;
     if path.is_none() && symbol.as_bytes().starts_with(b"local ") {
         return Err(Refusal::Document);
     }
@@ -394,7 +395,7 @@ fn index_question(
     ensures { IfOk result (λ asked. IfSome asked (IsIndexQuestionOf name.now (rows_of (found_of found.now)))) }
 {
     if name == "symbols" {
-        let path = value_if_present(alloc, found, "PATH")?;
+        let path = optional_value(alloc, found, "PATH")?;
         return Ok(Some(IndexQuestion::Symbols { path }));
     }
     if name == "symbol" {
@@ -410,7 +411,7 @@ fn index_question(
 }
 
 /// The job of a question about an index.
-fn asking_job(
+fn index_question_job(
     alloc: Global,
     question: IndexQuestion,
     found: &ArgMatches<'_>,
@@ -478,7 +479,7 @@ fn is_atomic(found: &ArgMatches<'_>) -> bool
 }
 
 /// The request for an index that the arguments give.
-fn indexing_of(alloc: Global, found: &ArgMatches<'_>) -> Result<Indexing, Refusal>
+fn indexing_of(alloc: Global, found: &ArgMatches<'_>) -> Result<IndexRequest, Refusal>
     requires { HasWorkersInRange (rows_of (found_of found.now)) }
     ensures values { IfOk result (HasIndexing (rows_of (found_of found.now))) }
     ensures workers { IfOk result (λ it. IsWorkerCount it.workers) }
@@ -490,7 +491,7 @@ fn indexing_of(alloc: Global, found: &ArgMatches<'_>) -> Result<Indexing, Refusa
     let package = package_of(alloc, found)?;
     let output = output_of(alloc, found)?;
     let is_atomic = is_atomic(found);
-    Ok(Indexing {
+    Ok(IndexRequest {
         tree,
         output,
         package,
@@ -525,7 +526,7 @@ fn graph_job(alloc: Global, name: &str, found: &ArgMatches<'_>) -> Result<Job, R
 }
 
 /// The job that the command of this name requests.
-fn job_named(alloc: Global, name: &str, found: &ArgMatches<'_>) -> Result<Job, Refusal>
+fn job_of_command(alloc: Global, name: &str, found: &ArgMatches<'_>) -> Result<Job, Refusal>
     requires { NamesNumbers (rows_of (found_of found.now)) }
     ensures { IfOk result (IsJobOf (Some (name.now, rows_of (found_of found.now)))) }
 {
@@ -536,7 +537,7 @@ fn job_named(alloc: Global, name: &str, found: &ArgMatches<'_>) -> Result<Job, R
         return unresolved_job(alloc, found);
     }
     match index_question(alloc, name, found)? {
-        Some(question) => asking_job(alloc, question, found),
+        Some(question) => index_question_job(alloc, question, found),
         None => graph_job(alloc, name, found),
     }
 }
@@ -548,11 +549,11 @@ fn job_of_matches(alloc: Global, matches: &ArgMatches<'_>) -> Result<Job, Refusa
 {
     match matches.subcommand() {
         None => Err(Refusal::Missing),
-        Some((name, found)) => job_named(alloc, name, found),
+        Some((name, found)) => job_of_command(alloc, name, found),
     }
 }
 
-fn job_from(alloc: Global, matches: &ArgMatches<'_>) -> Result<Job, JobFault>
+fn job_or_fault(alloc: Global, matches: &ArgMatches<'_>) -> Result<Job, JobFault>
     requires { IfSome (subcommand_rows_of matches.now) (λ found. NamesNumbers found.1) }
     ensures { IfOk result (IsJobOf (subcommand_rows_of matches.now)) }
 {
@@ -562,7 +563,7 @@ fn job_from(alloc: Global, matches: &ArgMatches<'_>) -> Result<Job, JobFault>
     }
 }
 
-fn fault_from(alloc: Global, error: &clap::Error) -> JobFault
+fn fault_of_clap_error(alloc: Global, error: &clap::Error) -> JobFault
     ensures { kind_of error.now ≡ ErrorKind.OutOfMemory → result ≡ JobFault.Memory }
 {
     if error.kind() == ErrorKind::OutOfMemory {
@@ -598,7 +599,7 @@ pub fn job_of(alloc: Global, words: &[String]) -> Result<Job, JobFault>
 {
     let command = command(alloc)?;
     match Box::into_inner(command).try_get_matches_from(words) {
-        Ok(matches) => job_from(alloc, &matches),
-        Err(error) => Err(fault_from(alloc, &error)),
+        Ok(matches) => job_or_fault(alloc, &matches),
+        Err(error) => Err(fault_of_clap_error(alloc, &error)),
     }
 }

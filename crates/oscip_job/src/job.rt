@@ -72,7 +72,7 @@ pub enum Output {
 
 /// A request for an index of a tree.
 #[derive(Drop)]
-pub struct Indexing {
+pub struct IndexRequest {
     pub tree: SourceTree,
     /// Where to write the index.
     pub output: Output,
@@ -96,7 +96,7 @@ pub struct TwoNames {
 
 /// A request for a cheapest cut between the modules of two names.
 #[derive(Drop)]
-pub struct Cutting {
+pub struct CutRequest {
     pub from: String,
     pub to: String,
     /// The number of threads that search for the cut, from 1 to 64.
@@ -107,7 +107,7 @@ pub struct Cutting {
 
 /// A report, and the prices that it was made with.
 #[derive(Drop)]
-pub struct Reported {
+pub struct ReportInput {
     /// The path of the report's file.
     pub report: String,
     /// The path of a file with prices of imports, if one is given.
@@ -116,8 +116,8 @@ pub struct Reported {
 
 /// A request for a picture of a report.
 #[derive(Drop)]
-pub struct Drawing {
-    pub reported: Reported,
+pub struct PictureRequest {
+    pub reported: ReportInput,
     /// Whether to draw the picture by flow: only the imports that the report removes or that carry flow in it, or those of its blocked
     /// path.
     pub by_flow: bool,
@@ -134,7 +134,7 @@ pub enum Direction {
 
 /// A request for the modules that are reached from a module in a direction.
 #[derive(Drop)]
-pub struct Reaching {
+pub struct ReachRequest {
     pub module: String,
     pub direction: Direction,
 }
@@ -143,15 +143,15 @@ pub struct Reaching {
 #[derive(Drop)]
 pub enum NetQuestion {
     /// What is a cheapest cut between two modules?
-    Cut(Cutting),
+    Cut(CutRequest),
     /// Is a report on the network correct?
-    Check(Reported),
+    Check(ReportInput),
     /// A picture of a report on the network. The report isn't verified.
-    Dot(Drawing),
+    Dot(PictureRequest),
     /// What is the shortest path of imports from the first module to the second?
     Why(TwoNames),
     /// Which modules does a module reach, or which reach it?
-    Reach(Reaching),
+    Reach(ReachRequest),
 }
 
 /// A question about the modules of a tree.
@@ -192,7 +192,7 @@ pub enum Job {
         for_editor: bool,
     },
     /// Makes an index of the modules below a folder.
-    Index(Indexing),
+    Index(IndexRequest),
     /// Lists the identifiers that can't be resolved in the modules below a folder.
     Unresolved(SourceTree),
 }

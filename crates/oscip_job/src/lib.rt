@@ -11,6 +11,7 @@ mod job;
 
 pub use finding::job_of;
 pub use job::{
-    AskedSymbol, Cutting, Direction, Drawing, IndexQuestion, Indexing, Job, JobFault, NetQuestion,
-    Output, Places, Position, Reaching, Reported, SourceTree, TreeQuestion, TwoNames,
+    AskedSymbol, CutRequest, Direction, IndexQuestion, IndexRequest, Job, JobFault, NetQuestion,
+    Output, PictureRequest, Places, Position, ReachRequest, ReportInput, SourceTree, TreeQuestion,
+    TwoNames,
 };

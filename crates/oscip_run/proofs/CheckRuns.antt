@@ -1,4 +1,4 @@
--- From what the lower crates promise to what a run of the check is.
+-- The contracts of lower crates imply the definition of a run of the checker.
 use Rattle.std.proofs.Common.{◌∷◌, [], append_assoc, ◌++◌, ◌≡◌, ℕ, Bool, true, List, Option, Some, None, Result, Ok, Err, refl, inl, inr, sym, subst, ◌∙◌}
 use Rattle.std.specs.Io.KnownBytes.{Keeps}
 use Rattle.std.proofs.lemmas.Bool.{cond_both}

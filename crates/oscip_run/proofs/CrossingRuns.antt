@@ -1,9 +1,9 @@
--- From what the lower crates promise to what a run that tells where a module uses another is.
+-- The contracts of lower crates imply the definition of a run that prints where a module uses another.
 use Rattle.std.proofs.Common.{ℕ, List, Option, Err, map, refl, inr}
 use Rattle.byte_sink.specs.declared.sink.SinkFault.{SinkFault}
 use Rattle.byte_sink.specs.declared.sink.SinkFault.TheVariants as sink
 use Rattle.byte_sink.specs.Sinks.{AppendsPrefix}
-use Rattle.text_escape.specs.Places.{Style}
+use Rattle.texts.specs.Places.{Style}
 use Rattle.index_store.specs.Lines.{location_lines}
 use Rattle.oscip_run.specs.CrossingRuns.{location_in_file, IsCrossingsRun, IsUsesText}
 use Rattle.oscip_run.specs.Faults.{of_sink}

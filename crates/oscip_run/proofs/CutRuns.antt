@@ -1,4 +1,4 @@
--- From what the lower crates promise to what a run of the search for a cut is.
+-- The contracts of lower crates imply the definition of a run that searches for a cut.
 use Rattle.std.proofs.Common.{◌≡◌, ℕ, List, Option, Some, Result, Ok, Err, true, refl, sym, subst, ◌∙◌, inl, inr}
 use Rattle.std.proofs.lemmas.Option.{same_Some}
 use Rattle.cut_net.specs.Network.{Network, index_of}

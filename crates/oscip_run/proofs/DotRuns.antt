@@ -1,4 +1,4 @@
--- From what the lower crates promise to what a run that draws is.
+-- The contracts of lower crates imply the definition of a run that draws a report.
 use Rattle.std.proofs.Common.{ℕ, arith, List, Option, Result, Ok, Err, refl, inl, inr, sym, subst}
 use Rattle.byte_sink.specs.declared.sink.SinkFault.{SinkFault}
 use Rattle.byte_sink.specs.declared.sink.SinkFault.TheVariants as sink
@@ -13,7 +13,7 @@ use Rattle.cut_report.specs.Reading.{entry_of}
 use Rattle.cut_net.specs.declared.answer.Answer.{Answer}
 use Rattle.cut_net.specs.declared.answer.Answer.TheVariants as answers
 use Rattle.cut_net.specs.Answers.{answer_claim}
-use Rattle.cut_report.specs.ReportText.{MaySay}
+use Rattle.cut_report.specs.ReportText.{IsWellFormedAnswer}
 use Rattle.cut_net.specs.Lines.{IsAscending}
 use Rattle.cut_dot.specs.Drawing.{IsDrawing, IsDrawingOf}
 use Rattle.cut_dot.specs.Pictures.{answer_flow, answer_removed}
@@ -26,11 +26,11 @@ use Rattle.oscip_run.specs.declared.fault.RunFault.TheVariants as run
 use Rattle.oscip_run.proofs.CheckRuns.{Keeps-same, no_run}
 
 -- both lists of an answer that may be said ascend
-pub removed_ascend : (n : Network) (answer : Answer) → MaySay n (answer_claim answer) → IsAscending (answer_removed answer)
+pub removed_ascend : (n : Network) (answer : Answer) → IsWellFormedAnswer n (answer_claim answer) → IsAscending (answer_removed answer)
 removed_ascend n (answers.Cut cut) says = says.printed_in_order
 removed_ascend n (answers.Blocked chain) says = λ j k d lt within. absurd (omega arith)
 
-pub flow_ascends : (n : Network) (answer : Answer) → MaySay n (answer_claim answer) → IsAscending (answer_flow answer)
+pub flow_ascends : (n : Network) (answer : Answer) → IsWellFormedAnswer n (answer_claim answer) → IsAscending (answer_flow answer)
 flow_ascends n (answers.Cut cut) says = says.flow_in_order
 flow_ascends n (answers.Blocked chain) says = λ j k d lt within. absurd (omega arith)
 

@@ -1,4 +1,4 @@
--- From the faults of a tree to what a run that tells them is.
+-- The faults of a tree imply the definition of a run that lists them.
 use Rattle.std.proofs.Common.{◌≡◌, ℕ, Bool, true, false, List, [], ◌∷◌, Option, Ok, Err, codes, refl, sym, subst, inr}
 use Rattle.std.proofs.lemmas.Bool.{false≢true}
 use Rattle.byte_sink.specs.declared.sink.SinkFault.{SinkFault}
@@ -6,8 +6,8 @@ use Rattle.byte_sink.specs.declared.sink.SinkFault.TheVariants as sink
 use Rattle.byte_sink.specs.Sinks.{AppendsPrefix}
 use Rattle.oscip_run.specs.FaultRuns.{fault_lines, IsFaultsRun, IsFaultsText}
 use Rattle.oscip_run.specs.Faults.{of_sink}
-use Rattle.text_escape.specs.Places.{Style}
-use Rattle.source_tree.specs.OwnFaults.{AreTreeFaults}
+use Rattle.texts.specs.Places.{Style}
+use Rattle.source_tree.specs.FileFaults.{AreTreeFaults}
 use Rattle.source_tree.specs.declared.source.Source.{Source}
 use Rattle.source_tree.specs.declared.tree_fault.TreeFault.{TreeFault}
 use Rattle.source_tree.proofs.OneParting.{nothing_told}

@@ -1,4 +1,4 @@
--- From what the lower crates promise to what the runs that tell imports are.
+-- The contracts of lower crates imply the definitions of the runs that write networks and paths.
 use Rattle.std.proofs.Common.{◌≡◌, ◌≢◌, ◌∙◌, ℕ, Bool, true, false, List, [], ◌∷◌, ◌++◌, map, Option, Some, None, Result, Ok, Err, refl, subst, sym, inl, inr}
 use Rattle.std.proofs.lemmas.List.{append-nil}
 use Rattle.std.specs.Io.KnownBytes.{Appends}
@@ -77,13 +77,13 @@ line_stands (b ∷ line) more e = absurd cc
 rows_stand : (line : NetLine) (more : List NetLine) → ended_lines (line ∷ more) ≢ []
 rows_stand line more = line_stands (net_line line) (ended_lines more)
 
--- a chain between two modules has lines
+-- a path between two modules has lines
 has_lines : (n : Network) (a b : ℕ) (chain : List ℕ) → a ≢ b → AreChain (Imports n.imports Any) a b chain → chain_text n chain ≢ []
 has_lines n a b [] apart is = absurd is
 has_lines n a b (m ∷ []) apart is = absurd (apart (sym is.0 ∙ is.1))
 has_lines n a b (m ∷ k ∷ more) apart is = rows_stand (import_line n.names (import_between n m k)) (map (import_line n.names) (imports_along n (k ∷ more)))
 
--- the lines of the least chain
+-- the lines of the least path
 pub why_text : (first second : List ℕ) (n : Network) (a b : ℕ) (chain : List ℕ) → index_of n first ≡ Some a → index_of n second ≡ Some b → a ≢ b →
     IsLeastChain (Imports n.imports Any) a b chain → IsWhyText (IsThis n) first second true (chain_text n chain)
 why_text first second n a b chain first_is second_is apart least = record {
@@ -97,7 +97,7 @@ why_text first second n a b chain first_is second_is apart least = record {
   exact = (chain, least, refl, has_lines n a b chain apart least.is_chain);
 }
 
--- and none, where no chain leads there
+-- and none, where no path leads there
 pub no_chain : (first second : List ℕ) (n : Network) (a b : ℕ) → index_of n first ≡ Some a → index_of n second ≡ Some b → a ≢ b → (Chain n.imports Any a b → ⊥) →
     IsWhyText (IsThis n) first second false []
 no_chain first second n a b first_is second_is apart none = record {

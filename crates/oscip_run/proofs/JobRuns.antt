@@ -1,4 +1,4 @@
--- From the runs of engines to those of jobs.
+-- The runs of engines as runs of jobs.
 use Rattle.std.proofs.Common.{◌≡◌, ℕ, Bool, List, Option, Result, Err, subst}
 use Rattle.cut_net.specs.Network.{Network}
 use Rattle.oscip_run.specs.CutRuns.{IsCutRun}

@@ -1,4 +1,4 @@
--- From what the lower crates promise to what the runs that list modules are.
+-- The contracts of lower crates imply the definitions of the runs that list modules.
 use Rattle.std.proofs.Common.{◌≡◌, ◌∙◌, ◌<◌, ◌+◌, ℕ, zero, suc, List, [], ◌∷◌, length, get_or, map, Option, Some, None, Result, Err, refl, sym, ap, subst, inl, inr, arith}
 use Rattle.std.specs.Prelude.{◌↔◌, All, AllPairs, Contains, slice_get, slice_index}
 use Rattle.std.specs.String.{string_bytes}
@@ -25,7 +25,7 @@ use Rattle.source_tree.specs.Files.{AreAllOf}
 use Rattle.source_tree.specs.Located.{AreModulesOf, IsModuleOf}
 use Rattle.source_tree.specs.Trees.{IsNetOfTree, ModuleFile}
 use Rattle.source_tree.specs.declared.source.Source.{Source}
-use Rattle.text_escape.specs.Places.{raw_style, Style}
+use Rattle.texts.specs.Places.{raw_style, Style}
 
 -- ---- what a module reaches
 

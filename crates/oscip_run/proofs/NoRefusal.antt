@@ -1,4 +1,4 @@
--- An accepted tree is never refused.
+-- A tree with a network is never rejected.
 use Rattle.std.proofs.Common.{List, sym, ◌∙◌}
 use Rattle.std.proofs.lemmas.Bool.{false≢true}
 use Rattle.cut_net.specs.Network.{Network}

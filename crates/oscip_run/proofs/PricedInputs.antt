@@ -1,4 +1,4 @@
--- From the network of an input to that with its prices.
+-- The network of an input, and the network with its prices.
 use Rattle.std.proofs.Common.{ℕ, List, Option, Some, None, Err, inl, inr, sym, subst}
 use Rattle.cut_net.specs.Network.{Network}
 use Rattle.cut_net.specs.NetText as nets

@@ -1,4 +1,4 @@
--- From rules and their verdict to what a run that checks them is.
+-- Rules and their verdict imply the definition of a run that checks them.
 use Rattle.std.proofs.Common.{◌≡◌, ◌∙◌, ◌+◌, ◌<◌, ℕ, zero, suc, Bool, List, [], ◌∷◌, ◌++◌, length, length-append, get_or, map, take, Option, Some, Result, Ok, Err, refl, ap, subst, sym, inl, inr, arith}
 use Rattle.std.specs.Prelude.{slice_get}
 use Rattle.std.specs.Cmp.Lexicographic.{slice_cmp, nat_list_cmp_total}
@@ -13,7 +13,7 @@ use Rattle.std.specs.Io.KnownBytes.{Appends}
 use Rattle.byte_sink.specs.Sinks.{AppendsPrefix}
 use Rattle.byte_sink.specs.declared.sink.SinkFault.{SinkFault}
 use Rattle.byte_sink.specs.declared.sink.SinkFault.TheVariants as sink
-use Rattle.text_escape.specs.Places.{Style}
+use Rattle.texts.specs.Places.{Style}
 use Rattle.cut_net.specs.Network.{Network}
 use Rattle.cut_rules.specs.Faults.{IsRefusal, UnlessMemory}
 use Rattle.cut_rules.specs.Folders.{path_cmp}
@@ -27,7 +27,7 @@ use Rattle.cut_rules.specs.declared.reading.Rules.{Rules}
 use Rattle.cut_rules.specs.declared.site.Site.{Site}
 use Rattle.oscip_run.specs.Faults.{of_rules, of_sink}
 use Rattle.oscip_run.specs.Readings.{FileOf, Reading}
-use Rattle.oscip_run.specs.RuleRuns.{AreSitesIn, AreThese, IsRuledTree, IsSiteIn, IsRulesRun, PutsRulesFront}
+use Rattle.oscip_run.specs.RuleRuns.{AreSitesIn, AreThese, IsRuledTree, IsSiteIn, IsRulesRun, WritesRulesPrefix}
 use Rattle.oscip_run.specs.Runs.{IsNeverRejected, IsRejectedTree}
 use Rattle.oscip_run.specs.TreeQuestionRuns.{IsRulesFileRun}
 use Rattle.source_tree.proofs.TreeFiles.{each_joined}
@@ -66,7 +66,7 @@ module _ (IsOf : Network → List File → List Site → Type 0) (IsRefused : Ru
   abbrev pub IsPrefix : Option (List ℕ) → Option (List ℕ) → Type 0
   IsPrefix old new = (violations : List Violation) (stale : List Stale) → AreViolations net files (pieces_of text) violations → AreStaleLines net (pieces_of text) stale → AppendsPrefix old new (verdict_text style net sites violations stale)
 
-  front : (old new : Option (List ℕ)) (all : Rules) → AreRulesOf net files (pieces_of text) all → IsPrefix old new → PutsRulesFront IsOf style text old new
+  front : (old new : Option (List ℕ)) (all : Rules) → AreRulesOf net files (pieces_of text) all → IsPrefix old new → WritesRulesPrefix IsOf style text old new
   front old new all are prefix = record { net = net; files = files; sites = sites; reads = of; sound = sound all are; prefix = prefix }
 
   -- a sink that stopped
@@ -79,7 +79,7 @@ module _ (IsOf : Network → List File → List Site → Type 0) (IsRefused : Ru
   moved : (net : Network) (files : List File) (sites : List Site) → AreThese n fs ss net files sites → IsOf net files sites
   moved net files sites these = subst (λ (x : Network). IsOf x files sites) (sym these.0) (subst (λ (x : List File). IsOf n x sites) (sym these.1) (subst (IsOf n fs) (sym these.2) of))
 
-  front_of : PutsRulesFront (AreThese n fs ss) style text old new → PutsRulesFront IsOf style text old new
+  front_of : WritesRulesPrefix (AreThese n fs ss) style text old new → WritesRulesPrefix IsOf style text old new
   front_of h = record { net = h.net; files = h.files; sites = h.sites; reads = moved h.net h.files h.sites h.reads; sound = h.sound; prefix = h.prefix }
 
   pub run_of : (result : Result Bool RunFault) → IsRulesRun (AreThese n fs ss) IsNeverRejected style text old new result → IsRulesRun IsOf IsRefused style text old new result

@@ -1,4 +1,4 @@
--- What a solver answers may stand in a report.
+-- The answer of a solver is a well-formed answer of a report.
 use Rattle.std.proofs.Common.{◌≡◌, ℕ, ◌≤◌, ◌<◌, ◌^◌, true, List, [], ◌∷◌, length, get_or, Some, refl, sym, ap, ◌∙◌, subst, arith}
 use Rattle.std.specs.Prelude.{Contains, All, IfSome, find}
 use Rattle.std.specs.List.{position_or_len, slice_get}
@@ -16,7 +16,7 @@ use Rattle.cut_net.specs.Network.{Network, index_of}
 use Rattle.cut_net.specs.Cuts.{have_equal_ends, IsChain}
 use Rattle.cut_net.specs.Lines.{removed_by, AreImportsInOrder, IsAscending, IsImport}
 use Rattle.cut_net.specs.Pins.{ByPin, IsAnswerWithPins, IsPinChain}
-use Rattle.cut_report.specs.ReportText.{IsReport, MaySay}
+use Rattle.cut_report.specs.ReportText.{IsReport, IsWellFormedAnswer}
 use Rattle.cut_net.specs.AnswerClaim.{AnswerClaim, CutOf, BlockedBy}
 use Rattle.cut_report.specs.ReportClaim.{ReportClaim}
 use Rattle.cut_net.specs.WellFormed.{total_weight, AreBetween, IsNetwork}
@@ -77,18 +77,18 @@ pub fits_said : (answer : Answer) (lines : List Priced) (most : ℕ) → lines �
 fits_said (answers.Cut cut) lines most e below h = fit_below most cut.flow.items below (subst (λ (flow : List Priced). All (λ (line : Priced). line.amount ≤ most) flow) e h)
 fits_said (answers.Blocked chain) lines most e below h = tt
 
--- the modules of a chain that begins with one are modules of the network
+-- the modules of a path that begins with one are modules of the network
 chain_within : (net : Network) (m : ℕ) (more : List ℕ) (b : ℕ) → IsNetwork net → IsChain net.imports (ByPin net) m more b → Within net m → All (Within net) (m ∷ more)
 chain_within net m [] b invariants h within = All-cons (Within net) m [] within (All-nil (Within net))
 chain_within net m (n ∷ more) b invariants (step, rest) within =
     let to : Within net n = subst (Within net) step.3 (invariants.between step.0 step.1).1 in
     All-cons (Within net) m (n ∷ more) within (chain_within net n more b invariants rest to)
 
-chain_said : (net : Network) (a b : ℕ) (chain : List ℕ) → IsNetwork net → a < length net.names → IsPinChain net a b chain → MaySay net (BlockedBy chain)
+chain_said : (net : Network) (a b : ℕ) (chain : List ℕ) → IsNetwork net → a < length net.names → IsPinChain net a b chain → IsWellFormedAnswer net (BlockedBy chain)
 chain_said net a b [] invariants within h = absurd h
 chain_said net a b (m ∷ more) invariants within h = (omega arith, chain_within net m more b invariants h.1 (subst (Within net) (sym h.0) within))
 
-may_say : (net : Network) (a b : ℕ) (claim : AnswerClaim) → IsNetwork net → a < length net.names → IsAnswerWithPins net a b claim → FlowFits claim → MaySay net claim
+may_say : (net : Network) (a b : ℕ) (claim : AnswerClaim) → IsNetwork net → a < length net.names → IsAnswerWithPins net a b claim → FlowFits claim → IsWellFormedAnswer net claim
 may_say net a b (BlockedBy chain) invariants a_within answer flow_fits = chain_said net a b chain invariants a_within answer.is_chain
 may_say net a b (CutOf total printed flow) invariants a_within answer flow_fits =
     let r = answer.right in

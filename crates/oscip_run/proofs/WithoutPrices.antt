@@ -1,4 +1,4 @@
--- Without pins what is printed is a cut, in the words of networks without pins.
+-- Without pins the report is of a cut, by the definitions for networks without pins.
 use Rattle.std.proofs.Common.{◌≡◌, ◌≢◌, ℕ, true, List, [], ◌∷◌, is_some, sym, subst, ◌∙◌}
 use Rattle.std.specs.Prelude.{find}
 use Rattle.std.proofs.lemmas.Bool.{false≢true}

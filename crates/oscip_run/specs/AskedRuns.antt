@@ -9,7 +9,7 @@ use Rattle.oscip_job.specs.declared.job.IndexQuestion.TheVariants.{PlacesOf, Sym
 use Rattle.oscip_job.specs.declared.job.Places.{Places}
 use Rattle.oscip_job.specs.declared.job.Places.TheVariants as places
 use Rattle.oscip_job.specs.declared.job.Position as job
-use Rattle.text_escape.specs.Places.{Style}
+use Rattle.texts.specs.Places.{Style}
 use Rattle.index_store.specs.QueryRuns.{IsQueryRun}
 use Rattle.index_store.specs.OutputRuns.{IsNamedRun, IsSymbolRun, IsSymbolsRun}
 use Rattle.index_store.specs.declared.query_runs.Which.{Which}

@@ -5,7 +5,7 @@ use Rattle.std.specs.String.{string_bytes}
 use Rattle.byte_sink.specs.Sinks.{AppendsPrefix}
 use Rattle.cut_solve.specs.declared.fault.SolveFault.{SolveFault}
 use Rattle.cut_solve.specs.declared.fault.SolveFault.TheVariants as solve
-use Rattle.text_escape.specs.Places.{Style}
+use Rattle.texts.specs.Places.{Style}
 use Rattle.index_store.specs.Queries.{LocationModel}
 use Rattle.index_store.specs.Lines.{location_lines}
 use Rattle.oscip_run.specs.Runs.{IsRejectedTree}

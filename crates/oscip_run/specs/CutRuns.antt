@@ -26,7 +26,7 @@ pub record IsPrintedCut (net : Network) (a b total : ℕ) (printed flow : List P
   -- removing the printed imports leaves no path from a to b; none of them is pinned, and no set without pinned imports that does so weighs
   -- less
   pub cheapest : IsCheapestWithPins net a b (removed_by printed)
-  -- each import is printed with its weight, and their sum is the printed weight
+  -- each printed import has its weight in the network, and the printed weight is their sum
   pub weights : AreWeightsWithPins net printed total
   -- the printed flow is within the weights of unpinned imports, conserved at each module but a and b, and has the value of the printed
   -- weight
@@ -110,7 +110,7 @@ pub record IsUnpinnedCut (net : Network) (a b total : ℕ) (printed flow : List 
   pub flow_in_order : AreImportsInOrder net flow
   -- removing the printed imports leaves no path from a to b, and no set of imports that does so weighs less
   pub cheapest : IsCheapest net a b (removed_by printed)
-  -- each import is printed with its weight, and their sum is the printed weight
+  -- each printed import has its weight in the network, and the printed weight is their sum
   pub weights : AreWeights net printed total
   -- the printed flow is within the weights, conserved at each module but a and b, and has the value of the printed weight
   pub is_flow : IsFlow net a b (flow_by flow) total

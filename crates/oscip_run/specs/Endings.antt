@@ -9,8 +9,8 @@ use Rattle.oscip_run.specs.declared.fault.RunFault.{RunFault}
 use Rattle.oscip_run.specs.declared.fault.RunFault.TheVariants.{Device, Memory}
 use Rattle.oscip_run.specs.declared.stream.Stream.{Stream}
 use Rattle.source_tree.specs.declared.tree_fault.TreeFault.{TreeFault}
-use Rattle.text_escape.specs.Escapes.{escaped}
-use Rattle.text_escape.specs.Places.{raw_style, Style}
+use Rattle.texts.specs.Escapes.{escaped}
+use Rattle.texts.specs.Places.{raw_style, Style}
 
 -- the status of a run: 0 for true, 5 for false, and otherwise that of its fault
 abbrev pub run_status : Result Bool RunFault → ℕ
@@ -19,10 +19,10 @@ run_status (Ok false) = 5
 run_status (Err fault) = status_number fault
 
 -- the status of a command line that gives no job: 2 if it is invalid, 0 for help, 4 for memory
-abbrev pub words_status : JobFault → ℕ
-words_status (words.Line text) = 2
-words_status (words.Help text) = 0
-words_status words.Memory = 4
+abbrev pub job_fault_status : JobFault → ℕ
+job_fault_status (words.Line text) = 2
+job_fault_status (words.Help text) = 0
+job_fault_status words.Memory = 4
 
 -- the line that reports a fault, with locations in files of a tree in this style
 abbrev pub fault_line : Style → RunFault → List ℕ
@@ -71,11 +71,12 @@ EndsTree taken style faults ended old new result =
     (AreReported taken style old faults true new × (result ≡ tree_result faults ended))
     ⊎ ((mid : Stream _) × AreReported taken style old faults false mid × MayReport taken style ended mid new × (result ≡ Err Memory))
 
--- a command line without a job: the error is written to standard error, or the help to standard output, which ends by Device if only a prefix is
+-- a command line without a job: the error is written to standard error, or the help to standard output, which ends by Device if only a
+-- prefix is
 abbrev pub EndsWords : {O E : Type 0} → (O → Option (List ℕ)) → (E → Option (List ℕ)) → JobFault → Stream O × Stream O → Stream E × Stream E → ℕ → Type 0
 EndsWords out_taken err_taken (words.Line text) out err status =
-    Writes err_taken err.0 err.1 (string_bytes text) × (out.1 ≡ out.0) × (status ≡ words_status (words.Line text))
+    Writes err_taken err.0 err.1 (string_bytes text) × (out.1 ≡ out.0) × (status ≡ job_fault_status (words.Line text))
 EndsWords out_taken err_taken (words.Help text) out err status =
-    (WritesAll out_taken out.0 out.1 (string_bytes text) × (err.1 ≡ err.0) × (status ≡ words_status (words.Help text)))
+    (WritesAll out_taken out.0 out.1 (string_bytes text) × (err.1 ≡ err.0) × (status ≡ job_fault_status (words.Help text)))
     ⊎ (WritesPrefix out_taken out.0 out.1 (string_bytes text) × EndsByFault err_taken raw_style Device err.0 err.1 status)
 EndsWords out_taken err_taken words.Memory out err status = EndsByFault err_taken raw_style Memory err.0 err.1 status × (out.1 ≡ out.0)

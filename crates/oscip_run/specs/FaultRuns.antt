@@ -5,13 +5,13 @@ use Rattle.std.specs.List.{flat_map}
 use Rattle.byte_sink.specs.Sinks.{AppendsPrefix}
 use Rattle.oscip_run.specs.declared.fault.RunFault.{RunFault}
 use Rattle.oscip_run.specs.declared.fault.RunFault.TheVariants.{CannotRead, CannotWrite, Tree, Net, Price, Rules, Report, Solve, Query, Device, Memory}
-use Rattle.source_tree.specs.OwnFaults.{AreTreeFaults}
+use Rattle.source_tree.specs.FileFaults.{AreTreeFaults}
 use Rattle.source_tree.specs.TreeFaults.{tree_fault_text}
 use Rattle.source_tree.specs.Trees.{IsTree, ModuleFile}
 use Rattle.source_tree.specs.declared.source.Source.{Source}
 use Rattle.source_tree.specs.declared.tree_fault.TreeFault.{TreeFault}
-use Rattle.text_escape.specs.Escapes.{escaped}
-use Rattle.text_escape.specs.Places.{raw_style, Style}
+use Rattle.texts.specs.Escapes.{escaped}
+use Rattle.texts.specs.Places.{raw_style, Style}
 
 -- the line of a fault's text: its control characters are escaped, and an LF follows
 abbrev pub escaped_line : List ℕ → List ℕ

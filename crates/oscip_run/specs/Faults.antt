@@ -21,7 +21,7 @@ use Rattle.index_store.specs.Faults.{query_fault_text, query_status}
 use Rattle.index_store.specs.declared.query_fault.QueryFault.{QueryFault}
 use Rattle.index_store.specs.declared.query_fault.QueryFault.TheVariants as query
 use Rattle.oscip_run.specs.declared.fault.RunFault.TheVariants.{CannotRead, CannotWrite, Tree, Net, Price, Rules, Report, Solve, Query, Device, Memory}
-use Rattle.text_escape.specs.Places.{Style}
+use Rattle.texts.specs.Places.{Style}
 use Rattle.source_tree.specs.declared.tree_fault.TreeFault.{TreeFault}
 use Rattle.source_tree.specs.TreeFaults.{after_space, tree_fault_text, is_out_of_memory}
 

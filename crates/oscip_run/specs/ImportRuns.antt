@@ -47,7 +47,8 @@ pub record IsNetText (IsOf : Network → Type 0) (text : List ℕ) : Type 0 wher
 abbrev pub IsNetTextRun : (Network → Type 0) → (RunFault → Type 0) → Option (List ℕ) → Option (List ℕ) → Result (Unit {0}) RunFault → Type 0
 IsNetTextRun IsOf = IsWritingRun (IsNetText IsOf)
 
--- the text has a line for each import of the shortest path from a to b, of several the lexicographically smallest; without a path it is empty
+-- the text has a line for each import of the shortest path from a to b, of several the lexicographically smallest; without a path it is
+-- empty
 abbrev pub IsPathText : Network → ℕ → ℕ → Bool → List ℕ → Type 0
 IsPathText net a b true text = (path : List ℕ) × IsLeastChain (Imports net.imports Any) a b path × (text ≡ chain_text net path) × (text ≢ [])
 IsPathText net a b false text = (Chain net.imports Any a b → ⊥) × (text ≡ [])

@@ -14,24 +14,24 @@ use Rattle.oscip_job.specs.declared.job.NetQuestion.{NetQuestion}
 use Rattle.oscip_job.specs.declared.job.NetQuestion.TheVariants.{Cut, Check, Dot, Why, Reach}
 
 -- the result, without its Boolean
-abbrev pub without_answer : Result Bool RunFault → Result (Unit {0}) RunFault
-without_answer (Ok agrees) = Ok tt
-without_answer (Err fault) = Err fault
+abbrev pub without_boolean : Result Bool RunFault → Result (Unit {0}) RunFault
+without_boolean (Ok agrees) = Ok tt
+without_boolean (Err fault) = Err fault
 
 -- a run that searches for a cut between two names, and never returns false
 abbrev pub IsCutJobRun : (Network → Type 0) → (RunFault → Type 0) → List ℕ → List ℕ → Option (List ℕ) → Option (List ℕ) → Result Bool RunFault → Type 0
 IsCutJobRun IsOf IsRefused first second old new result =
-    IsCutRun IsOf IsRefused first second old new (without_answer result) × IfOk result (λ agrees. agrees ≡ true)
+    IsCutRun IsOf IsRefused first second old new (without_boolean result) × IfOk result (λ agrees. agrees ≡ true)
 
 -- a run that draws a picture for which Shows holds, and never returns false
 abbrev pub IsDotJobRun : (Network → ℕ → ℕ → AnswerClaim → List ℕ → Type 0) → (Network → Type 0) → (RunFault → Type 0) → List ℕ → Option (List ℕ) → Option (List ℕ) → Result Bool RunFault → Type 0
 IsDotJobRun Shows IsOf IsRefused report old new result =
-    IsDotRun Shows IsOf IsRefused report old new (without_answer result) × IfOk result (λ agrees. agrees ≡ true)
+    IsDotRun Shows IsOf IsRefused report old new (without_boolean result) × IfOk result (λ agrees. agrees ≡ true)
 
 -- a run that lists the modules that a module reaches, or that reach it, and never returns false
 abbrev pub IsReachJobRun : (Network → Type 0) → (RunFault → Type 0) → List ℕ → Direction → Option (List ℕ) → Option (List ℕ) → Result Bool RunFault → Type 0
 IsReachJobRun IsOf IsRefused name direction old new result =
-    IsReachRun IsOf IsRefused name direction old new (without_answer result) × IfOk result (λ agrees. agrees ≡ true)
+    IsReachRun IsOf IsRefused name direction old new (without_boolean result) × IfOk result (λ agrees. agrees ≡ true)
 
 -- Below, IsOf prices net states that net is the network of the input with these prices, if they are given.
 

@@ -9,7 +9,7 @@ use Rattle.oscip_run.specs.declared.fault.RunFault.{RunFault}
 use Rattle.oscip_run.specs.declared.listing.ListedModule.{ListedModule}
 use Rattle.source_tree.specs.Trees.{AreAccepted, IsNetOfTree, ModuleFile, names}
 use Rattle.source_tree.specs.declared.source.Source.{Source}
-use Rattle.text_escape.specs.Places.{path_text, Style}
+use Rattle.texts.specs.Places.{path_text, Style}
 
 -- the name of a module, and the path of its file if it has one
 pub record ModuleEntry : Type 0 where

@@ -12,7 +12,7 @@ use Rattle.oscip_run.specs.ImportRuns.{IsWritingRun}
 use Rattle.oscip_run.specs.ModuleRuns.{entry_lines, ModuleEntry}
 use Rattle.oscip_run.specs.declared.fault.RunFault.{RunFault}
 use Rattle.oscip_run.specs.declared.fault.RunFault.TheVariants.{CannotRead, CannotWrite, Tree, Net, Price, Rules, Report, Solve, Query, Device, Memory}
-use Rattle.text_escape.specs.Places.{raw_style}
+use Rattle.texts.specs.Places.{raw_style}
 
 -- a path of one or more imports leads from the first module to the second, or from the second to the first, by the direction
 abbrev pub IsReached : Network → Direction → ℕ → ℕ → Type 0

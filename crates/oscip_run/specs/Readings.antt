@@ -24,17 +24,17 @@ IsOfSystem (FolderOf path patterns sources) = AreModulePrefixes sources × AreIn
 IsOfSystem (Refused path fault) = IsReadFault fault
 
 -- the paths that a question names besides its network: of its report and its prices, if it has them
-pub record PathsBeside : Type 0 where
+pub record QuestionPaths : Type 0 where
   pub report : Option (List ℕ)
   pub prices : Option (List ℕ)
 
 -- the paths of a question's report and prices
-abbrev pub paths_beside : NetQuestion → PathsBeside
-paths_beside (Cut cutting) = record { report = None; prices = option_map string_bytes cutting.prices }
-paths_beside (Check reported) = record { report = Some (string_bytes reported.report); prices = option_map string_bytes reported.prices }
-paths_beside (Dot drawing) = record { report = Some (string_bytes drawing.reported.report); prices = option_map string_bytes drawing.reported.prices }
-paths_beside (Why names) = record { report = None; prices = None }
-paths_beside (Reach reaching) = record { report = None; prices = None }
+abbrev pub question_paths : NetQuestion → QuestionPaths
+question_paths (Cut cutting) = record { report = None; prices = option_map string_bytes cutting.prices }
+question_paths (Check reported) = record { report = Some (string_bytes reported.report); prices = option_map string_bytes reported.prices }
+question_paths (Dot drawing) = record { report = Some (string_bytes drawing.reported.report); prices = option_map string_bytes drawing.reported.prices }
+question_paths (Why names) = record { report = None; prices = None }
+question_paths (Reach reaching) = record { report = None; prices = None }
 
 -- Below, Answers holds for the readings that a reader may return.
 
@@ -49,17 +49,17 @@ IsUnreadable Answers None fault = ⊥
 IsUnreadable Answers (Some path) fault = Answers (Refused path fault)
 
 -- the report and the prices are those that the reader returned for their paths, if the question names them
-pub record AreReturned (Answers : Reading → Type 0) (paths : PathsBeside) (report prices : Option (List ℕ)) : Type 0 where
+pub record AreReturned (Answers : Reading → Type 0) (paths : QuestionPaths) (report prices : Option (List ℕ)) : Type 0 where
   pub report_returned : IsReturned Answers paths.report report
   pub prices_returned : IsReturned Answers paths.prices prices
 
 -- the reader returned the fault for the report, or it returned the report and the fault for the prices
-abbrev pub AreUnreadable : (Reading → Type 0) → PathsBeside → RunFault → Type 0
+abbrev pub AreUnreadable : (Reading → Type 0) → QuestionPaths → RunFault → Type 0
 AreUnreadable Answers paths fault =
     IsUnreadable Answers paths.report fault ⊎ (((report : Option (List ℕ)) × IsReturned Answers paths.report report) × IsUnreadable Answers paths.prices fault)
 
 -- the reader returned the fault for the network, or it returned the network and the fault for one of the files that follow
-abbrev pub IsNetUnreadable : (Reading → Type 0) → List ℕ → PathsBeside → RunFault → Type 0
+abbrev pub IsNetUnreadable : (Reading → Type 0) → List ℕ → QuestionPaths → RunFault → Type 0
 IsNetUnreadable Answers path beside fault =
     Answers (Refused path fault) ⊎ (((network : List ℕ) × Answers (FileOf path network)) × AreUnreadable Answers beside fault)
 

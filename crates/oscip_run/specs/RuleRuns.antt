@@ -3,7 +3,7 @@ use Rattle.std.specs.Prelude.{◌≡◌, ◌⊎◌, ℕ, Bool, List, length, map
 use Rattle.std.specs.Io.KnownBytes.{Appends, Keeps}
 use Rattle.std.specs.String.{string_bytes}
 use Rattle.byte_sink.specs.Sinks.{AppendsPrefix}
-use Rattle.text_escape.specs.Places.{Style}
+use Rattle.texts.specs.Places.{Style}
 use Rattle.cut_net.specs.Network.{Network}
 use Rattle.cut_rules.specs.Faults.{IsRefusal}
 use Rattle.cut_rules.specs.RuleLines.{pieces_of}
@@ -48,7 +48,8 @@ abbrev pub IsFaultless : Network → List File → List ℕ → Type 0
 IsFaultless net files rules = (fault : RulesFault) → IsRefusal net files (pieces_of rules) fault → ⊥
 
 module _ (IsOf : Network → List File → List Site → Type 0) (style : Style) (rules : List ℕ) where
-  -- the text has a line for each import that breaks a rule and for each stale line, or is yes if there is none, which is the result
+  -- the text has a line for each import that breaks a rule and for each stale line, or is yes if there is none; `clean` is whether there is
+  -- none
   pub record IsRulesText (text : List ℕ) (clean : Bool) : Type 0 where
     pub net : Network
     pub files : List File
@@ -63,11 +64,11 @@ module _ (IsOf : Network → List File → List Site → Type 0) (style : Style)
     pub clean_is : clean ≡ is_clean violations stale
 
   -- the sink took the whole text
-  abbrev pub PutsRules : Option (List ℕ) → Option (List ℕ) → Bool → Type 0
-  PutsRules old new clean = (text : List ℕ) × IsRulesText text clean × Appends old new text
+  abbrev pub WritesRules : Option (List ℕ) → Option (List ℕ) → Bool → Type 0
+  WritesRules old new clean = (text : List ℕ) × IsRulesText text clean × Appends old new text
 
   -- the sink took a prefix of the text
-  pub record PutsRulesFront (old new : Option (List ℕ)) : Type 0 where
+  pub record WritesRulesPrefix (old new : Option (List ℕ)) : Type 0 where
     pub net : Network
     pub files : List File
     pub sites : List Site
@@ -77,21 +78,21 @@ module _ (IsOf : Network → List File → List Site → Type 0) (style : Style)
         → AppendsPrefix old new (verdict_text style net sites violations stale)
 
   -- the input is accepted, and the rules are rejected with this fault
-  abbrev pub IsRefusedRules : RulesFault → Type 0
-  IsRefusedRules fault = (net : Network) × (files : List File) × (sites : List Site) × IsOf net files sites × IsRefusal net files (pieces_of rules) fault
+  abbrev pub IsRejectedRules : RulesFault → Type 0
+  IsRejectedRules fault = (net : Network) × (files : List File) × (sites : List Site) × IsOf net files sites × IsRefusal net files (pieces_of rules) fault
 
 -- a run of the engine: rejected input or rejected rules leave the sink unchanged; Device or Memory leave it with at most a prefix of the
 -- text
 abbrev pub IsRulesRun : (Network → List File → List Site → Type 0) → (RunFault → Type 0) → Style → List ℕ → Option (List ℕ) → Option (List ℕ) → Result Bool RunFault → Type 0
-IsRulesRun IsOf IsRefused style rules old new (Ok clean) = PutsRules IsOf style rules old new clean
+IsRulesRun IsOf IsRefused style rules old new (Ok clean) = WritesRules IsOf style rules old new clean
 IsRulesRun IsOf IsRefused style rules old new (Err (CannotRead path)) = ⊥
 IsRulesRun IsOf IsRefused style rules old new (Err (CannotWrite path)) = ⊥
 IsRulesRun IsOf IsRefused style rules old new (Err (Tree fault)) = IsRefused (Tree fault) × Keeps old new
 IsRulesRun IsOf IsRefused style rules old new (Err (Net fault)) = ⊥
 IsRulesRun IsOf IsRefused style rules old new (Err (Price fault)) = ⊥
-IsRulesRun IsOf IsRefused style rules old new (Err (Rules fault)) = IsRefusedRules IsOf style rules fault × Keeps old new
+IsRulesRun IsOf IsRefused style rules old new (Err (Rules fault)) = IsRejectedRules IsOf style rules fault × Keeps old new
 IsRulesRun IsOf IsRefused style rules old new (Err (Report fault)) = ⊥
 IsRulesRun IsOf IsRefused style rules old new (Err (Solve fault)) = ⊥
 IsRulesRun IsOf IsRefused style rules old new (Err (Query fault)) = ⊥
-IsRulesRun IsOf IsRefused style rules old new (Err Device) = PutsRulesFront IsOf style rules old new
-IsRulesRun IsOf IsRefused style rules old new (Err Memory) = Keeps old new ⊎ PutsRulesFront IsOf style rules old new
+IsRulesRun IsOf IsRefused style rules old new (Err Device) = WritesRulesPrefix IsOf style rules old new
+IsRulesRun IsOf IsRefused style rules old new (Err Memory) = Keeps old new ⊎ WritesRulesPrefix IsOf style rules old new

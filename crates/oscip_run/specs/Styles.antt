@@ -4,7 +4,7 @@ use Rattle.std.specs.String.{string_bytes}
 use Rattle.oscip_job.specs.declared.job.Job.{Job}
 use Rattle.oscip_job.specs.declared.job.Job.TheVariants.{Tree, Network, Ask, Index, Unresolved}
 use Rattle.oscip_job.specs.declared.job.SourceTree.{SourceTree}
-use Rattle.text_escape.specs.Places.{Style, editor_style, raw_style}
+use Rattle.texts.specs.Places.{Style, editor_style, raw_style}
 
 -- the style of locations in the files of a tree: for editors with its folder, or plain
 abbrev pub style_of_tree : SourceTree → Style

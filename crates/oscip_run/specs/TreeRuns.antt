@@ -12,7 +12,7 @@ use Rattle.oscip_run.specs.TreeQuestionRuns.{IsTreeQuestionRun}
 use Rattle.oscip_run.specs.declared.fault.RunFault.{RunFault}
 use Rattle.oscip_run.specs.declared.fault.RunFault.TheVariants.{Memory}
 use Rattle.oscip_run.specs.declared.tree_run.TreeRun.{TreeRun}
-use Rattle.source_tree.specs.OwnFaults.{ArePartitionedFiles}
+use Rattle.source_tree.specs.FileFaults.{ArePartitionedFiles}
 use Rattle.source_tree.specs.declared.source.Source.{Source}
 use Rattle.source_tree.specs.declared.tree_fault.TreeFault.{TreeFault}
 

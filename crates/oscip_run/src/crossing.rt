@@ -1,7 +1,7 @@
 //! The engine of `crossings`, which prints where a module uses another one, over any sink.
 ghost use Rattle.std.specs.Prelude.{◌≡◌, ℕ, IfOk, List, map};
 ghost use Rattle.byte_sink.specs.Sinks.{failures_by};
-ghost use Rattle.text_escape.specs.Places.{style_of};
+ghost use Rattle.texts.specs.Places.{style_of};
 ghost use Rattle.index_store.specs.Queries.{location_model};
 ghost use Rattle.oscip_run.specs.CrossingRuns.{location_in_file, IsCrossingsRun, IsNoName};
 ghost use Rattle.oscip_run.specs.Faults.{is_device};
@@ -17,7 +17,7 @@ use index_store::{Place, Position, write_lines};
 use source_tree::{ImportUses, Source, Span, uses_of_import};
 use std::alloc::{AllocError, Global};
 use std::thread::Threads;
-use text_escape::LocationStyle;
+use texts::LocationStyle;
 
 /// A location in the file of this path.
 fn location_in_file<'a>(path: &'a str, span: &Span) -> Place<'a>
@@ -37,7 +37,7 @@ fn location_in_file<'a>(path: &'a str, span: &Span) -> Place<'a>
 }
 
 /// The locations in the file of this path, in the same order.
-fn locations_at<'a>(
+fn locations_of_spans<'a>(
     alloc: Global,
     path: &'a str,
     spans: &[Span],
@@ -62,7 +62,7 @@ fn write_locations<S: Sink>(
     ensures run { (sources : List Source) (m n : List ℕ) → AreUses sources m n path.now spans.now → IsCrossingsRun (style_of style.entry) sources m n (S.taken sink.old) (S.taken sink.new) result }
     ensures failures { S.failures sink.new ≡ failures_by is_device result (S.failures sink.old) }
 {
-    let places = locations_at(alloc, path, spans)?;
+    let places = locations_of_spans(alloc, path, spans)?;
     write_lines(alloc, style, places.as_slice(), sink)?;
     Ok(())
 }
@@ -83,7 +83,7 @@ fn unknown_module(alloc: Global, name: &str) -> RunFault
 /// import weighs, none without an import.
 /// Fails with `Tree` if the tree is rejected, then with `Solve` for the first unknown name, and with `Device` or `Memory`. The name `from`
 /// has to be that of a module with a file.
-pub fn crossings_tree<R: Threads + Sync, S: Sink>(
+pub fn list_tree_crossings<R: Threads + Sync, S: Sink>(
     rt: &R,
     alloc: Global,
     sources: &[Source],

@@ -45,7 +45,7 @@ fn write_picture<S: Sink>(
 }
 
 /// Reads a report on a network, and writes its picture.
-fn dot_in<S: Sink>(
+fn draw_report<S: Sink>(
     alloc: Global,
     net: &Net,
     report: &[u8],
@@ -65,7 +65,7 @@ fn dot_in<S: Sink>(
 /// By flow, the picture has only the imports that the report removes or gives flow, or those of its blocked path, and the modules at their
 /// ends. See `draw` and `draw_flow` of `cut_dot`.
 /// Fails with `Net`, `Price`, `Report`, `Device` or `Memory`.
-pub fn dot_net_bytes<S: Sink>(
+pub fn draw_net_bytes<S: Sink>(
     alloc: Global,
     network: &[u8],
     report: &[u8],
@@ -80,13 +80,13 @@ pub fn dot_net_bytes<S: Sink>(
     ensures failures { S.failures sink.new ≡ failures_by is_device result (S.failures sink.old) }
 {
     let net = net_of_text(alloc, network, prices)?;
-    dot_in(alloc, &net, report, by_flow, sink)
+    draw_report(alloc, &net, report, by_flow, sink)
 }
 
 /// Reads the files of a tree, its prices if they are given, and then a report on its network. Writes the picture of the report, as
-/// `dot_net_bytes` does.
+/// `draw_net_bytes` does.
 /// Fails with `Tree`, `Price`, `Report`, `Device` or `Memory`.
-pub fn dot_tree<R: Threads + Sync, S: Sink>(
+pub fn draw_tree<R: Threads + Sync, S: Sink>(
     rt: &R,
     alloc: Global,
     sources: &[Source],
@@ -104,5 +104,5 @@ pub fn dot_tree<R: Threads + Sync, S: Sink>(
     ensures failures { S.failures sink.new ≡ failures_by is_device result (S.failures sink.old) }
 {
     let net = net_of_tree(rt, alloc, sources, READERS, prices)?;
-    dot_in(alloc, &net, report, by_flow, sink)
+    draw_report(alloc, &net, report, by_flow, sink)
 }

@@ -2,10 +2,10 @@
 ghost use Rattle.std.specs.Prelude.{◌≡◌, IfOk};
 ghost use Rattle.std.specs.Process.{exit_status};
 ghost use Rattle.std.specs.String.{string_bytes};
-ghost use Rattle.oscip_run.specs.Endings.{fault_line, run_line, run_status, words_status, EndsByFault, EndsRun, AreReported, EndsTree, EndsWords, IsReported, MayReport};
+ghost use Rattle.oscip_run.specs.Endings.{fault_line, run_line, run_status, job_fault_status, EndsByFault, EndsRun, AreReported, EndsTree, EndsWords, IsReported, MayReport};
 ghost use Rattle.oscip_run.specs.Faults.{of_tree};
 ghost use Rattle.oscip_run.specs.declared.fault.RunFault.TheVariants.{Memory};
-ghost use Rattle.text_escape.specs.Places.{style_of, Style};
+ghost use Rattle.texts.specs.Places.{style_of, Style};
 
 use crate::{RunFault, Stream, TreeRun, fault_line, status_of};
 use byte_sink::Sink;
@@ -13,7 +13,7 @@ use oscip_job::JobFault;
 use source_tree::TreeFault;
 use std::alloc::{AllocError, Global};
 use std::process::ExitCode;
-use text_escape::LocationStyle;
+use texts::LocationStyle;
 
 /// The exit status of a run: 0 if it returns true, 5 if it returns false, for example for a `no`, and otherwise the status of its fault.
 pub fn status_of_run(ended: &Result<bool, RunFault>) -> u8
@@ -28,9 +28,9 @@ pub fn status_of_run(ended: &Result<bool, RunFault>) -> u8
 }
 
 /// The exit status of a command line that gives no job: 2 if it is invalid, 0 for help, 4 if memory ran out.
-pub fn status_of_words(fault: &JobFault) -> u8
+pub fn status_without_job(fault: &JobFault) -> u8
     // The status of the fault, exactly.
-    ensures { result ≡ words_status fault.now }
+    ensures { result ≡ job_fault_status fault.now }
 {
     match fault {
         JobFault::Line { .. } => 2,
@@ -176,7 +176,7 @@ pub fn end_of<E: Sink>(
 }
 
 /// Writes the error of a command line to standard error, or the requested help to standard output.
-/// Returns the status of `status_of_words`. If not all of the help was written, reports `Device` and returns its status.
+/// Returns the status of `status_without_job`. If not all of the help was written, reports `Device` and returns its status.
 pub fn end_without_job<O: Sink, E: Sink>(
     fault: &JobFault,
     stdout: &mut Stream<O>,
@@ -189,10 +189,10 @@ pub fn end_without_job<O: Sink, E: Sink>(
     match fault {
         JobFault::Line { text } => {
             let _ = stderr.write(text.as_str());
-            ExitCode::from(status_of_words(fault))
+            ExitCode::from(status_without_job(fault))
         }
         JobFault::Help { text } => match stdout.write(text.as_str()) {
-            Ok(()) => ExitCode::from(status_of_words(fault)),
+            Ok(()) => ExitCode::from(status_without_job(fault)),
             Err(_) => {
                 let status = end_by_fault(&RunFault::Device, "oscip: cannot write\n", stderr);
                 ExitCode::from(status)

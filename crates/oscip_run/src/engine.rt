@@ -29,7 +29,7 @@ use std::thread::Threads;
 pub const READERS: u32 = 4;
 
 /// The name of a module, or an empty text if the network has no module of this number.
-fn name_or_none(net: &Net, node: u32) -> &str
+fn name_or_empty(net: &Net, node: u32) -> &str
     ensures { result.now ≡ name_of net.now node }
 {
     if node < net.nodes() {
@@ -40,7 +40,7 @@ fn name_or_none(net: &Net, node: u32) -> &str
 }
 
 /// The line of a verdict about an import.
-fn import_line(
+fn import_verdict_line(
     alloc: Global,
     net: &Net,
     word: &str,
@@ -49,8 +49,8 @@ fn import_line(
 ) -> Result<String, AllocError>
     ensures { IfOk result (λ t. string_bytes t ≡ codes "no " ++ word.now ++ codes " " ++ name_of net.now from ++ codes " " ++ name_of net.now to ++ codes "\n") }
 {
-    let from = name_or_none(net, from);
-    let to = name_or_none(net, to);
+    let from = name_or_empty(net, from);
+    let to = name_or_empty(net, to);
     format!(in alloc; "no {word} {from} {to}\n")
 }
 
@@ -59,16 +59,22 @@ fn verdict_line(alloc: Global, net: &Net, verdict: Verdict) -> Result<String, Al
 {
     match verdict {
         Verdict::Yes => String::from_str(alloc, "yes\n"),
-        Verdict::NoSuchImport { from, to } => import_line(alloc, net, "NoSuchImport", from, to),
+        Verdict::NoSuchImport { from, to } => import_verdict_line(
+            alloc,
+            net,
+            "NoSuchImport",
+            from,
+            to,
+        ),
         Verdict::StillChain => String::from_str(alloc, "no StillChain\n"),
         Verdict::WrongWeight => String::from_str(alloc, "no WrongWeight\n"),
-        Verdict::OverWeight { from, to } => import_line(alloc, net, "OverWeight", from, to),
+        Verdict::OverWeight { from, to } => import_verdict_line(alloc, net, "OverWeight", from, to),
         Verdict::NotKept { module } => {
-            let module = name_or_none(net, module);
+            let module = name_or_empty(net, module);
             format!(in alloc; "no NotKept {module}\n")
         }
         Verdict::WrongValue => String::from_str(alloc, "no WrongValue\n"),
-        Verdict::NotPinned { from, to } => import_line(alloc, net, "NotPinned", from, to),
+        Verdict::NotPinned { from, to } => import_verdict_line(alloc, net, "NotPinned", from, to),
     }
 }
 
@@ -79,7 +85,7 @@ fn is_yes(verdict: Verdict) -> bool
 }
 
 /// Reads a report on a network, writes the line of the verdict, and returns whether the verdict is `yes`.
-fn check_in<S: Sink>(
+fn check_report<S: Sink>(
     alloc: Global,
     net: &Net,
     report: &[u8],
@@ -96,8 +102,8 @@ fn check_in<S: Sink>(
 }
 
 /// Reads a network, its prices if they are given, and then a report on it. Writes the line of the verdict, and returns whether it is `yes`.
-/// If it is, the report's imports are a cheapest cut between its two modules, among the sets without pinned imports.
-/// If the report is blocked instead, its modules are a path of pinned imports, and no such set is a cut.
+/// With `yes`, the imports of a report of a cut are a cheapest cut between its two modules, among the sets without pinned imports; the
+/// modules of a blocked report are a path of pinned imports, and no such set is a cut. Otherwise nothing is promised of the report.
 /// Fails with `Net`, `Price`, `Report`, `Device` or `Memory`.
 pub fn check_net_bytes<S: Sink>(
     alloc: Global,
@@ -113,7 +119,7 @@ pub fn check_net_bytes<S: Sink>(
     ensures failures { S.failures sink.new ≡ failures_by is_device result (S.failures sink.old) }
 {
     let net = net_of_text(alloc, network, prices)?;
-    check_in(alloc, &net, report, sink)
+    check_report(alloc, &net, report, sink)
 }
 
 /// Reads the files of a tree, its prices if they are given, and then a report on its network. Writes the line of the verdict, and returns
@@ -136,11 +142,11 @@ pub fn check_tree<R: Threads + Sync, S: Sink>(
     ensures failures { S.failures sink.new ≡ failures_by is_device result (S.failures sink.old) }
 {
     let net = net_of_tree(rt, alloc, sources, READERS, prices)?;
-    check_in(alloc, &net, report, sink)
+    check_report(alloc, &net, report, sink)
 }
 
 /// The number of the module of this name.
-fn module_of(net: &Net, name: &str) -> u32
+fn module_number(net: &Net, name: &str) -> u32
     requires { IsSome (index_of net.now name.now) }
     ensures { Some result ≡ index_of net.now name.now }
 {
@@ -148,7 +154,7 @@ fn module_of(net: &Net, name: &str) -> u32
 }
 
 /// The largest amount of the lines, 0 without lines. It shows the prover that each amount fits 64 bits.
-fn most_of(lines: &[Priced]) -> u64
+fn largest_amount(lines: &[Priced]) -> u64
     ensures { All (λ line. line.amount ≤ result) lines.now }
 {
     let mut most = 0;
@@ -184,15 +190,15 @@ fn write_cut<S: Sink>(
     ensures failures { S.failures sink.new ≡ failures_by is_device result (S.failures sink.old) }
 {
     net.invariants();
-    let from = module_of(net, a);
-    let to = module_of(net, b);
-    let _most = most_of(flow_of(answer));
+    let from = module_number(net, a);
+    let to = module_number(net, b);
+    let _most = largest_amount(flow_of(answer));
     write(alloc, net, from, to, answer, sink)?;
     Ok(())
 }
 
 /// Writes the report of a cheapest cut of a network between the modules of two names, or of a path of pinned imports if no cut exists.
-fn cut_in<R: Threads + Wait + Sync, G: Gate + Sync, S: Sink>(
+fn solve_and_write<R: Threads + Wait + Sync, G: Gate + Sync, S: Sink>(
     rt: &R,
     alloc: Global,
     net: &Net,
@@ -249,7 +255,7 @@ pub fn cut_net_bytes<R: Threads + Wait + Sync, G: Gate + Sync, S: Sink>(
     ensures failures { S.failures sink.new ≡ failures_by is_device result (S.failures sink.old) }
 {
     let network = net_of_text(alloc, network, prices)?;
-    cut_in(rt, alloc, &network, a, b, workers, gate, sink)
+    solve_and_write(rt, alloc, &network, a, b, workers, gate, sink)
 }
 
 /// Reads the files of a tree and its prices, if they are given, and writes the report of a cheapest cut between the modules named `a` and
@@ -289,5 +295,5 @@ pub fn cut_tree<R: Threads + Wait + Sync, G: Gate + Sync, S: Sink>(
     ensures failures { S.failures sink.new ≡ failures_by is_device result (S.failures sink.old) }
 {
     let network = net_of_tree(rt, alloc, sources, workers, prices)?;
-    cut_in(rt, alloc, &network, a, b, workers, gate, sink)
+    solve_and_write(rt, alloc, &network, a, b, workers, gate, sink)
 }

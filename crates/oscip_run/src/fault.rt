@@ -2,8 +2,8 @@
 ghost use Rattle.std.specs.Prelude.{◌≡◌, ◌++◌, IfOk, codes};
 ghost use Rattle.std.specs.String.{string_bytes};
 ghost use Rattle.oscip_run.specs.Faults.{fault_text, last_name, last_rules_name, net_status, net_fault_text, price_fault_text, price_status, report_status, report_fault_text, rules_fault_text, rules_status, solve_fault_text, solve_status, status_number, tree_status};
-ghost use Rattle.text_escape.specs.Escapes.{escaped, IsOneLine};
-ghost use Rattle.text_escape.specs.Places.{style_of};
+ghost use Rattle.texts.specs.Escapes.{escaped, IsOneLine};
+ghost use Rattle.texts.specs.Places.{style_of};
 
 use byte_sink::SinkFault;
 use cut_net::{NetFault, PriceFault};
@@ -11,10 +11,10 @@ use cut_report::ReportFault;
 use cut_rules::RulesFault;
 use cut_solve::SolveFault;
 use index_store::{QueryFault, query_fault_text, query_status};
-use source_tree::{TreeFault, after_spaces, is_out_of_memory, tree_fault_text};
+use source_tree::{TreeFault, is_out_of_memory, join_after_spaces, tree_fault_text};
 use std::alloc::{AllocError, Global};
-use text_escape::laws::no_control;
-use text_escape::{EscapingWriter, LocationStyle};
+use texts::laws::escaped_is_one_line;
+use texts::{EscapingWriter, LocationStyle};
 use thiserror::Error;
 
 /// Why a run fails. The conversions from faults of other crates map a failed allocation to `Memory` and a failed sink to `Device`, so no
@@ -190,7 +190,7 @@ fn net_fault_text(alloc: Global, fault: &NetFault) -> Result<String, AllocError>
         NetFault::BadLine { line } => format!(in alloc; "{line}: BadLine"),
         NetFault::TwiceImport { line } => format!(in alloc; "{line}: TwiceImport"),
         NetFault::Cycle { names } => {
-            let names = after_spaces(alloc, names.as_slice())?;
+            let names = join_after_spaces(alloc, names.as_slice())?;
             format!(in alloc; "Cycle{names}")
         }
         NetFault::WeightOverflow => String::from_str(alloc, "WeightOverflow"),
@@ -267,7 +267,11 @@ fn solve_fault_text(alloc: Global, fault: &SolveFault) -> Result<String, AllocEr
 
 /// The text of a fault without the name at its end, if that name may have as many bytes as the input. So the name is copied only into the
 /// line.
-fn start_of(alloc: Global, style: LocationStyle<'_>, fault: &RunFault) -> Result<String, AllocError>
+fn fault_text_start(
+    alloc: Global,
+    style: LocationStyle<'_>,
+    fault: &RunFault,
+) -> Result<String, AllocError>
     ensures { IfOk result (λ t. string_bytes t ++ last_name fault.now ≡ fault_text (style_of style.entry) fault.now) }
 {
     match fault {
@@ -316,8 +320,8 @@ pub fn fault_line(
     // It ends with its LF, and has no other control character.
     ensures one_line { IfOk result (λ t. IsOneLine (string_bytes t)) }
 {
-    no_control();
-    let start = start_of(alloc, style, fault)?;
+    escaped_is_one_line();
+    let start = fault_text_start(alloc, style, fault)?;
     let mut line = String::from_str(alloc, "oscip: ")?;
     let mut writer = EscapingWriter::new();
     writer.push(&mut line, start.as_str())?;

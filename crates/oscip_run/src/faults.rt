@@ -6,19 +6,19 @@ ghost use Rattle.oscip_run.specs.FaultRuns.{fault_lines, escaped_line, IsFaultsR
 ghost use Rattle.oscip_run.specs.Faults.{is_device};
 ghost use Rattle.source_tree.specs.Sources.{ArePathsInOrder};
 ghost use Rattle.source_tree.specs.TreeFaults.{tree_fault_text};
-ghost use Rattle.text_escape.specs.Places.{style_of};
+ghost use Rattle.texts.specs.Places.{style_of};
 ghost use Rattle.byte_sink.specs.Pieces.{WritesAllBut};
 
 use crate::RunFault;
 use crate::engine::READERS;
 use byte_sink::{Sink, SinkFault, flush_if_full, write_fully};
-use source_tree::{Source, TreeFault, faults_of, tree_fault_text};
+use source_tree::{Source, TreeFault, tree_fault_text, tree_faults};
 use std::alloc::{AllocError, Global};
 use std::thread::Threads;
-use text_escape::{LocationStyle, escaped};
+use texts::{LocationStyle, escaped};
 
 /// Appends the line of a fault to the text.
-fn push_line(
+fn append_line(
     alloc: Global,
     style: LocationStyle<'_>,
     text: &mut String,
@@ -32,7 +32,7 @@ fn push_line(
 }
 
 /// Appends the line of a fault to the text, and writes the text if it is long.
-fn gather_line<S: Sink>(
+fn write_line<S: Sink>(
     alloc: Global,
     style: LocationStyle<'_>,
     text: &mut String,
@@ -45,7 +45,7 @@ fn gather_line<S: Sink>(
         (string_bytes text.old ++ escaped_line (tree_fault_text (style_of style.entry) fault.now))) }
     ensures failures { S.failures sink.new ≡ failures_after result (S.failures sink.old) }
 {
-    push_line(alloc, style, text, fault).map_err(|_| SinkFault::Memory)?;
+    append_line(alloc, style, text, fault).map_err(|_| SinkFault::Memory)?;
     flush_if_full(text, sink)
 }
 
@@ -61,16 +61,16 @@ fn write_lines<S: Sink>(
 {
     let mut text = String::new(alloc);
     for fault in faults {
-        gather_line(alloc, style, &mut text, fault, sink)?;
+        write_line(alloc, style, &mut text, fault, sink)?;
     }
     write_fully(sink, text.as_bytes())
 }
 
 /// Reads the files of a tree, and writes a line for each file that has a fault of its own, in the order of the files.
 /// If no file has one, writes the line of the tree's fault, for example of a cycle of imports; if the tree is accepted, writes `yes`.
-/// Returns whether it is.
+/// Returns whether the tree is accepted.
 /// A line is what `fault_line` makes of the fault in this style, without the program's name. Fails with `Device` or `Memory`.
-pub fn faults_tree<R: Threads + Sync, S: Sink>(
+pub fn list_tree_faults<R: Threads + Sync, S: Sink>(
     rt: &R,
     alloc: Global,
     sources: &[Source],
@@ -85,7 +85,7 @@ pub fn faults_tree<R: Threads + Sync, S: Sink>(
     // The sink counts a failure if and only if the result is `Device`.
     ensures failures { S.failures sink.new ≡ failures_by is_device result (S.failures sink.old) }
 {
-    let faults = faults_of(rt, alloc, sources, READERS)?;
+    let faults = tree_faults(rt, alloc, sources, READERS)?;
     if faults.is_empty() {
         write_fully(sink, b"yes\n")?;
         return Ok(true);

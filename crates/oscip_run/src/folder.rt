@@ -49,7 +49,7 @@ struct Walk {
 }
 
 /// The path of a name in a folder, with a `/` between them unless the folder's path ends in one or is empty.
-fn joined(alloc: Global, folder: &str, name: &str) -> Result<String, AllocError> {
+fn joined_path(alloc: Global, folder: &str, name: &str) -> Result<String, AllocError> {
     if folder.is_empty() || folder.ends_with('/') {
         format!(in alloc; "{folder}{name}")
     } else {
@@ -57,7 +57,7 @@ fn joined(alloc: Global, folder: &str, name: &str) -> Result<String, AllocError>
     }
 }
 
-fn is_module(path: &str) -> bool {
+fn is_module_path(path: &str) -> bool {
     path.ends_with(".Mod") || path.ends_with(".mod")
 }
 
@@ -69,13 +69,13 @@ fn exceeds_limit<R: Files>(rt: &R, path: &str) -> bool {
     }
 }
 
-/// Whether the system reports a folder at the path. If it reports nothing, as for a dangling link, another name is skipped, and a module is
-/// rejected when it is read.
-/// Fails for a path that is too long, since a folder there may be readable.
+/// Whether the system reports a folder at the path. If it reports nothing, as for a dangling link, the path isn't one of a folder: a
+/// module is then rejected when it is read, and any other name is skipped.
+/// Fails for a path that is too long and isn't that of a module, since a folder there may be readable.
 fn is_folder<R: Files + AllocGlobal>(rt: &R, path: &str) -> Result<bool, ReadFault> {
     match fs::metadata(rt, path) {
         Ok(metadata) => Ok(metadata.is_dir()),
-        Err(_) if is_module(path) => Ok(false),
+        Err(_) if is_module_path(path) => Ok(false),
         Err(error) if error.kind() == ErrorKind::OutOfMemory => Err(ReadFault::Memory),
         Err(_) if exceeds_limit(rt, path) => Err(cannot_read(rt.alloc(), path)),
         Err(_) => Ok(false),
@@ -88,7 +88,7 @@ fn add_name(alloc: Global, names: &mut Vec<String>, name: &str) -> Result<(), Al
 }
 
 /// The names that the listing of the folder at this path returns, or none if there are more than `left`.
-fn names_of<R: Files + AllocGlobal + Clone + Drop>(
+fn names_of_listing<R: Files + AllocGlobal + Clone + Drop>(
     alloc: Global,
     listing: ReadDir<R>,
     path: &str,
@@ -106,13 +106,13 @@ fn names_of<R: Files + AllocGlobal + Clone + Drop>(
 }
 
 /// The names in the folder at this path, in any order, or none if there are more than `left`.
-fn names_in<R: Files + AllocGlobal + Clone + Drop>(
+fn names_in_folder<R: Files + AllocGlobal + Clone + Drop>(
     rt: &R,
     path: &str,
     left: u64,
 ) -> Result<Option<Vec<String>>, ReadFault> {
     match fs::read_dir(rt, path) {
-        Ok(listing) => names_of(rt.alloc(), listing, path, left),
+        Ok(listing) => names_of_listing(rt.alloc(), listing, path, left),
         Err(error) => Err(file_fault(rt.alloc(), path, &error)),
     }
 }
@@ -126,7 +126,7 @@ fn listed<R: Files + AllocGlobal + Clone + Drop>(
     path: &str,
     left: &mut u64,
 ) -> Result<Vec<String>, ReadFault> {
-    let Some(mut names) = names_in(rt, path, *left)? else {
+    let Some(mut names) = names_in_folder(rt, path, *left)? else {
         return Err(cannot_read(rt.alloc(), folder));
     };
     *left = left.saturating_sub(names.len() as u64);
@@ -135,7 +135,7 @@ fn listed<R: Files + AllocGlobal + Clone + Drop>(
 }
 
 /// Adds the names in a folder to the paths to visit.
-fn add_names(
+fn add_pending_paths(
     alloc: Global,
     folder: &PendingPath,
     names: &[String],
@@ -144,7 +144,7 @@ fn add_names(
     requires { folder.now.level ≤ 32 }
 {
     for name in names {
-        let path = joined(alloc, folder.path.as_str(), name.as_str())?;
+        let path = joined_path(alloc, folder.path.as_str(), name.as_str())?;
         let level = folder.level + 1;
         pending.push(PendingPath { path, level })?;
     }
@@ -152,7 +152,7 @@ fn add_names(
 }
 
 /// Lists the folder at the path `opened`, and adds its names to the paths to visit.
-fn enter<R: Files + AllocGlobal + Clone + Drop>(
+fn enter_folder<R: Files + AllocGlobal + Clone + Drop>(
     rt: &R,
     folder: &str,
     opened: &str,
@@ -165,7 +165,7 @@ fn enter<R: Files + AllocGlobal + Clone + Drop>(
         return Err(cannot_read(rt.alloc(), opened));
     }
     let names = listed(rt, folder, opened, &mut walk.left)?;
-    add_names(rt.alloc(), location, names.as_slice(), &mut walk.pending)?;
+    add_pending_paths(rt.alloc(), location, names.as_slice(), &mut walk.pending)?;
     Ok(())
 }
 
@@ -182,18 +182,18 @@ fn visit<R: Files + AllocGlobal + Clone + Drop>(
     if exclusion.excludes(rt.alloc(), location.path.as_str())? {
         return Ok(());
     }
-    let opened = joined(rt.alloc(), folder, location.path.as_str())?;
+    let opened = joined_path(rt.alloc(), folder, location.path.as_str())?;
     if is_folder(rt, opened.as_str())? {
-        return enter(rt, folder, opened.as_str(), &location, walk);
+        return enter_folder(rt, folder, opened.as_str(), &location, walk);
     }
-    if is_module(opened.as_str()) {
+    if is_module_path(opened.as_str()) {
         walk.files.push(location.path)?;
     }
     Ok(())
 }
 
 /// Visits all pending paths, and those that they add. Their number is at most that of the names that a walk lists, which bounds the loop.
-fn finish<R: Files + AllocGlobal + Clone + Drop>(
+fn visit_pending<R: Files + AllocGlobal + Clone + Drop>(
     rt: &R,
     folder: &str,
     exclusion: &Exclusion<'_>,
@@ -227,8 +227,8 @@ fn paths_below<R: Files + AllocGlobal + Clone + Drop>(
         path: String::new(rt.alloc()),
         level: 0,
     };
-    enter(rt, folder, folder, &top, &mut walk)?;
-    finish(rt, folder, exclusion, &mut walk)?;
+    enter_folder(rt, folder, folder, &top, &mut walk)?;
+    visit_pending(rt, folder, exclusion, &mut walk)?;
     Ok(walk.files)
 }
 
@@ -265,12 +265,12 @@ fn source_at<R: Files + AllocGlobal>(
     ensures most { IfOk result (λ source. IsModulePrefix source.bytes.items) }
     ensures path { IfOk result (λ source. string_bytes source.path ≡ string_bytes path) }
 {
-    let opened = joined(rt.alloc(), folder, path.as_str())?;
+    let opened = joined_path(rt.alloc(), folder, path.as_str())?;
     let bytes = read_module(rt, opened.as_str())?;
     Ok(Source { path, bytes })
 }
 
-fn read_all<R: Files + AllocGlobal>(
+fn read_sources<R: Files + AllocGlobal>(
     rt: &R,
     folder: &str,
     paths: Vec<String>,
@@ -297,7 +297,7 @@ fn sources_below<R: Files + AllocGlobal + Clone + Drop>(
     ensures included { IfOk result (λ sources. AreIncluded (texts excluded.now) sources.items) }
 {
     let paths = sorted_paths_below(rt, folder, excluded)?;
-    let sources = read_all(rt, folder, paths)?;
+    let sources = read_sources(rt, folder, paths)?;
     // The paths are sorted, and they differ unless the system lists a name in a folder twice.
     if in_order(sources.as_slice()) {
         Ok(sources)
@@ -313,7 +313,7 @@ fn sources_below<R: Files + AllocGlobal + Clone + Drop>(
 /// Fails with `Memory`, or with `CannotRead` and a path that can't be read. It may be too long for the system, or a module that isn't a
 /// regular file. It may be a folder more than 32 levels below `folder`, or with a name that isn't UTF-8.
 /// It is `folder` itself if there are more than 1,048,576 names, counted along links, or if a name is listed twice.
-pub fn sources_of<R: Files + AllocGlobal + Clone + Drop>(
+pub fn read_folder<R: Files + AllocGlobal + Clone + Drop>(
     rt: &R,
     folder: &str,
     excluded: &[String],

@@ -15,8 +15,8 @@ use crate::engine::READERS;
 use byte_sink::Sink;
 use cut_net::Net;
 use cut_report::laws::written_net_is_read;
-use cut_report::{least_chain_of, write_chain, write_net};
-use cut_solve::{SolveFault, module_of};
+use cut_report::{shortest_import_path, write_chain, write_net};
+use cut_solve::{SolveFault, module_number};
 use source_tree::{Source, net_of};
 use std::alloc::Global;
 use std::thread::Threads;
@@ -38,7 +38,7 @@ fn write_net_text<S: Sink>(alloc: Global, net: &Net, sink: &mut S) -> Result<(),
 /// by both names.
 /// The weight `w` is the number of qualified names that use the import. `Net::read` reads the text as exactly that network.
 /// Fails with `Tree`, `Device` or `Memory`.
-pub fn net_tree<R: Threads + Sync, S: Sink>(
+pub fn write_tree_net<R: Threads + Sync, S: Sink>(
     rt: &R,
     alloc: Global,
     sources: &[Source],
@@ -58,12 +58,12 @@ pub fn net_tree<R: Threads + Sync, S: Sink>(
 
 /// The numbers of the modules of two names, which differ. Fails with `NoSuchModule` for the first unknown name, with `SameModule` if both
 /// names are the same, and with `Memory`.
-fn modules_of(alloc: Global, net: &Net, a: &str, b: &str) -> Result<(u32, u32), SolveFault>
+fn two_module_numbers(alloc: Global, net: &Net, a: &str, b: &str) -> Result<(u32, u32), SolveFault>
     ensures found { IfOk result (λ found. (index_of net.now a.now ≡ Some found.0) × (index_of net.now b.now ≡ Some found.1) × (found.0 ≢ found.1)) }
     ensures refused { IfErr result (λ fault. UnlessMemory fault (λ refusal. IsSolveOutcome net.now a.now b.now (Err refusal))) }
 {
-    let from = module_of(alloc, net, a)?;
-    let to = module_of(alloc, net, b)?;
+    let from = module_number(alloc, net, a)?;
+    let to = module_number(alloc, net, b)?;
     if from == to {
         return Err(SolveFault::SameModule);
     }
@@ -71,7 +71,7 @@ fn modules_of(alloc: Global, net: &Net, a: &str, b: &str) -> Result<(u32, u32), 
 }
 
 /// Writes the lines of the shortest path of imports between the modules of two names. Returns whether there is a path.
-fn why_in<S: Sink>(
+fn write_shortest_path<S: Sink>(
     alloc: Global,
     net: &Net,
     a: &str,
@@ -83,8 +83,8 @@ fn why_in<S: Sink>(
     ensures failures { S.failures sink.new ≡ failures_by is_device result (S.failures sink.old) }
 {
     net.invariants();
-    let (from, to) = modules_of(alloc, net, a, b)?;
-    let found = least_chain_of(alloc, net, from, to)?;
+    let (from, to) = two_module_numbers(alloc, net, a, b)?;
+    let found = shortest_import_path(alloc, net, from, to)?;
     let Some(chain) = found else {
         return Ok(false);
     };
@@ -98,7 +98,7 @@ fn why_in<S: Sink>(
 /// nothing is written.
 /// Fails with `Net` if the network is rejected, then with `Solve` for the first unknown name or if both names are the same, and with
 /// `Device` or `Memory`.
-pub fn why_net_bytes<S: Sink>(
+pub fn write_net_bytes_path<S: Sink>(
     alloc: Global,
     network: &[u8],
     a: &str,
@@ -112,14 +112,14 @@ pub fn why_net_bytes<S: Sink>(
     ensures failures { S.failures sink.new ≡ failures_by is_device result (S.failures sink.old) }
 {
     let net = Net::read(alloc, network)?;
-    why_in(alloc, &net, a, b, sink)
+    write_shortest_path(alloc, &net, a, b, sink)
 }
 
-/// Reads the files of a tree, and writes the shortest path of imports from the module named `a` to the one named `b`, as `why_net_bytes`
+/// Reads the files of a tree, and writes the shortest path of imports from the module named `a` to the one named `b`, as `write_net_bytes_path`
 /// does.
 /// Fails with `Tree` if the tree is rejected, then with `Solve` for the first unknown name or if both names are the same, and with `Device`
 /// or `Memory`.
-pub fn why_tree<R: Threads + Sync, S: Sink>(
+pub fn write_tree_path<R: Threads + Sync, S: Sink>(
     rt: &R,
     alloc: Global,
     sources: &[Source],
@@ -136,5 +136,5 @@ pub fn why_tree<R: Threads + Sync, S: Sink>(
     ensures failures { S.failures sink.new ≡ failures_by is_device result (S.failures sink.old) }
 {
     let net = net_of(rt, alloc, sources, READERS)?;
-    why_in(alloc, &net, a, b, sink)
+    write_shortest_path(alloc, &net, a, b, sink)
 }

@@ -9,14 +9,14 @@ ghost use Rattle.source_tree.specs.Trees.{IsNetOfTree};
 ghost use Rattle.source_tree.specs.declared.source.Source.{Source};
 
 /// A tree that has a network is never rejected.
-pub fn no_refusal_of_a_tree()
+pub fn tree_with_net_is_accepted()
     // If these files have a network, the tree isn't rejected with any fault.
     ensures { (sources : List Source) (net : Network) (fault : RunFault) →
         IsNetOfTree sources net → IsRejectedTree sources fault → ⊥ }
 {}
 
 /// Without prices nothing is pinned: the report is of a cheapest cut among all sets of imports, with a flow within the weights.
-pub fn without_prices()
+pub fn no_pins_without_prices()
     // What `cut_tree` writes without prices is such a report.
     ensures tree { (sources : List Source) (first second text : List ℕ) →
         IsCutText (IsNetOfPricedTree sources None) first second text → IsUnpinnedCutText (IsNetOfTree sources) first second text }

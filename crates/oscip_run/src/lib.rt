@@ -27,22 +27,22 @@ mod stream;
 mod style;
 mod tree_run;
 
-pub use crossing::crossings_tree;
-pub use drawing::{dot_net_bytes, dot_tree};
+pub use crossing::list_tree_crossings;
+pub use drawing::{draw_net_bytes, draw_tree};
 pub use ending::{
-    end_of, end_of_tree, end_without_job, line_of_run, status_of_run, status_of_words,
+    end_of, end_of_tree, end_without_job, line_of_run, status_of_run, status_without_job,
 };
 pub use engine::{READERS, check_net_bytes, check_tree, cut_net_bytes, cut_tree};
 pub use fault::{RunFault, fault_line, status_of};
-pub use faults::faults_tree;
+pub use faults::list_tree_faults;
 pub use files::read_file;
-pub use folder::sources_of;
-pub use imports::{net_tree, why_net_bytes, why_tree};
-pub use listing::{modules_tree, reach_net_bytes, reach_tree};
+pub use folder::read_folder;
+pub use imports::{write_net_bytes_path, write_tree_net, write_tree_path};
+pub use listing::{list_net_bytes_reach, list_tree_modules, list_tree_reach};
 pub use query_runs::answer_question;
 pub use reader::{Reader, SystemFiles};
 pub use reading::{run_net, run_question};
-pub use ruling::rules_tree;
+pub use ruling::check_tree_rules;
 pub use run::{answer, answer_tree};
 pub use stream::Stream;
 pub use style::{style_of_job, style_of_tree};

@@ -9,7 +9,7 @@ ghost use Rattle.oscip_run.specs.ReachRuns.{named_entry, IsReached, IsReachRun};
 ghost use Rattle.oscip_run.specs.Runs.{IsNetOfText, IsNeverRejected, IsRejectedText, IsRejectedTree, IsThis};
 ghost use Rattle.source_tree.specs.Sources.{ArePathsInOrder};
 ghost use Rattle.source_tree.specs.Trees.{IsNetOfTree};
-ghost use Rattle.text_escape.specs.Places.{style_of};
+ghost use Rattle.texts.specs.Places.{style_of};
 ghost use Rattle.byte_sink.specs.Pieces.{WritesAllBut};
 
 use crate::RunFault;
@@ -17,12 +17,12 @@ use crate::engine::READERS;
 use byte_sink::{Sink, SinkFault, flush_if_full, write_fully};
 use cut_net::Net;
 use cut_report::{reached_modules, reaching_modules};
-use cut_solve::module_of;
+use cut_solve::module_number;
 use oscip_job::Direction;
 use source_tree::{Source, located_net_of, net_of};
 use std::alloc::{AllocError, Global};
 use std::thread::Threads;
-use text_escape::{LocationStyle, escaped};
+use texts::{LocationStyle, escaped};
 
 /// A module in a list, and the path of its file if it has one.
 #[derive(Drop)]
@@ -32,7 +32,7 @@ struct ListedModule<'a> {
 }
 
 /// Appends a space and the path to the text, if there is a path.
-fn push_path(
+fn append_path(
     alloc: Global,
     style: LocationStyle<'_>,
     text: &mut String,
@@ -49,7 +49,7 @@ fn push_path(
 }
 
 /// Appends the line of a module to the text.
-fn push_line(
+fn append_line(
     alloc: Global,
     style: LocationStyle<'_>,
     text: &mut String,
@@ -58,12 +58,12 @@ fn push_line(
     ensures { OnOk result (string_bytes text.new ≡ string_bytes text.old ++ entry_line (style_of style.entry) (entry_of listed.now)) }
 {
     text.push_str(listed.name)?;
-    push_path(alloc, style, text, listed.path)?;
+    append_path(alloc, style, text, listed.path)?;
     text.push('\n')
 }
 
 /// Appends the line of a module to the text, and writes the text if it is long.
-fn gather_line<S: Sink>(
+fn write_line<S: Sink>(
     alloc: Global,
     style: LocationStyle<'_>,
     text: &mut String,
@@ -76,7 +76,7 @@ fn gather_line<S: Sink>(
         (string_bytes text.old ++ entry_line (style_of style.entry) (entry_of listed.now))) }
     ensures failures { S.failures sink.new ≡ failures_after result (S.failures sink.old) }
 {
-    push_line(alloc, style, text, listed).map_err(|_| SinkFault::Memory)?;
+    append_line(alloc, style, text, listed).map_err(|_| SinkFault::Memory)?;
     flush_if_full(text, sink)
 }
 
@@ -92,7 +92,7 @@ fn write_lines<S: Sink>(
 {
     let mut text = String::new(alloc);
     for listed in modules {
-        gather_line(alloc, style, &mut text, listed, sink)?;
+        write_line(alloc, style, &mut text, listed, sink)?;
     }
     write_fully(sink, text.as_bytes())
 }
@@ -115,7 +115,7 @@ fn named_modules<'a>(
 }
 
 /// The numbers of the modules that are reached from module `start` in this direction by one or more imports, sorted.
-fn reach_of(
+fn reached_from(
     alloc: Global,
     net: &Net,
     start: u32,
@@ -133,7 +133,7 @@ fn reach_of(
 }
 
 /// Writes the names of the modules that are reached from the module of this name in this direction.
-fn reach_in<S: Sink>(
+fn write_reached_modules<S: Sink>(
     alloc: Global,
     net: &Net,
     name: &str,
@@ -143,8 +143,8 @@ fn reach_in<S: Sink>(
     ensures run { IsReachRun (IsThis net.now) IsNeverRejected name.now direction (S.taken sink.old) (S.taken sink.new) result }
     ensures failures { S.failures sink.new ≡ failures_by is_device result (S.failures sink.old) }
 {
-    let start = module_of(alloc, net, name)?;
-    let reached = reach_of(alloc, net, start, direction)?;
+    let start = module_number(alloc, net, name)?;
+    let reached = reached_from(alloc, net, start, direction)?;
     let listed = named_modules(alloc, net, reached.as_slice())?;
     write_lines(alloc, LocationStyle::Plain, listed.as_slice(), sink)?;
     Ok(())
@@ -154,7 +154,7 @@ fn reach_in<S: Sink>(
 /// sorted.
 /// Imports of weight 0 count. A module doesn't reach itself, since a network has no cycle.
 /// Fails with `Net` if the network is rejected, then with `Solve` if no module has the name, and with `Device` or `Memory`.
-pub fn reach_net_bytes<S: Sink>(
+pub fn list_net_bytes_reach<S: Sink>(
     alloc: Global,
     network: &[u8],
     name: &str,
@@ -168,13 +168,13 @@ pub fn reach_net_bytes<S: Sink>(
     ensures failures { S.failures sink.new ≡ failures_by is_device result (S.failures sink.old) }
 {
     let net = Net::read(alloc, network)?;
-    reach_in(alloc, &net, name, direction, sink)
+    write_reached_modules(alloc, &net, name, direction, sink)
 }
 
 /// Reads the files of a tree, and writes the names of the modules that module `name` reaches by one or more imports, or that reach it: one
 /// per line, sorted.
 /// Fails with `Tree` if the tree is rejected, then with `Solve` if no module has the name, and with `Device` or `Memory`.
-pub fn reach_tree<R: Threads + Sync, S: Sink>(
+pub fn list_tree_reach<R: Threads + Sync, S: Sink>(
     rt: &R,
     alloc: Global,
     sources: &[Source],
@@ -191,7 +191,7 @@ pub fn reach_tree<R: Threads + Sync, S: Sink>(
     ensures failures { S.failures sink.new ≡ failures_by is_device result (S.failures sink.old) }
 {
     let net = net_of(rt, alloc, sources, READERS)?;
-    reach_in(alloc, &net, name, direction, sink)
+    write_reached_modules(alloc, &net, name, direction, sink)
 }
 
 /// For each module of the network the path of its file, if it has one. `modules` has the module's number for each file.
@@ -236,7 +236,7 @@ fn located_modules<'a>(
 /// The path is in this style, with its control characters escaped. An external module, which is only imported, has its name alone. A tree
 /// without files has no line.
 /// Fails with `Tree` if the tree is rejected, and with `Device` or `Memory`.
-pub fn modules_tree<R: Threads + Sync, S: Sink>(
+pub fn list_tree_modules<R: Threads + Sync, S: Sink>(
     rt: &R,
     alloc: Global,
     sources: &[Source],

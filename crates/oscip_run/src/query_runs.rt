@@ -4,14 +4,14 @@ ghost use Rattle.byte_sink.specs.Sinks.{failures_by};
 ghost use Rattle.index_store.specs.Faults.{is_device as is_query_device};
 ghost use Rattle.oscip_run.specs.AskedRuns.{position_of, which_of, IsAskedRun, IsIndexRun, IsLocationsRun};
 ghost use Rattle.oscip_run.specs.Faults.{is_device};
-ghost use Rattle.text_escape.specs.Places.{style_of};
+ghost use Rattle.texts.specs.Places.{style_of};
 
 use crate::RunFault;
 use byte_sink::Sink;
 use index_store::{Position, QueryFault, Which, list_symbols, query, query_symbol, write_symbol};
 use oscip_job::{AskedSymbol, IndexQuestion, Places};
 use std::alloc::Global;
-use text_escape::LocationStyle;
+use texts::LocationStyle;
 
 /// The position as `index_store` takes it.
 fn position_of(at: &oscip_job::Position) -> Position

@@ -5,7 +5,7 @@ ghost use Rattle.oscip_run.specs.Faults.{IsReadFault};
 ghost use Rattle.oscip_run.specs.Readings.{FileOf, FolderOf, IsOfSystem, Reading, Refused};
 ghost use Rattle.source_tree.specs.Sources.{ArePathsInOrder};
 
-use crate::{RunFault, read_file, sources_of};
+use crate::{RunFault, read_file, read_folder};
 use source_tree::Source;
 use std::rt::Files;
 
@@ -48,6 +48,6 @@ impl<R: Files + AllocGlobal + Clone + Drop> Reader for SystemFiles<'_, R> {
     }
 
     fn modules(&self, path: &str, excluded: &[String]) -> Result<Vec<Source>, RunFault> {
-        sources_of(self.0, path, excluded)
+        read_folder(self.0, path, excluded)
     }
 }

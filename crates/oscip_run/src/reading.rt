@@ -4,8 +4,8 @@ ghost use Rattle.byte_sink.specs.Sinks.{failures_by};
 ghost use Rattle.oscip_job.specs.Jobs.{HasNetWorkers};
 ghost use Rattle.oscip_run.specs.Faults.{is_device, IsReadFault};
 ghost use Rattle.oscip_run.specs.FileRuns.{IsNetRun, IsQuestionRun};
-ghost use Rattle.oscip_run.specs.Readings.{returned_bytes, bytes_or_none, paths_beside, AreReturned, AreUnreadable, IsReturned, IsUnreadable};
-ghost use Rattle.text_escape.specs.Places.{style_of};
+ghost use Rattle.oscip_run.specs.Readings.{returned_bytes, bytes_or_none, question_paths, AreReturned, AreUnreadable, IsReturned, IsUnreadable};
+ghost use Rattle.texts.specs.Places.{style_of};
 
 use crate::{Reader, RunFault, answer, answer_question};
 use byte_sink::Sink;
@@ -14,11 +14,11 @@ use oscip_job::{IndexQuestion, NetQuestion};
 use std::alloc::Global;
 use std::sync::Wait;
 use std::thread::Threads;
-use text_escape::LocationStyle;
+use texts::LocationStyle;
 
 /// The path of the question's report, if it has one.
 fn report_of(question: &NetQuestion) -> Option<&str>
-    ensures { option_copied result ≡ (paths_beside question.now).report }
+    ensures { option_copied result ≡ (question_paths question.now).report }
 {
     match question {
         NetQuestion::Check(reported) => Some(reported.report.as_str()),
@@ -29,7 +29,7 @@ fn report_of(question: &NetQuestion) -> Option<&str>
 
 /// The path of the question's prices, if it has any.
 fn prices_of(question: &NetQuestion) -> Option<&str>
-    ensures { option_copied result ≡ (paths_beside question.now).prices }
+    ensures { option_copied result ≡ (question_paths question.now).prices }
 {
     match question {
         NetQuestion::Cut(cutting) => cutting.prices.as_deref(),
@@ -41,7 +41,7 @@ fn prices_of(question: &NetQuestion) -> Option<&str>
 
 /// The files that a question reads besides its network or tree.
 #[derive(Drop)]
-pub(crate) struct Beside {
+pub(crate) struct QuestionFiles {
     /// The bytes of the report, if the question has one.
     pub(crate) report: Option<Vec<u8>>,
     /// The bytes of the prices, if the question has any.
@@ -49,7 +49,10 @@ pub(crate) struct Beside {
 }
 
 /// The bytes of a file, if a path is given.
-fn read_named<F: Reader>(reader: &F, path: Option<&str>) -> Result<Option<Vec<u8>>, RunFault>
+fn read_optional_file<F: Reader>(
+    reader: &F,
+    path: Option<&str>,
+) -> Result<Option<Vec<u8>>, RunFault>
     ensures given { IfOk result (λ given. IsReturned (F.answers reader.now) (option_copied path.entry) (returned_bytes given)) }
     ensures refused { IfErr result (IsUnreadable (F.answers reader.now) (option_copied path.entry)) }
     ensures fault { IfErr result IsReadFault }
@@ -61,14 +64,17 @@ fn read_named<F: Reader>(reader: &F, path: Option<&str>) -> Result<Option<Vec<u8
 }
 
 /// Reads the report first, and then the prices.
-pub(crate) fn read_beside<F: Reader>(reader: &F, question: &NetQuestion) -> Result<Beside, RunFault>
-    ensures given { IfOk result (λ beside. AreReturned (F.answers reader.now) (paths_beside question.now) (returned_bytes beside.report) (returned_bytes beside.prices)) }
-    ensures refused { IfErr result (AreUnreadable (F.answers reader.now) (paths_beside question.now)) }
+pub(crate) fn read_question_files<F: Reader>(
+    reader: &F,
+    question: &NetQuestion,
+) -> Result<QuestionFiles, RunFault>
+    ensures given { IfOk result (λ beside. AreReturned (F.answers reader.now) (question_paths question.now) (returned_bytes beside.report) (returned_bytes beside.prices)) }
+    ensures refused { IfErr result (AreUnreadable (F.answers reader.now) (question_paths question.now)) }
     ensures fault { IfErr result IsReadFault }
 {
-    let report = read_named(reader, report_of(question))?;
-    let prices = read_named(reader, prices_of(question))?;
-    Ok(Beside { report, prices })
+    let report = read_optional_file(reader, report_of(question))?;
+    let prices = read_optional_file(reader, prices_of(question))?;
+    Ok(QuestionFiles { report, prices })
 }
 
 /// The bytes, or no bytes if none were given.
@@ -101,7 +107,7 @@ pub fn run_net<R: Threads + Wait + Sync, F: Reader, S: Sink>(
     ensures failures { S.failures sink.new ≡ failures_by is_device result (S.failures sink.old) }
 {
     let network = reader.file(network)?;
-    let beside = read_beside(reader, question)?;
+    let beside = read_question_files(reader, question)?;
     let (network, report) = (network.as_slice(), bytes_or_none(&beside.report));
     let prices = beside.prices.as_deref();
     answer(

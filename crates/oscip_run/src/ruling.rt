@@ -2,7 +2,7 @@
 ghost use Rattle.std.specs.Prelude.{◌≡◌, ◌<◌, ℕ, IfOk, Some, length, map, slice_get};
 ghost use Rattle.std.specs.String.{string_bytes};
 ghost use Rattle.byte_sink.specs.Sinks.{failures_by};
-ghost use Rattle.text_escape.specs.Places.{style_of};
+ghost use Rattle.texts.specs.Places.{style_of};
 ghost use Rattle.cut_rules.specs.Folders.{ArePathsInOrder as AreFilesInOrder};
 ghost use Rattle.cut_rules.specs.declared.file.File.{File as TreeFile};
 ghost use Rattle.oscip_run.specs.Faults.{is_device};
@@ -20,7 +20,7 @@ use cut_rules::{File, Rules, Site, write_verdict};
 use source_tree::{ImportSite, Source, located_net_of};
 use std::alloc::{AllocError, Global};
 use std::thread::Threads;
-use text_escape::LocationStyle;
+use texts::LocationStyle;
 
 /// A tree, as `cut_rules` takes it.
 #[derive(Clone, Copy)]
@@ -72,7 +72,7 @@ fn sites_of<'a>(
 }
 
 /// Reads the rules for a tree, and writes their verdict.
-fn judge<'a, S: Sink>(
+fn write_rules_verdict<'a, S: Sink>(
     alloc: Global,
     tree: &RuledTree<'a>,
     rules: &'a [u8],
@@ -92,7 +92,7 @@ fn judge<'a, S: Sink>(
 /// Writes a line `PATH:LINE:COL: no LINE A .. M N` for each import that breaks a rule, and a line `stale LINE M N` for each `allow` line
 /// whose import the tree lacks. If there are none, writes `yes` and returns true.
 /// Fails with `Tree` if the tree is rejected, then with `Rules` if the rules are, and with `Device` or `Memory`.
-pub fn rules_tree<R: Threads + Sync, S: Sink>(
+pub fn check_tree_rules<R: Threads + Sync, S: Sink>(
     rt: &R,
     alloc: Global,
     sources: &[Source],
@@ -116,5 +116,5 @@ pub fn rules_tree<R: Threads + Sync, S: Sink>(
         files: files.as_slice(),
         sites: sites.as_slice(),
     };
-    judge(alloc, &tree, rules, style, sink)
+    write_rules_verdict(alloc, &tree, rules, style, sink)
 }

@@ -8,8 +8,8 @@ ghost use Rattle.oscip_run.specs.PricedInputs.{IsNetOfPricedText, IsNetOfPricedT
 ghost use Rattle.source_tree.specs.Sources.{ArePathsInOrder};
 
 use crate::{
-    RunFault, check_net_bytes, check_tree, cut_net_bytes, cut_tree, dot_net_bytes, dot_tree,
-    reach_net_bytes, reach_tree, why_net_bytes, why_tree,
+    RunFault, check_net_bytes, check_tree, cut_net_bytes, cut_tree, draw_net_bytes, draw_tree,
+    list_net_bytes_reach, list_tree_reach, write_net_bytes_path, write_tree_path,
 };
 use byte_sink::Sink;
 use cut_solve::Gate;
@@ -49,16 +49,16 @@ pub fn answer<R: Threads + Wait + Sync, G: Gate + Sync, S: Sink>(
         }
         NetQuestion::Check(_) => check_net_bytes(alloc, network, report, prices, sink),
         NetQuestion::Dot(drawing) => {
-            dot_net_bytes(alloc, network, report, prices, drawing.by_flow, sink)?;
+            draw_net_bytes(alloc, network, report, prices, drawing.by_flow, sink)?;
             Ok(true)
         }
         NetQuestion::Why(names) => {
             let (first, last) = (names.from.as_str(), names.to.as_str());
-            why_net_bytes(alloc, network, first, last, sink)
+            write_net_bytes_path(alloc, network, first, last, sink)
         }
         NetQuestion::Reach(reaching) => {
             let (module, direction) = (reaching.module.as_str(), reaching.direction);
-            reach_net_bytes(alloc, network, module, direction, sink)?;
+            list_net_bytes_reach(alloc, network, module, direction, sink)?;
             Ok(true)
         }
     }
@@ -96,16 +96,16 @@ pub fn answer_tree<R: Threads + Wait + Sync, G: Gate + Sync, S: Sink>(
         }
         NetQuestion::Check(_) => check_tree(rt, alloc, sources, report, prices, sink),
         NetQuestion::Dot(drawing) => {
-            dot_tree(rt, alloc, sources, report, prices, drawing.by_flow, sink)?;
+            draw_tree(rt, alloc, sources, report, prices, drawing.by_flow, sink)?;
             Ok(true)
         }
         NetQuestion::Why(names) => {
             let (first, last) = (names.from.as_str(), names.to.as_str());
-            why_tree(rt, alloc, sources, first, last, sink)
+            write_tree_path(rt, alloc, sources, first, last, sink)
         }
         NetQuestion::Reach(reaching) => {
             let (module, direction) = (reaching.module.as_str(), reaching.direction);
-            reach_tree(rt, alloc, sources, module, direction, sink)?;
+            list_tree_reach(rt, alloc, sources, module, direction, sink)?;
             Ok(true)
         }
     }

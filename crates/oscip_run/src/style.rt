@@ -1,10 +1,10 @@
 //! The style in which a job writes locations.
 ghost use Rattle.std.specs.Prelude.{◌≡◌};
 ghost use Rattle.oscip_run.specs.Styles.{style_of_job, style_of_tree};
-ghost use Rattle.text_escape.specs.Places.{style_of};
+ghost use Rattle.texts.specs.Places.{style_of};
 
 use oscip_job::{Job, SourceTree};
-use text_escape::LocationStyle;
+use texts::LocationStyle;
 
 /// The style of locations in the files of a tree.
 pub fn style_of_tree(tree: &SourceTree) -> LocationStyle<'_>

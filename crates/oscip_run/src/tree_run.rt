@@ -8,7 +8,7 @@ ghost use Rattle.oscip_run.specs.Faults.{is_device};
 ghost use Rattle.oscip_run.specs.FileRuns.{IsTreeNetRun};
 ghost use Rattle.oscip_run.specs.CrossingRuns.{IsCrossingsRun};
 ghost use Rattle.oscip_run.specs.ImportRuns.{IsNetTextRun};
-ghost use Rattle.oscip_run.specs.JobRuns.{without_answer};
+ghost use Rattle.oscip_run.specs.JobRuns.{without_boolean};
 ghost use Rattle.oscip_run.specs.ModuleRuns.{IsModulesRun};
 ghost use Rattle.oscip_run.specs.Readings.{returned_bytes};
 ghost use Rattle.oscip_run.specs.Runs.{IsRejectedTree};
@@ -16,13 +16,13 @@ ghost use Rattle.oscip_run.specs.TreeQuestionRuns.{IsRulesFileRun, IsTreeQuestio
 ghost use Rattle.oscip_run.specs.TreeRuns.{AreTreeFiles, IsTreeQuestionRunOn, IsTreeUnread};
 ghost use Rattle.source_tree.specs.Sources.{ArePathsInOrder};
 ghost use Rattle.source_tree.specs.Trees.{IsNetOfTree};
-ghost use Rattle.text_escape.specs.Places.{style_of};
+ghost use Rattle.texts.specs.Places.{style_of};
 
 use crate::engine::READERS;
-use crate::reading::{bytes_or_none, read_beside};
+use crate::reading::{bytes_or_none, read_question_files};
 use crate::{
-    Reader, RunFault, answer_tree, crossings_tree, faults_tree, modules_tree, net_tree, rules_tree,
-    style_of_tree,
+    Reader, RunFault, answer_tree, check_tree_rules, list_tree_crossings, list_tree_faults,
+    list_tree_modules, style_of_tree, write_tree_net,
 };
 use byte_sink::Sink;
 use cut_solve::OpenGate;
@@ -31,7 +31,7 @@ use source_tree::{PartitionedFiles, Source, TreeFault, partition_files};
 use std::alloc::Global;
 use std::sync::Wait;
 use std::thread::Threads;
-use text_escape::LocationStyle;
+use texts::LocationStyle;
 
 /// The outcome of a run on the modules of a tree.
 #[derive(Drop)]
@@ -71,7 +71,7 @@ pub fn tree_files<R: Threads + Sync, F: Reader>(
 }
 
 /// Answers a question about the network of these modules. Reads the report first, then the prices.
-fn ask_net<R: Threads + Wait + Sync, F: Reader, S: Sink>(
+fn run_net_question<R: Threads + Wait + Sync, F: Reader, S: Sink>(
     rt: &R,
     alloc: Global,
     reader: &F,
@@ -84,7 +84,7 @@ fn ask_net<R: Threads + Wait + Sync, F: Reader, S: Sink>(
     ensures run { IsTreeNetRun (F.answers reader.now) sources.now question.now (S.taken sink.old) (S.taken sink.new) result }
     ensures failures { S.failures sink.new ≡ failures_by is_device result (S.failures sink.old) }
 {
-    let beside = read_beside(reader, question)?;
+    let beside = read_question_files(reader, question)?;
     let report = bytes_or_none(&beside.report);
     let prices = beside.prices.as_deref();
     answer_tree(
@@ -93,7 +93,7 @@ fn ask_net<R: Threads + Wait + Sync, F: Reader, S: Sink>(
 }
 
 /// Writes the locations where one of these modules uses another.
-fn ask_crossings<R: Threads + Sync, S: Sink>(
+fn run_crossings<R: Threads + Sync, S: Sink>(
     rt: &R,
     alloc: Global,
     sources: &[Source],
@@ -102,33 +102,33 @@ fn ask_crossings<R: Threads + Sync, S: Sink>(
     sink: &mut S,
 ) -> Result<bool, RunFault>
     requires { ArePathsInOrder sources.now }
-    ensures run { IsCrossingsRun (style_of style.entry) sources.now (string_bytes names.now.from) (string_bytes names.now.to) (S.taken sink.old) (S.taken sink.new) (without_answer result) }
+    ensures run { IsCrossingsRun (style_of style.entry) sources.now (string_bytes names.now.from) (string_bytes names.now.to) (S.taken sink.old) (S.taken sink.new) (without_boolean result) }
     ensures answer { IsNeverFalse result }
     ensures failures { S.failures sink.new ≡ failures_by is_device result (S.failures sink.old) }
 {
     let (from, to) = (names.from.as_str(), names.to.as_str());
-    crossings_tree(rt, alloc, sources, from, to, style, sink)?;
+    list_tree_crossings(rt, alloc, sources, from, to, style, sink)?;
     Ok(true)
 }
 
 /// Writes the network of these modules.
-fn ask_network<R: Threads + Sync, S: Sink>(
+fn run_network_text<R: Threads + Sync, S: Sink>(
     rt: &R,
     alloc: Global,
     sources: &[Source],
     sink: &mut S,
 ) -> Result<bool, RunFault>
     requires { ArePathsInOrder sources.now }
-    ensures run { IsNetTextRun (IsNetOfTree sources.now) (IsRejectedTree sources.now) (S.taken sink.old) (S.taken sink.new) (without_answer result) }
+    ensures run { IsNetTextRun (IsNetOfTree sources.now) (IsRejectedTree sources.now) (S.taken sink.old) (S.taken sink.new) (without_boolean result) }
     ensures answer { IsNeverFalse result }
     ensures failures { S.failures sink.new ≡ failures_by is_device result (S.failures sink.old) }
 {
-    net_tree(rt, alloc, sources, sink)?;
+    write_tree_net(rt, alloc, sources, sink)?;
     Ok(true)
 }
 
 /// Lists these modules.
-fn ask_modules<R: Threads + Sync, S: Sink>(
+fn run_modules<R: Threads + Sync, S: Sink>(
     rt: &R,
     alloc: Global,
     sources: &[Source],
@@ -136,16 +136,16 @@ fn ask_modules<R: Threads + Sync, S: Sink>(
     sink: &mut S,
 ) -> Result<bool, RunFault>
     requires { ArePathsInOrder sources.now }
-    ensures run { IsModulesRun (style_of style.entry) sources.now (S.taken sink.old) (S.taken sink.new) (without_answer result) }
+    ensures run { IsModulesRun (style_of style.entry) sources.now (S.taken sink.old) (S.taken sink.new) (without_boolean result) }
     ensures answer { IsNeverFalse result }
     ensures failures { S.failures sink.new ≡ failures_by is_device result (S.failures sink.old) }
 {
-    modules_tree(rt, alloc, sources, style, sink)?;
+    list_tree_modules(rt, alloc, sources, style, sink)?;
     Ok(true)
 }
 
 /// Checks these modules against the rules in the file of this path.
-fn ask_rules<R: Threads + Sync, F: Reader, S: Sink>(
+fn run_rules<R: Threads + Sync, F: Reader, S: Sink>(
     rt: &R,
     alloc: Global,
     reader: &F,
@@ -159,12 +159,12 @@ fn ask_rules<R: Threads + Sync, F: Reader, S: Sink>(
     ensures failures { S.failures sink.new ≡ failures_by is_device result (S.failures sink.old) }
 {
     let rules = reader.file(path)?;
-    rules_tree(rt, alloc, sources, rules.as_slice(), style, sink)
+    check_tree_rules(rt, alloc, sources, rules.as_slice(), style, sink)
 }
 
 /// Answers a question about these modules, with locations in this style. Reads the other files that the question names first.
 /// Returns false for `no`. Fails with the fault of the reader, and otherwise as the engine of the question does.
-fn ask_tree<R: Threads + Wait + Sync, F: Reader, S: Sink>(
+fn run_tree_question<R: Threads + Wait + Sync, F: Reader, S: Sink>(
     rt: &R,
     alloc: Global,
     reader: &F,
@@ -182,14 +182,16 @@ fn ask_tree<R: Threads + Wait + Sync, F: Reader, S: Sink>(
     ensures failures { S.failures sink.new ≡ failures_by is_device result (S.failures sink.old) }
 {
     match question {
-        TreeQuestion::OfNet(question) => ask_net(rt, alloc, reader, sources, question, sink),
-        TreeQuestion::Crossings(names) => ask_crossings(rt, alloc, sources, names, style, sink),
-        TreeQuestion::Net => ask_network(rt, alloc, sources, sink),
+        TreeQuestion::OfNet(question) => run_net_question(
+            rt, alloc, reader, sources, question, sink,
+        ),
+        TreeQuestion::Crossings(names) => run_crossings(rt, alloc, sources, names, style, sink),
+        TreeQuestion::Net => run_network_text(rt, alloc, sources, sink),
         TreeQuestion::Rules(rules) => {
-            ask_rules(rt, alloc, reader, sources, rules.as_str(), style, sink)
+            run_rules(rt, alloc, reader, sources, rules.as_str(), style, sink)
         }
-        TreeQuestion::Faults => faults_tree(rt, alloc, sources, style, sink),
-        TreeQuestion::Modules => ask_modules(rt, alloc, sources, style, sink),
+        TreeQuestion::Faults => list_tree_faults(rt, alloc, sources, style, sink),
+        TreeQuestion::Modules => run_modules(rt, alloc, sources, style, sink),
     }
 }
 
@@ -216,6 +218,6 @@ pub fn run_tree<R: Threads + Wait + Sync, F: Reader, S: Sink>(
     let PartitionedFiles { accepted, faults } = tree_files(rt, alloc, reader, tree, READERS)?;
     let sources = accepted.as_slice();
     let style = style_of_tree(tree);
-    let ended = ask_tree(rt, alloc, reader, sources, question, style, sink);
+    let ended = run_tree_question(rt, alloc, reader, sources, question, style, sink);
     Ok(TreeRun { faults, ended })
 }

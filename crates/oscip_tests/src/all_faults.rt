@@ -6,9 +6,9 @@ ghost use Rattle.std.specs.String.{string_bytes};
 
 use crate::faults::describe_fault;
 use crate::inputs::{FOUR, ONE_HEX, ONE_INDEX, sources};
-use index_run::{OpenBoard, answer_index};
-use oscip_job::{Indexing, Job, job_of};
-use oscip_run::{RunFault, faults_tree};
+use index_run::{OpenBoardGate, answer_index};
+use oscip_job::{IndexRequest, Job, job_of};
+use oscip_run::{RunFault, list_tree_faults};
 use source_tree::{
     PartitionedFiles, Source, TreeFault, in_order, partition_files, tree_fault_text,
 };
@@ -18,7 +18,7 @@ use std::sync::Wait;
 use std::test::Fail;
 use std::thread::Threads;
 use test_doubles::ByOne;
-use text_escape::LocationStyle;
+use texts::LocationStyle;
 
 /// Files of which one has no fault: the first has a byte order mark, one an underscore, and one has text after its end.
 const SOME: &[(&str, &str)] = &[
@@ -75,7 +75,7 @@ fn check_faults<R: Abort + Threads + AllocGlobal + Sync>(
 ) -> Result<(), AllocError> {
     assert!(rt; in_order(sources));
     let mut sink = ByOne::new(rt.alloc(), writes);
-    let ended = faults_tree(rt, rt.alloc(), sources, LocationStyle::Plain, &mut sink);
+    let ended = list_tree_faults(rt, rt.alloc(), sources, LocationStyle::Plain, &mut sink);
     let description = describe_verdict(rt.alloc(), &ended)?;
     assert_eq!(rt; description.as_str(), want);
     assert_eq!(rt; sink.taken.as_slice(), text);
@@ -117,7 +117,7 @@ fn describe_faults(
 }
 
 /// The job that indexes a folder to this output.
-fn indexing(alloc: Global, word: &str) -> Result<Indexing, AllocError>
+fn indexing(alloc: Global, word: &str) -> Result<IndexRequest, AllocError>
     ensures package { IfOk result (λ it. IsPackage (string_bytes it.package)) }
     ensures workers { IfOk result (λ it. IsWorkerCount it.workers) }
 {
@@ -134,7 +134,7 @@ fn indexing(alloc: Global, word: &str) -> Result<Indexing, AllocError>
 /// Checks the output of the index of the accepted files to a sink that takes this many bytes, and the faults of the others.
 fn check_index<R: Abort + Threads + Wait + AllocGlobal + Sync>(
     rt: &R,
-    indexing: &Indexing,
+    indexing: &IndexRequest,
     sources: Vec<Source>,
     writes: u64,
     text: &[u8],
@@ -148,7 +148,7 @@ fn check_index<R: Abort + Threads + Wait + AllocGlobal + Sync>(
     let mut sink = ByOne::new(alloc, writes);
     let PartitionedFiles { accepted, faults } = partition_files(rt, alloc, sources, 2)?;
     let accepted = accepted.as_slice();
-    let ended = answer_index(rt, alloc, indexing, accepted, &OpenBoard, &mut sink);
+    let ended = answer_index(rt, alloc, indexing, accepted, &OpenBoardGate, &mut sink);
     assert_eq!(rt;
         describe_faults(alloc, faults.as_slice(), &ended)?.as_bytes(),
         want

@@ -9,11 +9,11 @@ use crate::inputs::{
     FOUR_PINS, FOUR_RULES, FOUR_WHY, NONE_INDEX, ONE, ONE_HEX, ONE_INDEX, SIX, SIX_BLOCKED,
     SIX_CUT, SIX_DOT, SIX_PINS, SIX_WHY, WRONG, WRONG_LINE, sources,
 };
-use index_run::{OpenBoard, answer_index, unresolved_to};
+use index_run::{OpenBoardGate, answer_index, unresolved_to};
 use oscip_job::{Job, JobFault, TreeQuestion, job_of};
 use oscip_run::{
-    RunFault, answer, answer_question, answer_tree, crossings_tree, faults_tree, modules_tree,
-    net_tree, rules_tree,
+    RunFault, answer, answer_question, answer_tree, check_tree_rules, list_tree_crossings,
+    list_tree_faults, list_tree_modules, write_tree_net,
 };
 use source_tree::{Source, in_order};
 use std::alloc::{AllocError, Global};
@@ -24,7 +24,7 @@ use std::test::Fail;
 use std::thread::Threads;
 use std::time::Clock;
 use test_doubles::{AllCome, ByOne};
-use text_escape::LocationStyle;
+use texts::LocationStyle;
 
 /// The arguments after the program's name, the files, the prices, and the output.
 type Command = (
@@ -226,21 +226,21 @@ fn describe_tree_run<R: Threads + Wait + AllocGlobal + Clock + Sync>(
             let (from, to) = (names.from.as_str(), names.to.as_str());
             describe_end(
                 alloc,
-                &crossings_tree(rt, alloc, sources, from, to, LocationStyle::Plain, sink),
+                &list_tree_crossings(rt, alloc, sources, from, to, LocationStyle::Plain, sink),
             )
         }
-        TreeQuestion::Net => describe_end(alloc, &net_tree(rt, alloc, sources, sink)),
+        TreeQuestion::Net => describe_end(alloc, &write_tree_net(rt, alloc, sources, sink)),
         TreeQuestion::Modules => describe_end(
             alloc,
-            &modules_tree(rt, alloc, sources, LocationStyle::Plain, sink),
+            &list_tree_modules(rt, alloc, sources, LocationStyle::Plain, sink),
         ),
         TreeQuestion::Rules(_) => describe_verdict(
             alloc,
-            &rules_tree(rt, alloc, sources, FOUR_RULES, LocationStyle::Plain, sink),
+            &check_tree_rules(rt, alloc, sources, FOUR_RULES, LocationStyle::Plain, sink),
         ),
         TreeQuestion::Faults => describe_verdict(
             alloc,
-            &faults_tree(rt, alloc, sources, LocationStyle::Plain, sink),
+            &list_tree_faults(rt, alloc, sources, LocationStyle::Plain, sink),
         ),
     }
 }
@@ -267,7 +267,7 @@ fn description<R: Threads + Wait + AllocGlobal + Clock + Sync>(
         Job::Tree { question, .. } => describe_tree_run(rt, question, sources, prices, gate, sink),
         Job::Index(indexing) => describe_end(
             alloc,
-            &answer_index(rt, alloc, indexing, sources, &OpenBoard, sink),
+            &answer_index(rt, alloc, indexing, sources, &OpenBoardGate, sink),
         ),
         Job::Unresolved { .. } => describe_end(
             alloc,

@@ -6,7 +6,7 @@ use oscip_run::{RunFault, fault_line, status_of};
 use source_tree::TreeFault;
 use std::alloc::{AllocError, Global};
 use std::test::Fail;
-use text_escape::LocationStyle;
+use texts::LocationStyle;
 
 /// The part that fails or runs out of memory.
 enum Failing {

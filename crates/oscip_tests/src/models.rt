@@ -6,7 +6,7 @@ ghost use Rattle.source_tree.specs.Sources.{ArePathsInOrder};
 ghost use Rattle.scip_symbol.specs.Outcomes.{is_wrong_part};
 
 use crate::inputs::{FOUR, ONE, THREE, TWO, WRONG, sources};
-use index_run::{OpenBoard, index_to, write_index};
+use index_run::{OpenBoardGate, index_to, write_index};
 use ob_board::{IndexOptions, index_tree};
 use scip_index::Index;
 use source_tree::{Source, in_order};
@@ -95,7 +95,7 @@ pub(crate) fn message_bytes<R: AllocGlobal + Threads + Wait + Sync>(
 ) -> Result<Vec<u8>, Fail>
     requires { is_wrong_part (string_bytes options.now.package) ≡ false }
 {
-    let index = index_tree(rt, rt.alloc(), sources, options, 2, &OpenBoard)?;
+    let index = index_tree(rt, rt.alloc(), sources, options, 2, &OpenBoardGate)?;
     encode_message(rt.alloc(), index)
 }
 
@@ -109,7 +109,15 @@ fn write_parts<R: AllocGlobal + Threads + Wait + Sync>(
     requires right { is_wrong_part (string_bytes options.now.package) ≡ false }
 {
     let mut bytes = Vec::new(rt.alloc());
-    index_to(rt, rt.alloc(), sources, options, 2, &OpenBoard, &mut bytes)?;
+    index_to(
+        rt,
+        rt.alloc(),
+        sources,
+        options,
+        2,
+        &OpenBoardGate,
+        &mut bytes,
+    )?;
     Ok(bytes)
 }
 

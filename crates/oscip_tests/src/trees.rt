@@ -3,12 +3,13 @@
 //! that they qualify; or the fault of the tree.
 use crate::inputs::{FOUR, ONE, sources};
 use ob_imports::Graph;
-use source_tree::{ReadModule, ReadTree, read_tree, tree_fault_text};
+use ob_parse::{ReadModule, ReadTree, read_tree};
+use source_tree::tree_fault_text;
 use std::alloc::{AllocError, Global};
 use std::process::Abort;
 use std::test::Fail;
 use std::thread::Threads;
-use text_escape::LocationStyle;
+use texts::LocationStyle;
 
 /// Files with the description of their tree.
 const TREES: &[(&[(&str, &str)], &str)] = &[

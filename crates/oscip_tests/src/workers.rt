@@ -2,7 +2,7 @@
 //! for B before B is delivered.
 ghost use Rattle.std.specs.Prelude.{◌≡◌, false, List};
 ghost use Rattle.std.specs.String.{string_bytes};
-ghost use Rattle.ob_board.specs.Seen.{file_models};
+ghost use Rattle.ob_board.specs.SourceParts.{file_models};
 ghost use Rattle.source_tree.specs.Parts.{ArePartsOfTree};
 ghost use Rattle.source_tree.specs.Trees.{ModuleFile};
 ghost use Rattle.scip_symbol.specs.Outcomes.{is_wrong_part};

@@ -1,4 +1,4 @@
--- What holds of each element that a loop has read, and what is written of them.
+-- Properties of each element that a loop has read, and the bytes that are written for the elements.
 use Rattle.std.proofs.Common.{◌≡◌, ℕ, zero, suc, ◌+◌, ◌<◌, List, [], ◌∷◌, ◌++◌, map, take, length, get_or, slice_index_or, sym, ap, ap₂, ◌∙◌, subst, append_assoc, arith}
 use Rattle.std.specs.List.{AllByRecursion}
 use Rattle.std.proofs.lemmas.Grind.{flat_map-append}
@@ -24,7 +24,7 @@ spelling_more k payload xs i d l =
     ∙ flat_map-append spelled (payload_fields k (map payload (take i xs))) (payload_field k x ∷ [])
     ∙ ap (λ (ys : List ℕ). spelled_fields (payload_fields k (map payload (take i xs))) ++ ys) (append-nil (spelled (payload_field k x)))
 
--- one payload more is written behind the others
+-- one more payload is written after the others
 pub put-more : {X : Type 0} (k : ℕ) (payload : X → List ℕ) (xs : List X) (i : ℕ) (x : X) (first out new : List ℕ) → i < length xs → x ≡ get_or xs i x
     → out ≡ first ++ spelled_fields (payload_fields k (map payload (take i xs))) → new ≡ out ++ spelled (payload_field k (payload x))
     → new ≡ first ++ spelled_fields (payload_fields k (map payload (take (i + 1) xs)))

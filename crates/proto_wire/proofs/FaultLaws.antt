@@ -1,4 +1,4 @@
--- What is said unless memory ran out.
+-- Facts that hold unless an allocation failed.
 use Rattle.std.proofs.Common.{◌≡◌, refl}
 use Rattle.proto_wire.specs.declared.fault.WireFault.{WireFault}
 use Rattle.proto_wire.specs.declared.fault.WireFault.TheVariants.{Truncated, LongVarint, Group, ZeroField, BadText, Device, Memory}

@@ -1,4 +1,4 @@
--- The fault of a text, and what one record more adds to a field.
+-- The fault of a string, and what one more record adds to a field.
 use Rattle.std.proofs.Common.{◌≡◌, ℕ, List, Option, Some, None, refl, ◌∙◌}
 use Rattle.std.specs.Str.{IsUtf8, is_utf8}
 use Rattle.std.proofs.lemmas.Bool.{false_from_ne_true, eq-eqb}

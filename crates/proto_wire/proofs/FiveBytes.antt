@@ -8,7 +8,7 @@ use Rattle.proto_wire.specs.Varints.{varint_in}
 dropped : (low high : ℕ) → (low + 128 * (high % 2 ^ 64)) % 2 ^ 64 ≡ (low + 128 * high) % 2 ^ 64
 dropped low high = omega arith
 
--- five groups of seven bits, and those above them
+-- five groups of seven bits, and the groups above them
 in_one : (a b c d e high : ℕ) → a < 128 → b < 128 → c < 128 → d < 128 → e < 128
     → (a + 128 * (b + 128 * (c + 128 * (d + 128 * (e + 128 * high))))) % 2 ^ 64 ≡ a + b * 128 % 2 ^ 64 + c * 16384 % 2 ^ 64 + d * 2097152 % 2 ^ 64 + e * 268435456 % 2 ^ 64 + high % 536870912 * 34359738368 % 2 ^ 64
 in_one a b c d e high ha hb hc hd he = omega arith
@@ -22,7 +22,7 @@ steps a b c d e high ha hb hc hd he =
 low : (b : ℕ) → b % 128 < 128
 low b = omega arith
 
--- what stands behind five bytes
+-- the bytes after the first five
 behind_five : (a b c d e : ℕ) (rest : List ℕ) → take (length (a ∷ b ∷ c ∷ d ∷ e ∷ rest) - 5) (drop 5 (a ∷ b ∷ c ∷ d ∷ e ∷ rest)) ≡ rest
 behind_five a b c d e rest = take_all (length (a ∷ b ∷ c ∷ d ∷ e ∷ rest) - 5) rest (omega arith)
 
@@ -38,7 +38,7 @@ five_wrong : (at a b c d e : ℕ) (rest : List ℕ) (fault : WireFault) → 128 
 unfolding varint_in
 five_wrong at a b c d e rest fault ha hb hc hd he found = rw (le-ltb a 128 ha, le-ltb b 128 hb, le-ltb c 128 hc, le-ltb d 128 hd, le-ltb e 128 he, found) refl
 
--- the same of the bytes of a slice
+-- the same for the bytes of a slice
 pub five_then : (at : ℕ) (bytes : List ℕ) (a b c d e high : ℕ) (after : List ℕ) → 5 ≤ length bytes
     → 128 ≤ slice_index_or bytes 0 0 → 128 ≤ slice_index_or bytes 1 0 → 128 ≤ slice_index_or bytes 2 0 → 128 ≤ slice_index_or bytes 3 0 → 128 ≤ slice_index_or bytes 4 0
     → a ≡ slice_index_or bytes 0 0 % 128 → b ≡ slice_index_or bytes 1 0 % 128 → c ≡ slice_index_or bytes 2 0 % 128 → d ≡ slice_index_or bytes 3 0 % 128 → e ≡ slice_index_or bytes 4 0 % 128

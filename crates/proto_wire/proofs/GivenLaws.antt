@@ -1,4 +1,4 @@
--- What the records of a field give, where they carry what was written.
+-- The values that the records of a field give, if the records carry what was written.
 use Rattle.std.proofs.Common.{◌≡◌, ℕ, zero, suc, ◌%◌, ◌^◌, ◌<◌, ◌≤◌, ℤ, pos, negsuc, List, [], ◌∷◌, length, Ok, refl, ap, ◌∙◌, subst, arith}
 use Rattle.std.specs.Prelude.{FitsSigned}
 use Rattle.std.specs.Int.{w32, cast_unsigned, cast_signed}
@@ -11,19 +11,19 @@ use Rattle.proto_wire.specs.Messages.{if_field, each_of, latest, number_in, numb
 use Rattle.proto_wire.specs.Packed.{int32, packed, packed_from, ArePacked, IsPackedOutcome}
 use Rattle.proto_wire.specs.Records.{PayloadRecord}
 use Rattle.proto_wire.specs.Varints.{varint, varint_in}
-use Rattle.proto_wire.specs.Writing.{CarryAll, bits_of, number_fields, text_fields, packing, packed_fields, payload_fields}
+use Rattle.proto_wire.specs.Writing.{CarryAll, sign_extended_bits, number_fields, text_fields, packing, packed_fields, payload_fields}
 use Rattle.proto_wire.proofs.VarintLaws.{varint-again, varint-some}
 use Rattle.proto_wire.proofs.PackedReadings.{packed_read}
 
-low_bits : (z : ℤ) → FitsSigned w32 z → bits_of z % 2 ^ 32 ≡ cast_unsigned w32 z
+low_bits : (z : ℤ) → FitsSigned w32 z → sign_extended_bits z % 2 ^ 32 ≡ cast_unsigned w32 z
 low_bits (pos n) fits = omega (arith, fits)
 low_bits (negsuc n) fits = omega (arith, fits)
 
 -- the low 32 bits of a number that was written are that number
-pub int32-again : (z : ℤ) → FitsSigned w32 z → int32 (bits_of z) ≡ z
+pub int32-again : (z : ℤ) → FitsSigned w32 z → int32 (sign_extended_bits z) ≡ z
 int32-again z fits = ap (cast_signed w32) (low_bits z fits) ∙ to_z-of_z w32 z fits
 
-pub bits-fit : (z : ℤ) → FitsSigned w32 z → bits_of z < 2 ^ 64
+pub bits-fit : (z : ℤ) → FitsSigned w32 z → sign_extended_bits z < 2 ^ 64
 bits-fit (pos n) fits = omega (arith, fits)
 bits-fit (negsuc n) fits = omega arith
 
@@ -38,18 +38,18 @@ packed_from-nil most at = refl
 
 packed_from-again : (most at : ℕ) (zs : List ℤ) → length (packing zs) ≤ most → AllByRecursion (FitsSigned w32) zs → packed_from most at (packing zs) ≡ Ok zs
 packed_from-again most at [] enough fits = packed_from-nil most at
-packed_from-again zero at (z ∷ zs) enough fits = absurd (omega (arith, length-append (varint (bits_of z)) (packing zs), varint-some (bits_of z)))
+packed_from-again zero at (z ∷ zs) enough fits = absurd (omega (arith, length-append (varint (sign_extended_bits z)) (packing zs), varint-some (sign_extended_bits z)))
 packed_from-again (suc most) at (z ∷ zs) enough fits =
-    let some : 0 < length (packing (z ∷ zs)) = omega (arith, length-append (varint (bits_of z)) (packing zs), varint-some (bits_of z)) in
-    let others = packed_from-again most at zs (omega (arith, length-append (varint (bits_of z)) (packing zs), varint-some (bits_of z))) fits.1 in
-    packed_from-step most at (bits_of z) (packing (z ∷ zs)) (packing zs) zs some (varint-again at (bits_of z) (packing zs) (bits-fit z fits.0)) others ∙ ap (λ (y : ℤ). Ok (y ∷ zs)) (int32-again z fits.0)
+    let some : 0 < length (packing (z ∷ zs)) = omega (arith, length-append (varint (sign_extended_bits z)) (packing zs), varint-some (sign_extended_bits z)) in
+    let others = packed_from-again most at zs (omega (arith, length-append (varint (sign_extended_bits z)) (packing zs), varint-some (sign_extended_bits z))) fits.1 in
+    packed_from-step most at (sign_extended_bits z) (packing (z ∷ zs)) (packing zs) zs some (varint-again at (sign_extended_bits z) (packing zs) (bits-fit z fits.0)) others ∙ ap (λ (y : ℤ). Ok (y ∷ zs)) (int32-again z fits.0)
 
--- packed numbers are read again
+-- packed numbers decode to the numbers
 pub packed-again : (at : ℕ) (zs : List ℤ) → AllByRecursion (FitsSigned w32) zs → packed at (packing zs) ≡ Ok zs
 unfolding packed
 packed-again at zs fits = packed_from-again (length (packing zs)) at zs (omega arith) fits
 
--- what is packed is varints in a row
+-- packed numbers are a sequence of varints
 pub packed_is : (zs : List ℤ) → AllByRecursion (FitsSigned w32) zs → ArePacked (packing zs) zs
 packed_is zs fits = subst (IsPackedOutcome 0 (packing zs)) (packed-again 0 zs fits) (packed_read 0 (packing zs))
 
@@ -72,7 +72,7 @@ each_of-nil k gives = refl
 bytes_carried : (p : PayloadRecord) (bytes : List ℕ) → (p.wire.value ≡ Bytes (length bytes)) × (p.payload ≡ bytes) → bytes_in p ≡ bytes ∷ []
 bytes_carried p bytes h = rw (h.0, h.1) refl
 
--- a text that was written is read again
+-- a string that was written decodes to the string
 pub text-given : (k : ℕ) (t : List ℕ) (ps : List PayloadRecord) → CarryAll ps (text_fields k t) → latest [] (each_of k bytes_in ps) ≡ t
 text-given k [] [] h = rw (each_of-nil k bytes_in) refl
 text-given k [] (p ∷ ps) h = absurd h
@@ -80,10 +80,10 @@ text-given k (b ∷ t) [] h = absurd h
 text-given k (b ∷ t) (p ∷ []) h = rw (each_of-one k bytes_in p (b ∷ t) h.0.number (bytes_carried p (b ∷ t) h.0.content)) refl
 text-given k (b ∷ t) (p ∷ q ∷ ps) h = absurd h.1
 
-number_carried : (p : PayloadRecord) (z : ℤ) → FitsSigned w32 z → p.wire.value ≡ Varint (bits_of z) → number_in p ≡ z ∷ []
+number_carried : (p : PayloadRecord) (z : ℤ) → FitsSigned w32 z → p.wire.value ≡ Varint (sign_extended_bits z) → number_in p ≡ z ∷ []
 number_carried p z fits h = rw h (ap (λ (y : ℤ). y ∷ []) (int32-again z fits))
 
--- a number that was written is read again
+-- a number that was written decodes to the number
 pub number-given : (k : ℕ) (z : ℤ) (ps : List PayloadRecord) → FitsSigned w32 z → CarryAll ps (number_fields k z) → latest (pos 0) (each_of k number_in ps) ≡ z
 number-given k (pos zero) [] fits h = rw (each_of-nil k number_in) refl
 number-given k (pos zero) (p ∷ ps) fits h = absurd h
@@ -97,7 +97,7 @@ number-given k (negsuc n) (p ∷ q ∷ ps) fits h = absurd h.1
 numbers_carried : (p : PayloadRecord) (zs : List ℤ) → AllByRecursion (FitsSigned w32) zs → (p.wire.value ≡ Bytes (length (packing zs))) × (p.payload ≡ packing zs) → numbers_in p ≡ zs
 numbers_carried p zs fits h = rw (h.0, h.1, packed-again p.wire.at zs fits) refl
 
--- packed numbers that were written are read again
+-- packed numbers that were written decode to the numbers
 pub packed-given : (k : ℕ) (zs : List ℤ) (ps : List PayloadRecord) → AllByRecursion (FitsSigned w32) zs → CarryAll ps (packed_fields k zs) → each_of k numbers_in ps ≡ zs
 packed-given k [] [] fits h = each_of-nil k numbers_in
 packed-given k [] (p ∷ ps) fits h = absurd h
@@ -105,7 +105,7 @@ packed-given k (z ∷ zs) [] fits h = absurd h
 packed-given k (z ∷ zs) (p ∷ []) fits h = each_of-row k numbers_in p (z ∷ zs) h.0.number (numbers_carried p (z ∷ zs) fits h.0.content)
 packed-given k (z ∷ zs) (p ∷ q ∷ ps) fits h = absurd h.1
 
--- texts that were written are read again
+-- strings that were written decode to the strings
 pub payloads-given : (k : ℕ) (ts : List (List ℕ)) (ps : List PayloadRecord) → CarryAll ps (payload_fields k ts) → each_of k bytes_in ps ≡ ts
 unfolding each_of
 payloads-given k [] [] h = refl

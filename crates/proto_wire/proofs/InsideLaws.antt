@@ -1,4 +1,4 @@
--- The records of bytes, one from the left at a time.
+-- The records of bytes, one at a time from the start.
 use Rattle.std.proofs.Common.{◌≡◌, ℕ, ℤ, ◌+◌, ◌-◌, List, [], ◌∷◌, ◌++◌, length, Option, Some, None, Result, Ok, Err, inl, inr, refl, sym, ap, ◌∙◌, subst, arith}
 use Rattle.std.specs.Prelude.{◌==◌}
 use Rattle.std.specs.Result.{result_err, result_unwrap_or}
@@ -16,7 +16,7 @@ use Rattle.proto_wire.proofs.PieceLaws.{ended}
 use Rattle.proto_wire.proofs.PieceReadings.{records_found, stop_found, pieces_read, PiecesRead, PiecesRead-cons}
 use Rattle.proto_wire.proofs.RowLaws.{IsSplit-start, IsSplit-fault}
 
--- where the first is wrong, or there is none, none is read
+-- if the first record is wrong, or there is none, no record is read
 pub none_first : (at : ℕ) (bytes : List ℕ) (fault : WireFault) → IsFirst at bytes (Err fault) → (payload_records at bytes).0 ≡ []
 unfolding payload_records
 none_first at [] fault wrong = ap (λ (found : List PayloadRecord × Option WireFault). found.0) (ended 0 at [] refl)
@@ -33,7 +33,7 @@ unfolding payload_records
 none_left at [] none = ap (λ (found : List PayloadRecord × Option WireFault). found.0) (ended 0 at [] refl)
 none_left at (b ∷ bytes) none = absurd (omega arith)
 
--- the first one, and then those behind it with their fault
+-- the first record, then the records after it with their fault
 pub first_whole : (at : ℕ) (bytes : List ℕ) (p : PayloadRecord) (after : List ℕ) → IsFirst at bytes (Ok (p, after))
     → payload_records at bytes ≡ (p ∷ (payload_records (at + (length bytes - length after)) after).0, (payload_records (at + (length bytes - length after)) after).1)
 first_whole at bytes p after h =
@@ -47,7 +47,7 @@ first_whole at bytes p after h =
 pub first_then : (at : ℕ) (bytes : List ℕ) (p : PayloadRecord) (after : List ℕ) → IsFirst at bytes (Ok (p, after)) → (payload_records at bytes).0 ≡ p ∷ (payload_records (at + (length bytes - length after)) after).0
 first_then at bytes p after h = ap (λ (x : List PayloadRecord × Option WireFault). x.0) (first_whole at bytes p after h)
 
--- what the first gives of a field, and then what the others give
+-- the values of a field in the first record, then those in the other records
 pub each_then : {X : Type 0} (k : ℕ) (gives : PayloadRecord → List X) (pieces : List PayloadRecord) (p : PayloadRecord) (others : List PayloadRecord) → pieces ≡ p ∷ others → each_of k gives pieces ≡ if_field k p.wire (gives p) ++ each_of k gives others
 unfolding each_of
 each_then k gives pieces p others e = rw e refl
@@ -56,7 +56,7 @@ pub each_none : {X : Type 0} (k : ℕ) (gives : PayloadRecord → List X) (piece
 unfolding each_of
 each_none k gives pieces e = rw e refl
 
--- the latest so far, and one record more
+-- the latest value so far, and one more record
 pub latest_then : {X : Type 0} (k : ℕ) (gives : PayloadRecord → List X) (last next : X) (pieces : List PayloadRecord) (p : PayloadRecord) (others : List PayloadRecord) → pieces ≡ p ∷ others → next ≡ latest last (if_field k p.wire (gives p))
     → latest last (each_of k gives pieces) ≡ latest next (each_of k gives others)
 latest_then {X = X} k gives last next pieces p others e n =
@@ -65,7 +65,7 @@ latest_then {X = X} k gives last next pieces p others e n =
 pub latest_none : {X : Type 0} (k : ℕ) (gives : PayloadRecord → List X) (last : X) (pieces : List PayloadRecord) → pieces ≡ [] → latest last (each_of k gives pieces) ≡ last
 latest_none k gives last pieces e = ap (latest last) (each_none k gives pieces e)
 
--- a payload that is no row of varints gives no numbers
+-- a payload that isn't a sequence of varints gives no numbers
 pub numbers_none : (k : ℕ) (p : PayloadRecord) (fault : WireFault) → field_fault k p.wire (numbers_fault p) ≡ Some fault → if_field k p.wire (numbers_in p) ≡ []
 unfolding field_fault if_field
 numbers_none k p fault e =

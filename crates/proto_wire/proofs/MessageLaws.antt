@@ -1,4 +1,4 @@
--- The first fault of a message: what the function finds is what the definition says, both ways.
+-- The first fault of a message: the function `fault_of` agrees with the relation, both ways.
 use Rattle.std.proofs.Common.{◌≡◌, ◌↔◌, ◌⊎◌, ℕ, ◌+◌, List, [], ◌∷◌, ◌++◌, length, Option, Some, None, refl, sym, ap, ◌∙◌, subst, inl, inr, append_assoc, arith}
 use Rattle.std.proofs.lemmas.List.{append-nil, length-append}
 use Rattle.proto_wire.specs.declared.fault.WireFault.{WireFault}
@@ -19,7 +19,7 @@ first_fault-nil : (inside : PayloadRecord → Option WireFault) (end : Option Wi
 unfolding first_fault
 first_fault-nil inside end = refl
 
--- records without a fault are passed over
+-- records without a fault are skipped
 pub IsClean-passes : (inside : PayloadRecord → Option WireFault) (front others : List PayloadRecord) (end : Option WireFault) → IsClean inside front → first_fault inside (front ++ others) end ≡ first_fault inside others end
 IsClean-passes inside [] others end clean = refl
 IsClean-passes inside (p ∷ front) others end clean = first_fault-pass inside p (front ++ others) end clean.0 ∙ IsClean-passes inside front others end clean.1
@@ -51,7 +51,7 @@ some_of : (first later : Option WireFault) (fault : WireFault) → first_of firs
 some_of None later fault e = inr (refl, e)
 some_of (Some other) later fault e = inl e
 
--- no fault at all
+-- there is no fault
 first_fault-none : (inside : PayloadRecord → Option WireFault) (pieces : List PayloadRecord) (end : Option WireFault) → first_fault inside pieces end ≡ None → IsClean inside pieces × (end ≡ None)
 unfolding first_fault
 first_fault-none inside [] end e = (tt, e)
@@ -60,7 +60,7 @@ first_fault-none inside (p ∷ pieces) end e =
     let others = first_fault-none inside pieces end both.1 in
     ((both.0, others.0), others.1)
 
--- where the first fault is
+-- the record of the first fault
 abbrev FaultPlace : (PayloadRecord → Option WireFault) → List PayloadRecord → Option WireFault → WireFault → Type 0
 FaultPlace inside pieces end fault =
     ((front : List PayloadRecord) × (p : PayloadRecord) × (others : List PayloadRecord) × (pieces ≡ front ++ p ∷ others) × IsClean inside front × (inside p ≡ Some fault)) ⊎ (IsClean inside pieces × (end ≡ Some fault))
@@ -77,7 +77,7 @@ first_fault-some inside (p ∷ pieces) end fault e =
       ]
     ]
 
--- records in a row reach the end of those in front
+-- a sequence of records ends where the next record begins
 AreRecords-split : (start : ℕ) (bytes : List ℕ) (front others : List PayloadRecord) → AreRecords start bytes (front ++ others) → (at : ℕ) × (rest : List ℕ) × IsSplit start bytes front at rest
 AreRecords-split start bytes [] others h = (start, bytes, record { good = []; form = refl; are_records = refl; here = omega arith })
 AreRecords-split start bytes (p ∷ front) others h =
@@ -100,7 +100,7 @@ reached : (start : ℕ) (bytes : List ℕ) (front others : List PayloadRecord) (
 reached start bytes front others None h = AreRecords-split start bytes front others h
 reached start bytes front others (Some fault) h = more_bytes start bytes h.good h.rest front h.form (AreRecords-split start h.good front others h.are_records)
 
--- a message has no fault exactly where its bytes are records without one
+-- a message has no fault exactly if its bytes are records without a fault
 pub no_fault_iff : (inside : PayloadRecord → Option WireFault) (start : ℕ) (bytes : List ℕ) → (fault_of inside start bytes ≡ None) ↔ ((pieces : List PayloadRecord) × AreRecords start bytes pieces × IsClean inside pieces)
 no_fault_iff inside start bytes = (λ e. told (payload_records start bytes).0 (payload_records start bytes).1 (pieces_read start bytes) e, λ h. fault_of-end inside start bytes h.0 None h.2 (records_found start bytes h.0 h.1))
   where
@@ -108,7 +108,7 @@ no_fault_iff inside start bytes = (λ e. told (payload_records start bytes).0 (p
     told pieces None read e = (pieces, read, (first_fault-none inside pieces None e).0)
     told pieces (Some fault) read e = let both = first_fault-none inside pieces (Some fault) e in let no : Some fault ≡ None = both.1 in absurd cc
 
--- and this one exactly where it is the first
+-- a message has this fault exactly if it is the first one
 pub first_fault_iff : (inside : PayloadRecord → Option WireFault) (start : ℕ) (bytes : List ℕ) (fault : WireFault) → (fault_of inside start bytes ≡ Some fault) ↔ IsFirstFault inside start bytes fault
 first_fault_iff inside start bytes fault = (λ e. told (payload_records start bytes).0 (payload_records start bytes).1 (pieces_read start bytes) e, found)
   where

@@ -1,5 +1,5 @@
--- What a crate of messages cites: what one more record adds to a field, and what rows of fields that were written give. They
--- speak of any type, which a clause can't.
+-- Lemmas for crates that define messages: what one more record adds to a field, and what written fields decode to. They
+-- hold for any type of message, which no contract can state.
 use Rattle.std.proofs.Common.{◌≡◌, ℕ, List, [], ◌∷◌, ◌++◌, length, map, Option, None, refl, sym, ap, ◌∙◌, append_assoc}
 use Rattle.std.specs.List.{AllByRecursion}
 use Rattle.std.proofs.lemmas.List.{append-nil}
@@ -22,7 +22,7 @@ pub latest-append : {X : Type 0} (old : X) (xs ys : List X) → latest old (xs +
 latest-append old [] ys = refl
 latest-append old (x ∷ xs) ys = latest-append x xs ys
 
--- the latest of a field, after a record more
+-- the latest value of a field, after one more record
 pub latest-push : {X : Type 0} (k : ℕ) (old : X) (gives : PayloadRecord → List X) (front : List PayloadRecord) (p : PayloadRecord) → latest old (each_of k gives (front ++ p ∷ [])) ≡ latest (latest old (each_of k gives front)) (if_field k p.wire (gives p))
 latest-push k old gives front p = ap (latest old) (each_of-push k gives front p) ∙ latest-append old (each_of k gives front) (if_field k p.wire (gives p))
 
@@ -30,18 +30,18 @@ latest-push k old gives front p = ap (latest old) (each_of-push k gives front p)
 abbrev pub HaveNumber : ℕ → List Field → Type 0
 HaveNumber j fs = AllByRecursion (λ f. f.number ≡ j) fs
 
--- fields that are written are read again, and nothing else
+-- fields that are written decode to these fields, and to nothing else
 pub pieces-again : (at : ℕ) (fs : List Field) → AllByRecursion FieldFits fs → payload_records at (spelled_fields fs) ≡ (pieces_at at fs, None)
 pieces-again at fs fits = records_found at (spelled_fields fs) (pieces_at at fs) (records_again at fs fits)
 
--- every record of a message with these bytes says this value, wherever it stands
+-- each record of a message with these bytes means this value, at whatever offset
 abbrev pub Restores : {V : Type 0} → (List PayloadRecord → V) → V → List ℕ → Type 0
 Restores of v bytes = (start : ℕ) → of (payload_records start bytes).0 ≡ v
 
 inside_carried : (p : PayloadRecord) (bytes : List ℕ) → (p.wire.value ≡ Bytes (length bytes)) × (p.payload ≡ bytes) → nested_records p ≡ (payload_records p.wire.body bytes).0 ∷ []
 inside_carried p bytes h = rw (h.0, h.1) refl
 
--- messages that were written are read again
+-- messages that were written decode to the messages
 pub messages-given : {V : Type 0} (k : ℕ) (of : List PayloadRecord → V) (written : V → List ℕ) (vs : List V) (ps : List PayloadRecord) → AllByRecursion (λ v. Restores of v (written v)) vs → CarryAll ps (payload_fields k (map written vs)) → map of (each_of k nested_records ps) ≡ vs
 unfolding each_of
 messages-given k of written [] [] restores h = refl
@@ -50,7 +50,7 @@ messages-given k of written (v ∷ vs) [] restores h = absurd h
 messages-given k of written (v ∷ vs) (p ∷ ps) restores h =
     rw (if_field-hit k p (nested_records p) h.0.number, inside_carried p (written v) h.0.content, messages-given k of written vs ps restores.1 h.1) (ap (λ x. x ∷ vs) (restores.0 p.wire.body))
 
--- fields that leave no fault in any record that carries them
+-- fields such that no record that carries them has a fault
 pub IsClean-from : (inside : PayloadRecord → Option WireFault) (ps : List PayloadRecord) (fs : List Field) → CarryAll ps fs → AllByRecursion (λ f. (p : PayloadRecord) → Carries p f → inside p ≡ None) fs → IsClean inside ps
 IsClean-from inside [] [] h none = tt
 IsClean-from inside [] (f ∷ fs) h none = absurd h

@@ -7,12 +7,12 @@ use Rattle.proto_wire.specs.Faults.{◌>>=◌}
 use Rattle.proto_wire.specs.Packed.{int32, packed_from, packed}
 use Rattle.proto_wire.specs.Varints.{varint_in}
 
--- numbers that were read before, and those that are still read
+-- numbers that were read before, and numbers that are left to read
 abbrev pub with_numbers : List ℤ → Result (List ℤ) WireFault → Result (List ℤ) WireFault
 with_numbers front (Ok xs) = Ok (front ++ xs)
 with_numbers front (Err fault) = Err fault
 
--- these numbers are read, and then reading goes on here
+-- these numbers are read, and reading continues here
 pub record Counts (at : ℕ) (payload : List ℕ) (front : List ℤ) (rest : List ℕ) : Type 0 where
   pub most : ℕ
   pub enough : length rest ≤ most

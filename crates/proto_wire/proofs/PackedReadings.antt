@@ -1,4 +1,4 @@
--- Packed numbers: what the function finds is what the definitions say, both ways.
+-- Packed numbers: the function `packed` agrees with the relation, both ways.
 use Rattle.std.proofs.Common.{◌≡◌, ◌↔◌, ℕ, zero, suc, ◌+◌, ◌<◌, ◌≤◌, ℤ, List, [], ◌∷◌, ◌++◌, length, Some, None, Result, Ok, Err, refl, sym, ap, ◌∙◌, subst, append_assoc, arith}
 use Rattle.std.specs.Result.{result_err, result_unwrap_or}
 use Rattle.std.proofs.lemmas.List.{length-append, append-nil}
@@ -86,7 +86,7 @@ packed_from-read most at [] enough = refl
 packed_from-read zero at (b ∷ bytes) enough = absurd (omega arith)
 packed_from-read (suc most) at (b ∷ bytes) enough = first_read most at b bytes (varint_in 10 at (b ∷ bytes)) (varint_read at (b ∷ bytes)) (omega arith) (λ rest short. packed_from-read most at rest short)
 
--- what the function gives is what the payload is
+-- the result of the function is the outcome of the payload
 pub packed_read : (at : ℕ) (payload : List ℕ) → IsPackedOutcome at payload (packed at payload)
 unfolding packed
 packed_read at payload = packed_from-read (length payload) at payload (omega arith)
@@ -94,7 +94,7 @@ packed_read at payload = packed_from-read (length payload) at payload (omega ari
 pub one_packed_outcome : (at : ℕ) (payload : List ℕ) (o p : Result (List ℤ) WireFault) → IsPackedOutcome at payload o → IsPackedOutcome at payload p → o ≡ p
 one_packed_outcome at payload o p h g = sym (outcome_found at payload o h) ∙ outcome_found at payload p g
 
--- a fault of the reading is the payload's
+-- a fault that the function returns is the payload's
 pub fault_told : (at : ℕ) (payload : List ℕ) (fault : WireFault) → result_err (packed at payload) ≡ Some fault → IsPackedOutcome at payload (Err fault)
 fault_told at payload fault e = subst (IsPackedOutcome at payload) (is_err (packed at payload) fault e) (packed_read at payload)
   where
@@ -102,7 +102,7 @@ fault_told at payload fault e = subst (IsPackedOutcome at payload) (is_err (pack
     is_err (Ok zs) why e = absurd cc
     is_err (Err other) why e = ap (λ (f : WireFault). Err f) cc
 
--- the numbers of a reading without a fault, put behind none, are the payload's
+-- the numbers that the function returns, appended to none, are the payload's
 pub numbers_told : (at : ℕ) (payload : List ℕ) (none numbers : List ℤ) → none ≡ [] → result_err (packed at payload) ≡ None → numbers ≡ none ++ result_unwrap_or (packed at payload) [] → IsPackedOutcome at payload (Ok numbers)
 numbers_told at payload none numbers start clean e = subst (IsPackedOutcome at payload) (is_ok (packed at payload) clean (e ∙ ap (λ (zs : List ℤ). zs ++ result_unwrap_or (packed at payload) []) start)) (packed_read at payload)
   where
@@ -110,6 +110,6 @@ numbers_told at payload none numbers start clean e = subst (IsPackedOutcome at p
     is_ok (Ok zs) clean e = ap (λ (xs : List ℤ). Ok xs) (sym e)
     is_ok (Err fault) clean e = absurd cc
 
--- the function gives exactly what the payload is
+-- the function returns exactly the outcome of the payload
 pub packed_iff : (at : ℕ) (payload : List ℕ) (o : Result (List ℤ) WireFault) → (packed at payload ≡ o) ↔ IsPackedOutcome at payload o
 packed_iff at payload o = (λ e. subst (IsPackedOutcome at payload) e (packed_read at payload), outcome_found at payload o)

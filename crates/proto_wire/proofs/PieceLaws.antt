@@ -4,7 +4,7 @@ use Rattle.proto_wire.specs.declared.fault.WireFault.{WireFault}
 use Rattle.proto_wire.specs.Readings.{record_in, payload_records_from}
 use Rattle.proto_wire.specs.Records.{PayloadRecord}
 
--- what was read before, and what is still read
+-- records that were read before, and records that are left to read
 abbrev pub with_front : List PayloadRecord → List PayloadRecord × Option WireFault → List PayloadRecord × Option WireFault
 with_front front found = (front ++ found.0, found.1)
 

@@ -1,4 +1,4 @@
--- Records in a row: what the function finds is what the definitions say, both ways.
+-- Sequences of records: the function `payload_records` agrees with the relations, both ways.
 use Rattle.std.proofs.Common.{◌≡◌, ◌↔◌, ℕ, zero, suc, ◌+◌, ◌-◌, ◌<◌, ◌≤◌, List, [], ◌∷◌, ◌++◌, length, map, Option, Some, None, Result, Ok, Err, refl, sym, ap, ◌∙◌, subst, append_assoc, arith}
 use Rattle.std.proofs.lemmas.List.{length-append, append-nil}
 use Rattle.proto_wire.specs.declared.fault.WireFault.{WireFault}
@@ -45,14 +45,14 @@ front_found most at good rest (p ∷ ps) h enough = go most enough (λ n short. 
               ∙ ap (λ (here : ℕ). with_front (p ∷ ps) (payload_records_from others.0 here rest)) end,
         )
 
--- records in a row are found
+-- a sequence of records is found
 pub records_found : (at : ℕ) (bytes : List ℕ) (pieces : List PayloadRecord) → AreRecords at bytes pieces → payload_records at bytes ≡ (pieces, None)
 unfolding payload_records
 records_found at bytes pieces h =
     let found = front_found (length bytes) at bytes [] pieces h (omega (arith, length-append bytes [])) in
     ap (payload_records_from (length bytes) at) (sym (append-nil bytes)) ∙ found.2 ∙ ap (with_front pieces) (ended found.0 (at + length bytes) [] refl) ∙ ap (λ (ps : List PayloadRecord). (ps, None)) (append-nil pieces)
 
--- the fault that stops records is found, with those in front of it
+-- the fault that stops a sequence of records is found, with the records before it
 pub stop_found : (at : ℕ) (bytes : List ℕ) (before : List PayloadRecord) (fault : WireFault) → IsStopped at bytes before fault → payload_records at bytes ≡ (before, Some fault)
 unfolding payload_records
 stop_found at bytes before fault s =
@@ -60,7 +60,7 @@ stop_found at bytes before fault s =
     ap (payload_records_from (length bytes) at) s.form ∙ found.2 ∙ ap (with_front before) (faulty found.0 (at + length s.good) s.rest fault found.1 s.some (wrong_found (at + length s.good) s.rest fault s.is_wrong))
     ∙ ap (λ (ps : List PayloadRecord). (ps, Some fault)) (append-nil before)
 
--- what a reading of records says of the bytes
+-- what the result of reading records implies for the bytes
 abbrev pub PiecesRead : ℕ → List ℕ → List PayloadRecord → Option WireFault → Type 0
 PiecesRead at bytes pieces None = AreRecords at bytes pieces
 PiecesRead at bytes pieces (Some fault) = IsStopped at bytes pieces fault
@@ -110,7 +110,7 @@ pieces_read at bytes = payload_records_from-read (length bytes) at bytes (omega 
 read_at : (at : ℕ) (bytes : List ℕ) (pieces : List PayloadRecord) (end : Option WireFault) → payload_records at bytes ≡ (pieces, end) → PiecesRead at bytes pieces end
 read_at at bytes pieces end e = subst (λ (found : List PayloadRecord × Option WireFault). PiecesRead at bytes found.0 found.1) e (pieces_read at bytes)
 
--- the function gives what stands in front and then reads on
+-- the function returns the first record and reads on
 pub reach_found : (start : ℕ) (bytes : List ℕ) (front : List PayloadRecord) (at : ℕ) (rest : List ℕ) → IsSplit start bytes front at rest
     → (most : ℕ) × (payload_records start bytes ≡ with_front front (payload_records_from most at rest))
 unfolding payload_records
@@ -137,10 +137,10 @@ outcome_found bytes (Err fault) h = rw (stop_found 0 bytes h.0 fault h.1) refl
 pub one_outcome : (bytes : List ℕ) (o p : Result (List WireRecord) WireFault) → IsOutcome bytes o → IsOutcome bytes p → o ≡ p
 one_outcome bytes o p h g = sym (outcome_found bytes o h) ∙ outcome_found bytes p g
 
--- the function gives exactly the records in a row
+-- the function returns exactly the sequence of records
 pub records_iff : (at : ℕ) (bytes : List ℕ) (pieces : List PayloadRecord) → (payload_records at bytes ≡ (pieces, None)) ↔ AreRecords at bytes pieces
 records_iff at bytes pieces = (read_at at bytes pieces None, records_found at bytes pieces)
 
--- and exactly what stops them
+-- the function returns exactly the fault that stops the records
 pub stopped_iff : (at : ℕ) (bytes : List ℕ) (before : List PayloadRecord) (fault : WireFault) → (payload_records at bytes ≡ (before, Some fault)) ↔ IsStopped at bytes before fault
 stopped_iff at bytes before fault = (read_at at bytes before (Some fault), stop_found at bytes before fault)

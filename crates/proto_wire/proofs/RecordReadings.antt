@@ -1,4 +1,4 @@
--- The record in front: what the function finds is what the definition says, both ways.
+-- The first record: the function `record_in` agrees with the relation, both ways.
 use Rattle.std.proofs.Common.{◌≡◌, ◌↔◌, ℕ, ◌+◌, ◌-◌, ◌*◌, ◌/◌, ◌%◌, ◌<◌, ◌≤◌, true, false, List, [], ◌++◌, length, take, drop, Result, Ok, Err, refl, sym, ap, ◌∙◌, subst, inl, inr, append_assoc, arith, if◌then◌else◌, ◌⊎◌, nat_lt, nat_le}
 use Rattle.std.proofs.lemmas.Bool.{cases_Bool, cases_eq, cases_lt, eq-eqb, ne_eqb, lt-ltb, le-ltb, le-leb, lt-leb, ltb-true, leb-true, leb-false, ltb-false, and_parts, and_cases, and_left, and_right}
 use Rattle.std.proofs.lemmas.List.{length-append, take_at, drop_at, take-append-drop, length-take-le}
@@ -34,7 +34,7 @@ no_field_from n e =
 behind : (first rest : List ℕ) → length (first ++ rest) - length rest ≡ length first
 behind first rest = omega (arith, length-append first rest)
 
--- behind a key its value is read
+-- after a key its value is read
 key_found : (at : ℕ) (key rest : List ℕ) (field kind : ℕ) → IsKey key field kind → record_in at (key ++ rest) ≡ value_in kind field (at) (at + length key) rest
 unfolding record_in
 key_found at key rest field kind k =
@@ -266,7 +266,7 @@ pub record_read : (at : ℕ) (bytes : List ℕ) → IsFirst at bytes (record_in 
 unfolding record_in
 record_read at bytes = behind_key at bytes (varint_in 10 at bytes) (varint_read at bytes)
 
--- the function gives exactly what stands in front
+-- the function returns exactly the outcome for the first record
 pub first_iff : (at : ℕ) (bytes : List ℕ) (o : Result (PayloadRecord × List ℕ) WireFault) → (record_in at bytes ≡ o) ↔ IsFirst at bytes o
 first_iff at bytes o = (λ e. subst (IsFirst at bytes) e (record_read at bytes), first_found at bytes o)
   where
@@ -274,7 +274,7 @@ first_iff at bytes o = (λ e. subst (IsFirst at bytes) e (record_read at bytes),
     first_found at bytes (Ok x) h = ap (record_in at) h.1 ∙ record_found at h.0 x.1 x.0 h.2
     first_found at bytes (Err fault) h = wrong_found at bytes fault h
 
--- an answer that the function gives is what stands in front
+-- a result of the function is the outcome for the first record
 pub first_told : {X : Type 0} (view : X → PayloadRecord × List ℕ) (at : ℕ) (bytes : List ℕ) (result : Result X WireFault) → Gives view result (record_in at bytes) → Shows view result (IsFirst at bytes)
 first_told view at bytes (Ok x) e = (first_iff at bytes (Ok (view x))).0 e
 first_told view at bytes (Err fault) e = (first_iff at bytes (Err fault)).0 e

@@ -1,4 +1,4 @@
--- Records in front, one more at a time, as a loop reads them.
+-- A sequence of records with one more record, as a loop reads it.
 use Rattle.std.proofs.Common.{◌≡◌, ℕ, ◌+◌, ◌-◌, ◌<◌, List, [], ◌∷◌, ◌++◌, length, Ok, Err, refl, sym, ap, ◌∙◌, subst, append_assoc, arith}
 use Rattle.std.proofs.lemmas.List.{append-nil, length-append}
 use Rattle.proto_wire.specs.declared.fault.WireFault.{WireFault}
@@ -7,7 +7,7 @@ use Rattle.proto_wire.specs.Records.{PayloadRecord, IsRecord, AreRecords, IsFirs
 pub IsSplit-start : (start : ℕ) (bytes : List ℕ) → IsSplit start bytes [] start bytes
 IsSplit-start start bytes = record { good = []; form = refl; are_records = refl; here = omega arith }
 
--- records, and one more
+-- records, and one more record
 AreRecords-push : (at : ℕ) (good first : List ℕ) (front : List PayloadRecord) (p : PayloadRecord) → AreRecords at good front → IsRecord (at + length good) first p → AreRecords at (good ++ first) (front ++ p ∷ [])
 AreRecords-push at good first [] p h r =
     let place : at + length good ≡ at = omega (arith, ap length h) in

@@ -34,7 +34,7 @@ short_payload at k n rest some l e m enough = (
   record { kind = 2; key = k ∷ []; size = n ∷ []; content = take n rest; form = refl; is_key = short_key k 2 some l e; is_value = (refl, one_byte n m, length-take-le n rest enough, refl); at_key = refl; at_body = omega arith },
 )
 
--- bytes without a length, the first of which stands behind the key
+-- bytes without a length prefix, the first of which follows the key
 short_fixed : (at k n more kind : ℕ) (value : WireValue) (rest : List ℕ) → 8 ≤ k → k < 128 → k % 8 ≡ kind → IsValue value kind [] (n ∷ take more rest) []
     → IsFirst at (k ∷ n ∷ rest) (Ok (piece (k / 8) value at (at + 1) [], drop more rest))
 short_fixed at k n more kind value rest some l e is = (
@@ -43,11 +43,11 @@ short_fixed at k n more kind value rest some l e is = (
   record { kind = kind; key = k ∷ []; size = []; content = n ∷ take more rest; form = refl; is_key = short_key k kind some l e; is_value = is; at_key = refl; at_body = omega arith },
 )
 
--- what stands behind two bytes
+-- the bytes after the first two
 behind_two : (k n : ℕ) (rest : List ℕ) → take (length (k ∷ n ∷ rest) - 2) (drop 2 (k ∷ n ∷ rest)) ≡ rest
 behind_two k n rest = take_all (length (k ∷ n ∷ rest) - 2) rest (omega arith)
 
--- the same of the bytes of a slice
+-- the same for the bytes of a slice
 pub number_in_front : (at : ℕ) (bytes : List ℕ) (field next : ℕ) → 2 ≤ length bytes → 8 ≤ slice_index_or bytes 0 0 → slice_index_or bytes 0 0 < 128 → slice_index_or bytes 0 0 % 8 ≡ 0 → slice_index_or bytes 1 0 < 128
     → field ≡ slice_index_or bytes 0 0 / 8 → next ≡ slice_index_or bytes 1 0 → IsFirst at bytes (Ok (piece field (Varint next) at (at + 1) [], take (length bytes - 2) (drop 2 bytes)))
 number_in_front at [] field next two some l e m f g = absurd (omega (arith, two))

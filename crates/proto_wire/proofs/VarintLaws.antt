@@ -1,4 +1,4 @@
--- The shortest form step by step, and that it is read again.
+-- The minimal varint, byte by byte, and that it decodes to its number.
 use Rattle.std.proofs.Common.{◌≡◌, ℕ, zero, suc, ◌+◌, ◌*◌, ◌/◌, ◌%◌, ◌^◌, ◌<◌, ◌≤◌, List, [], ◌∷◌, ◌++◌, length, Ok, refl, ap, ◌∙◌, inl, inr, arith}
 use Rattle.std.proofs.Math.Nat.{pow-suc}
 use Rattle.std.proofs.lemmas.Bool.{cases_lt, lt-ltb, le-ltb}
@@ -37,7 +37,7 @@ groups-large : (n : ℕ) → 128 ≤ n → groups 10 n ≡ (n % 128 + 128) ∷ g
 unfolding groups
 groups-large n le = rw (le-ltb n 128 le) refl
 
--- another begins with its lowest seven bits
+-- the varint of another number begins with its lowest seven bits
 pub varint-large : (n : ℕ) → 128 ≤ n → n < 2 ^ 64 → varint n ≡ (n % 128 + 128) ∷ varint (n / 128)
 unfolding varint
 varint-large n le fits = groups-large n le ∙ ap (λ (bytes : List ℕ). (n % 128 + 128) ∷ bytes) (groups-same 8 9 (n / 128) (below_more n fits) (below_all n fits))
@@ -57,7 +57,7 @@ groups-again (suc k) at n rest h fits =
 within : (n : ℕ) → n < 2 ^ 64 → n < 128 ^ 10
 within n h = omega arith
 
--- what is written is read again, whatever follows it
+-- the varint of a number decodes to the number, whatever follows it
 pub varint-again : (at n : ℕ) (rest : List ℕ) → n < 2 ^ 64 → varint_in 10 at (varint n ++ rest) ≡ Ok (n, rest)
 unfolding varint
 varint-again at n rest fits = groups-again 9 at n rest (within n fits) fits
@@ -88,7 +88,7 @@ value_below (b ∷ bytes) = rw (pow-suc 128 (length bytes)) (higher (b % 128) (v
     higher : (low high p : ℕ) → low < 128 → high < p → low + 128 * high < p * 128
     higher low high p h g = omega arith
 
--- no varint of a number is shorter than what is written
+-- no varint of a number is shorter than the minimal one
 pub varint-shortest : (n : ℕ) (bytes : List ℕ) → IsVarint bytes n → length (varint n) ≤ length bytes
 unfolding varint
 varint-shortest n bytes v = go (length bytes) (omega (arith, ap length v.form, length-append v.more (v.last ∷ []))) (value_below bytes)

@@ -1,4 +1,4 @@
--- The varint in front: what the function finds is what the definition says, both ways.
+-- The first varint: the function `varint_in` agrees with the relation, both ways.
 use Rattle.std.proofs.Common.{◌≡◌, ℕ, zero, suc, ◌+◌, ◌*◌, ◌%◌, ◌^◌, ◌<◌, ◌≤◌, List, [], ◌∷◌, ◌++◌, length, Result, Ok, Err, refl, ap, ◌∙◌, inl, inr, arith}
 use Rattle.std.proofs.lemmas.Bool.{cases_lt, lt-ltb, le-ltb}
 use Rattle.std.proofs.lemmas.List.{length-append}
@@ -56,7 +56,7 @@ no_varint_found at bytes (BadText place) h = absurd h
 no_varint_found at bytes Device h = absurd h
 no_varint_found at bytes Memory h = absurd h
 
--- a varint of at most so many bytes stands in front of the rest
+-- the rest follows a varint of at most this many bytes
 record StandsIn (most : ℕ) (bytes : List ℕ) (n : ℕ) (rest : List ℕ) : Type 0 where
   more : List ℕ
   last : ℕ
@@ -66,7 +66,7 @@ record StandsIn (most : ℕ) (bytes : List ℕ) (n : ℕ) (rest : List ℕ) : Ty
   short : length more < most
   value : n ≡ value_of (more ++ last ∷ []) % 2 ^ 64
 
--- what was found in at most so many bytes
+-- what was found in at most this many bytes
 abbrev Found : ℕ → ℕ → List ℕ → Result (ℕ × List ℕ) WireFault → Type 0
 Found most at bytes (Ok x) = StandsIn most bytes x.0 x.1
 Found most at bytes (Err (Truncated place)) = (place ≡ at) × GoOn bytes × (length bytes < most)
@@ -106,7 +106,7 @@ found (suc most) at (b ∷ bytes) =
       | inr le ↦ rw (le-ltb b 128 le) (further most at b bytes le (varint_in most at bytes) (found most at bytes))
     ]
 
--- what a reading of one varint says of the bytes
+-- what the result for one varint implies for the bytes
 abbrev pub VarintRead : ℕ → List ℕ → Result (ℕ × List ℕ) WireFault → Type 0
 VarintRead at bytes (Ok x) = (first : List ℕ) × (bytes ≡ first ++ x.1) × IsVarint first x.0
 VarintRead at bytes (Err fault) = IsNoVarint at bytes fault
@@ -135,7 +135,7 @@ varint_bytes bytes n v = omega (arith, ap length v.form, length-append v.more (v
 same_reading : (reading : Result (ℕ × List ℕ) WireFault) (x y : ℕ × List ℕ) → reading ≡ Ok x → reading ≡ Ok y → x ≡ y
 same_reading reading x y p q = cc
 
--- at most one varint stands in front
+-- bytes begin with at most one varint
 pub one_varint : (first rest other after : List ℕ) (n m : ℕ) → IsVarint first n → IsVarint other m → first ++ rest ≡ other ++ after → (n ≡ m) × (rest ≡ after)
 one_varint first rest other after n m v w e =
     let pair = same_reading (varint_in 10 0 (first ++ rest)) (n, rest) (m, after) (varint_found 0 first rest n v) (ap (varint_in 10 0) e ∙ varint_found 0 other after m w) in

@@ -1,4 +1,4 @@
--- What is written is read again, record by record.
+-- What is written decodes to itself, record by record.
 use Rattle.std.proofs.Common.{◌≡◌, ℕ, ◌+◌, ◌*◌, ◌^◌, ◌<◌, List, [], ◌∷◌, ◌++◌, length, Ok, refl, sym, ◌∙◌, subst, append_assoc, arith}
 use Rattle.std.specs.List.{AllByRecursion}
 use Rattle.std.proofs.lemmas.List.{append-nil, length-append}
@@ -10,7 +10,7 @@ use Rattle.proto_wire.proofs.VarintLaws.{varint-again}
 use Rattle.proto_wire.proofs.VarintReadings.{VarintRead, varint_read}
 use Rattle.proto_wire.proofs.RecordReadings.{record_found}
 
--- what is written of a number is a varint of it
+-- the bytes that are written for a number are a varint of it
 pub varint_is : (n : ℕ) → n < 2 ^ 64 → IsVarint (varint n) n
 varint_is n fits =
     let read = subst (VarintRead 0 (varint n ++ [])) (varint-again 0 n [] fits) (varint_read 0 (varint n ++ [])) in
@@ -49,16 +49,16 @@ record_again at f fits = go f.number f.content fits.is_field fits.content
       at_body = omega (arith, length-append (key_of k 2) (varint (length bytes)));
     }
 
--- and is read again, whatever follows it
+-- the record is read from its bytes, whatever follows them
 pub record-again : (at : ℕ) (f : Field) (rest : List ℕ) → FieldFits f → record_in at (spelled f ++ rest) ≡ Ok (piece_at at f, rest)
 record-again at f rest fits = record_found at (spelled f) rest (piece_at at f) (record_again at f fits)
 
--- fields that are written are records in a row
+-- fields that are written are a sequence of records
 pub records_again : (at : ℕ) (fs : List Field) → AllByRecursion FieldFits fs → AreRecords at (spelled_fields fs) (pieces_at at fs)
 records_again at [] fits = refl
 records_again at (f ∷ fs) fits = (spelled f, spelled_fields fs, refl, record_again at f fits.0, records_again (at + length (spelled f)) fs fits.1)
 
--- each of them carries its field
+-- each record carries its field
 pub carry_again : (at : ℕ) (fs : List Field) → CarryAll (pieces_at at fs) fs
 carry_again at [] = tt
 carry_again at (f ∷ fs) = (go f.number f.content, carry_again (at + length (spelled f)) fs)

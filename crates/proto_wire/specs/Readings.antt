@@ -1,4 +1,4 @@
--- The records of bytes as a function of the bytes, with the first fault. `AreRecords` and `IsStopped` state the same as relations.
+-- The records of bytes as a function of the bytes, with the first fault. `AreRecords` and `IsStopped` are the corresponding relations.
 use Rattle.std.specs.Prelude.{ℕ, zero, suc, ◌+◌, ◌-◌, ◌/◌, ◌%◌, ◌==◌, ◌&&◌, Bool, nat_lt, nat_le, List, [], ◌∷◌, length, take, drop, Option, Some, None, Result, Ok, Err, if◌then◌else◌}
 use Rattle.std.specs.Borrow.{Bor}
 use Rattle.proto_wire.specs.declared.fault.WireFault.{WireFault}

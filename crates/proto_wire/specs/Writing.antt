@@ -83,14 +83,14 @@ CarryAll (p ∷ ps) [] = ⊥
 CarryAll (p ∷ ps) (f ∷ fs) = Carries p f × CarryAll ps fs
 
 -- the 64 bits that encode a signed number; a negative one takes ten bytes
-abbrev pub bits_of : ℤ → ℕ
-bits_of z = cast_unsigned w64 z
+abbrev pub sign_extended_bits : ℤ → ℕ
+sign_extended_bits z = cast_unsigned w64 z
 
 -- the fields for a number: none if it is 0
 abbrev pub number_fields : ℕ → ℤ → List Field
 number_fields k (pos zero) = []
-number_fields k (pos (suc n)) = number_field k (bits_of (pos (suc n))) ∷ []
-number_fields k (negsuc n) = number_field k (bits_of (negsuc n)) ∷ []
+number_fields k (pos (suc n)) = number_field k (sign_extended_bits (pos (suc n))) ∷ []
+number_fields k (negsuc n) = number_field k (sign_extended_bits (negsuc n)) ∷ []
 
 -- the fields for a string: none if it is empty
 abbrev pub text_fields : ℕ → List ℕ → List Field
@@ -99,7 +99,7 @@ text_fields k (b ∷ bytes) = payload_field k (b ∷ bytes) ∷ []
 
 -- the payload of packed numbers: a varint for each
 abbrev pub packing : List ℤ → List ℕ
-packing zs = flat_map (λ z. varint (bits_of z)) zs
+packing zs = flat_map (λ z. varint (sign_extended_bits z)) zs
 
 -- the fields for packed numbers: none if there are no numbers
 abbrev pub packed_fields : ℕ → List ℤ → List Field

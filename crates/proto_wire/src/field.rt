@@ -20,7 +20,7 @@ pub(crate) fn int32(number: u64) -> i32
 }
 
 /// Appends the numbers of a packed payload, whose record's key is at offset `at`. After an error some numbers may be appended.
-fn push_packed(numbers: &mut Vec<i32>, payload: &[u8], at: usize) -> Result<(), WireFault>
+fn append_unpacked(numbers: &mut Vec<i32>, payload: &[u8], at: usize) -> Result<(), WireFault>
     ensures clean { OnOk result (result_err (packed at payload.now) ≡ None) }
     ensures numbers { OnOk result (numbers.new.items ≡ numbers.old.items ++ result_unwrap_or (packed at payload.now) []) }
     ensures err { IfErr result (λ e. Stops e (result_err (packed at payload.now))) }
@@ -37,7 +37,7 @@ fn push_packed(numbers: &mut Vec<i32>, payload: &[u8], at: usize) -> Result<(), 
 
 /// Decodes a packed payload whose record's key is at offset `at` (Protocol Buffers encoding, "Packed Repeated Fields"). A number is the low
 /// 32 bits of a varint.
-/// Fails with `Truncated` or `LongVarint`, with that offset, and with `Memory` if an allocation fails.
+/// Fails with `Truncated` or `LongVarint`, with the offset `at`, and with `Memory` if an allocation fails.
 pub fn packed_values(alloc: Global, payload: &[u8], at: usize) -> Result<Vec<i32>, WireFault>
     // The result is the list of numbers of the payload, or the fault of its first wrong varint, or `Memory`.
     ensures exact { HasOutcome (λ v. v.items) result (IsPackedOutcome at payload.now) }
@@ -45,7 +45,7 @@ pub fn packed_values(alloc: Global, payload: &[u8], at: usize) -> Result<Vec<i32
     ensures only { (o : Result (List ℤ) WireFault) → IsPackedOutcome at payload.now o → HasOutcome (λ v. v.items) result (λ p. p ≡ o) }
 {
     let mut numbers = Vec::new(alloc);
-    push_packed(&mut numbers, payload, at)?;
+    append_unpacked(&mut numbers, payload, at)?;
     Ok(numbers)
 }
 
@@ -76,12 +76,12 @@ pub fn take_numbers(
             numbers.push(int32(number))?;
             Ok(())
         }
-        WireValue::Bytes(_) => push_packed(numbers, payload, wire.at),
+        WireValue::Bytes(_) => append_unpacked(numbers, payload, wire.at),
         WireValue::Eight | WireValue::Four => Ok(()),
     }
 }
 
-/// Validates a packed payload, and fails as `push_packed` does. Stores no number.
+/// Validates a packed payload, and fails as `append_unpacked` does. Stores no number.
 fn check_packed(payload: &[u8], at: usize) -> Result<(), WireFault>
     ensures clean { OnOk result (result_err (packed at payload.now) ≡ None) }
     ensures err { IfErr result (λ e. result_err (packed at payload.now) ≡ Some e) }
@@ -129,7 +129,7 @@ fn is_memory(fault: WireFault) -> bool
 /// Appends the numbers of the record, as `take_numbers` does, but none of a payload that isn't a sequence of varints.
 /// Fails with `AllocError` if an allocation fails. Some numbers may then be appended.
 #[tactic(auto, unfolding(crate::specs::Messages::if_field))]
-pub(crate) fn push_field_numbers(
+pub(crate) fn append_field_numbers(
     field: u32,
     numbers: &mut Vec<i32>,
     wire: &WireRecord,

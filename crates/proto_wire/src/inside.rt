@@ -6,8 +6,8 @@ ghost use Rattle.std.specs.Int.{w32};
 ghost use Rattle.proto_wire.specs.MessageBytes.{records_of, IsRecordBefore};
 ghost use Rattle.proto_wire.specs.Messages.{bytes_in, each_of, if_field, latest, value_number, number_in, numbers_in, payload_record, nested_records};
 
-use crate::field::{int32, push_field_numbers};
-use crate::record::{WireRecord, WireValue, compact_record, read_record};
+use crate::field::{append_field_numbers, int32};
+use crate::record::{WireRecord, WireValue, read_compact_record, read_record};
 use std::alloc::AllocError;
 
 /// The bytes of a message, and the offset of the first byte in the whole input.
@@ -44,7 +44,7 @@ fn next_record<'a>(rest: &mut MessageBytes<'a>) -> Option<(WireRecord, &'a [u8])
 /// have this form. Returns the record with its payload, or `None` for any other record.
 /// A caller that expects certain records needs no loop over other forms.
 #[inline(always)]
-pub fn next_compact<'a>(rest: &mut MessageBytes<'a>) -> Option<(WireRecord, &'a [u8])>
+pub fn next_compact_record<'a>(rest: &mut MessageBytes<'a>) -> Option<(WireRecord, &'a [u8])>
     // Offsets fit 64 bits.
     requires { rest.old.start + length rest.old.bytes.now < 2 ^ 64 }
     // The result is the first record, and the rest has the other records and their fault.
@@ -52,7 +52,7 @@ pub fn next_compact<'a>(rest: &mut MessageBytes<'a>) -> Option<(WireRecord, &'a 
     // The end of the rest is unchanged.
     ensures within { rest.new.start + length rest.new.bytes.now ≡ rest.old.start + length rest.old.bytes.now }
 {
-    let (wire, payload, after) = compact_record(rest.start, rest.bytes)?;
+    let (wire, payload, after) = read_compact_record(rest.start, rest.bytes)?;
     rest.start += rest.bytes.len() - after.len();
     rest.bytes = after;
     Some((wire, payload))
@@ -60,7 +60,7 @@ pub fn next_compact<'a>(rest: &mut MessageBytes<'a>) -> Option<(WireRecord, &'a 
 
 /// The bytes of the message in a record, if the record is of this field.
 #[tactic(auto, unfolding(crate::specs::Messages::if_field))]
-fn message_of<'a>(field: u32, wire: &WireRecord, payload: &'a [u8]) -> Option<MessageBytes<'a>>
+fn nested_message<'a>(field: u32, wire: &WireRecord, payload: &'a [u8]) -> Option<MessageBytes<'a>>
     ensures none { IfNone result (if_field field wire.now (nested_records (payload_record wire.now payload.now)) ≡ []) }
     ensures some { IfSome result (λ m. if_field field wire.now (nested_records (payload_record wire.now payload.now)) ≡ records_of m ∷ []) }
     ensures here { IfSome result (λ m. m.start + length m.bytes.now ≡ wire.now.body + length payload.now) }
@@ -79,7 +79,7 @@ fn message_of<'a>(field: u32, wire: &WireRecord, payload: &'a [u8]) -> Option<Me
 
 /// The payload of a record, if the record is of this field and has one, and otherwise `last`.
 #[tactic(auto, unfolding(crate::specs::Messages::if_field))]
-fn later_bytes<'a>(field: u32, last: &'a [u8], wire: &WireRecord, payload: &'a [u8]) -> &'a [u8]
+fn bytes_or_last<'a>(field: u32, last: &'a [u8], wire: &WireRecord, payload: &'a [u8]) -> &'a [u8]
     ensures { result.now ≡ latest last.now (if_field field wire.now (bytes_in (payload_record wire.now payload.now))) }
 {
     if wire.field != field {
@@ -93,7 +93,7 @@ fn later_bytes<'a>(field: u32, last: &'a [u8], wire: &WireRecord, payload: &'a [
 
 /// The number of a record, if the record is of this field and has one, and otherwise `last`.
 #[tactic(auto, unfolding(crate::specs::Messages::if_field))]
-fn later_number(field: u32, last: i32, wire: &WireRecord) -> i32
+fn number_or_last(field: u32, last: i32, wire: &WireRecord) -> i32
     ensures exact { result ≡ latest last (if_field field wire.now (value_number wire.now.value)) }
     ensures fits { FitsSigned w32 result }
 {
@@ -122,7 +122,7 @@ pub fn next_message<'a>(field: u32, rest: &mut MessageBytes<'a>) -> Option<Messa
     ensures inside { IfSome result (λ m. m.start + length m.bytes.now ≤ rest.old.start + length rest.old.bytes.now) }
 {
     while let Some((wire, payload)) = next_record(rest) {
-        if let Some(message) = message_of(field, &wire, payload) {
+        if let Some(message) = nested_message(field, &wire, payload) {
             return Some(message);
         }
     }
@@ -131,7 +131,7 @@ pub fn next_message<'a>(field: u32, rest: &mut MessageBytes<'a>) -> Option<Messa
 
 /// Returns the next message of this field, as `next_message` does, and the last payload of another field in the records that are removed,
 /// or `before` if there is none.
-/// One pass replaces two. At the end the payload is the last one of the whole rest.
+/// One pass replaces two. Without a further message the payload is the last one of the whole rest.
 pub fn next_message_with_bytes<'a>(
     field: u32,
     bytes_field: u32,
@@ -157,8 +157,8 @@ pub fn next_message_with_bytes<'a>(
 {
     let mut last = before;
     while let Some((wire, payload)) = next_record(rest) {
-        last = later_bytes(bytes_field, last, &wire, payload);
-        if let Some(message) = message_of(field, &wire, payload) {
+        last = bytes_or_last(bytes_field, last, &wire, payload);
+        if let Some(message) = nested_message(field, &wire, payload) {
             return (Some(message), last);
         }
     }
@@ -175,7 +175,7 @@ pub fn last_bytes<'a>(field: u32, message: MessageBytes<'a>) -> &'a [u8]
     let mut rest = message;
     let mut last: &[u8] = &[];
     while let Some((wire, payload)) = next_record(&mut rest) {
-        last = later_bytes(field, last, &wire, payload);
+        last = bytes_or_last(field, last, &wire, payload);
     }
     last
 }
@@ -190,7 +190,7 @@ pub fn last_number(field: u32, message: MessageBytes<'_>) -> i32
     let mut rest = message;
     let mut last = 0;
     while let Some((wire, _)) = next_record(&mut rest) {
-        last = later_number(field, last, &wire);
+        last = number_or_last(field, last, &wire);
     }
     last
 }
@@ -212,8 +212,8 @@ pub fn last_bytes_and_number<'a>(
     let mut text: &[u8] = &[];
     let mut number = 0;
     while let Some((wire, payload)) = next_record(&mut rest) {
-        text = later_bytes(text_field, text, &wire, payload);
-        number = later_number(number_field, number, &wire);
+        text = bytes_or_last(text_field, text, &wire, payload);
+        number = number_or_last(number_field, number, &wire);
     }
     (text, number)
 }
@@ -221,7 +221,7 @@ pub fn last_bytes_and_number<'a>(
 /// Replaces the content of `numbers` by the numbers of this repeated field, packed or not. A payload that isn't a sequence of varints has
 /// none.
 /// Fails with `AllocError` if an allocation fails. Some numbers may then be in the list.
-pub fn field_numbers(
+pub fn read_field_numbers(
     field: u32,
     message: MessageBytes<'_>,
     numbers: &mut Vec<i32>,
@@ -234,12 +234,12 @@ pub fn field_numbers(
     let mut rest = message;
     numbers.clear();
     while let Some((wire, payload)) = next_record(&mut rest) {
-        push_field_numbers(field, numbers, &wire, payload)?;
+        append_field_numbers(field, numbers, &wire, payload)?;
     }
     Ok(())
 }
 
-/// The last payload of one field, or empty bytes. Replaces the content of `numbers` by the numbers of another field, as `field_numbers`
+/// The last payload of one field, or empty bytes. Replaces the content of `numbers` by the numbers of another field, as `read_field_numbers`
 /// does, in one pass.
 pub fn last_bytes_and_numbers<'a>(
     text_field: u32,
@@ -258,8 +258,8 @@ pub fn last_bytes_and_numbers<'a>(
     let mut text: &[u8] = &[];
     numbers.clear();
     while let Some((wire, payload)) = next_record(&mut rest) {
-        text = later_bytes(text_field, text, &wire, payload);
-        push_field_numbers(numbers_field, numbers, &wire, payload)?;
+        text = bytes_or_last(text_field, text, &wire, payload);
+        append_field_numbers(numbers_field, numbers, &wire, payload)?;
     }
     Ok(text)
 }

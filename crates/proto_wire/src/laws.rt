@@ -51,7 +51,7 @@ pub fn some_packed_outcome()
 
 /// The functions that contracts of messages cite agree with the relations: the first record, the records up to the first fault, and the
 /// numbers of a payload.
-pub fn readings()
+pub fn readings_are_exact()
     // `record_in` gives exactly the first record or its fault.
     ensures first { (at : ℕ) (bytes : List ℕ) (o : Result (PayloadRecord × List ℕ) WireFault) → (record_in at bytes ≡ o) ↔ IsFirst at bytes o }
     // `payload_records` gives records without a fault if and only if the bytes are these records.
@@ -66,7 +66,7 @@ pub fn readings()
 /// records.
 /// It is `None` if and only if the bytes are records without a fault, and a fault if and only if this fault is the first, after records
 /// without one.
-pub fn faults_of_messages()
+pub fn first_faults_are_exact()
     // `fault_of` is `None` if and only if the bytes are records without a fault inside.
     ensures none { (inside : PayloadRecord → Option WireFault) (start : ℕ) (bytes : List ℕ) → (fault_of inside start bytes ≡ None) ↔ ((pieces : List PayloadRecord) × AreRecords start bytes pieces × IsClean inside pieces) }
     // `fault_of` is a fault if and only if it is the first fault of the bytes.

@@ -8,6 +8,7 @@
 mod encoding;
 mod fault;
 mod field;
+mod field_encoding;
 mod inside;
 pub mod laws;
 mod message;
@@ -15,22 +16,21 @@ mod record;
 mod scratch;
 mod varint;
 mod writer;
-mod writing;
 
 pub use fault::WireFault;
 pub use field::{
     check_numbers, check_text, packed_values, take_number, take_numbers, take_text, take_texts,
 };
+pub use field_encoding::{
+    Written, append_message, append_messages, append_number, append_optional_message,
+    append_packed, append_text, append_texts,
+};
 pub use inside::{
-    MessageBytes, field_numbers, last_bytes, last_bytes_and_number, last_bytes_and_numbers,
-    last_number, next_compact, next_message, next_message_with_bytes,
+    MessageBytes, last_bytes, last_bytes_and_number, last_bytes_and_numbers, last_number,
+    next_compact_record, next_message, next_message_with_bytes, read_field_numbers,
 };
 pub use message::{Message, check_message, merge_message, read_message, take_messages};
 pub use record::{WireRecord, WireValue, read_record, records};
 pub use scratch::Scratch;
-pub use varint::push_varint;
+pub use varint::append_varint;
 pub use writer::Writer;
-pub use writing::{
-    Written, push_message, write_message, write_messages, write_number, write_packed, write_text,
-    write_texts,
-};

@@ -34,7 +34,7 @@ pub trait Message {
 /// Decodes all records of the bytes, which begin at offset `start` of the whole input, into the message.
 /// Fails with the first fault of the bytes and with `Memory`. A record's own fault comes before the faults inside the record. The message
 /// is unspecified after an error.
-fn read_into<M: Message>(
+fn decode_into<M: Message>(
     alloc: Global,
     message: &mut M,
     start: usize,
@@ -73,7 +73,7 @@ pub fn read_message<M: Message + Drop>(
     ensures err { IfErr result (λ e. Stops e (fault_of M.fault_in start bytes.now)) }
 {
     let mut message = M::blank(alloc);
-    read_into(alloc, &mut message, start, bytes)?;
+    decode_into(alloc, &mut message, start, bytes)?;
     Ok(message)
 }
 
@@ -160,7 +160,7 @@ pub fn merge_message<M: Message + Drop>(
             Some(there) => there,
             None => M::blank(alloc),
         };
-        read_into(alloc, &mut merged, wire.body, payload)?;
+        decode_into(alloc, &mut merged, wire.body, payload)?;
         *message = Some(merged);
     }
     Ok(())

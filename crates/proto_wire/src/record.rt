@@ -120,7 +120,7 @@ fn read_value(key: Key, kind: u64, bytes: &[u8]) -> Result<(WireRecord, &[u8], &
 
 /// Reads the first record. Returns it with its payload and the remaining bytes.
 #[tactic(auto, unfolding(crate::specs::Readings::record_in))]
-fn first_record(at: usize, bytes: &[u8]) -> Result<(WireRecord, &[u8], &[u8]), WireFault>
+fn read_first_record(at: usize, bytes: &[u8]) -> Result<(WireRecord, &[u8], &[u8]), WireFault>
     requires { at + length bytes.now < 2 ^ 64 }
     ensures value { Gives payload_record_view result (record_in at bytes.now) }
     ensures shorter { IfOk result (λ x. length x.2.now < length bytes.now) }
@@ -139,7 +139,7 @@ fn first_record(at: usize, bytes: &[u8]) -> Result<(WireRecord, &[u8], &[u8]), W
 /// Reads the first record if its key takes one byte, and its number or length takes one byte too. Most records have this form. No loop over
 /// the bytes of a varint is needed.
 #[inline(always)]
-pub(crate) fn compact_record(at: usize, bytes: &[u8]) -> Option<(WireRecord, &[u8], &[u8])>
+pub(crate) fn read_compact_record(at: usize, bytes: &[u8]) -> Option<(WireRecord, &[u8], &[u8])>
     requires { at + length bytes.now < 2 ^ 64 }
     ensures exact { IfSome result (λ x. IsFirst at bytes.now (Ok (payload_record_view x))) }
     ensures shorter { IfSome result (λ x. length x.2.now < length bytes.now) }
@@ -187,7 +187,7 @@ pub(crate) fn compact_record(at: usize, bytes: &[u8]) -> Option<(WireRecord, &[u
 }
 
 /// Reads the first record if its key takes one byte and its value has eight or four bytes without a length prefix.
-fn fixed_record(at: usize, bytes: &[u8]) -> Option<(WireRecord, &[u8], &[u8])>
+fn read_compact_fixed(at: usize, bytes: &[u8]) -> Option<(WireRecord, &[u8], &[u8])>
     requires { at + length bytes.now < 2 ^ 64 }
     ensures exact { IfSome result (λ x. IsFirst at bytes.now (Ok (payload_record_view x))) }
     ensures shorter { IfSome result (λ x. length x.2.now < length bytes.now) }
@@ -217,15 +217,15 @@ fn fixed_record(at: usize, bytes: &[u8]) -> Option<(WireRecord, &[u8], &[u8])>
 
 /// Reads the first record, of any form. It isn't inlined, so that the fast path of `read_record` stays small in its callers.
 #[inline(never)]
-fn general_record(at: usize, bytes: &[u8]) -> Result<(WireRecord, &[u8], &[u8]), WireFault>
+fn read_general_record(at: usize, bytes: &[u8]) -> Result<(WireRecord, &[u8], &[u8]), WireFault>
     requires { at + length bytes.now < 2 ^ 64 }
     ensures exact { Shows payload_record_view result (IsFirst at bytes.now) }
     ensures shorter { IfOk result (λ x. length x.2.now < length bytes.now) }
     ensures inside { IfOk result (λ x. x.0.body + length x.1.now ≤ at + length bytes.now) }
 {
-    match fixed_record(at, bytes) {
+    match read_compact_fixed(at, bytes) {
         Some(found) => Ok(found),
-        None => first_record(at, bytes),
+        None => read_first_record(at, bytes),
     }
 }
 
@@ -243,9 +243,9 @@ pub fn read_record(at: usize, bytes: &[u8]) -> Result<(WireRecord, &[u8], &[u8])
     // The payload ends within the bytes.
     ensures inside { IfOk result (λ x. x.0.body + length x.1.now ≤ at + length bytes.now) }
 {
-    match compact_record(at, bytes) {
+    match read_compact_record(at, bytes) {
         Some(found) => Ok(found),
-        None => general_record(at, bytes),
+        None => read_general_record(at, bytes),
     }
 }
 

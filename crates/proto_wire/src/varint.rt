@@ -8,7 +8,7 @@ use std::alloc::AllocError;
 
 /// Reads a varint of at most `most` bytes, with one recursive call for each byte. Returns its number with the remaining bytes.
 #[tactic(auto, unfolding(crate::specs::Varints::varint_in))]
-fn varint_within(most: u8, at: usize, bytes: &[u8]) -> Result<(u64, &[u8]), WireFault>
+fn read_varint_bytewise(most: u8, at: usize, bytes: &[u8]) -> Result<(u64, &[u8]), WireFault>
     ensures value { Gives (λ x. (x.0, x.1.now)) result (varint_in most at bytes.now) }
     ensures shorter { IfOk result (λ x. length x.1.now < length bytes.now) }
 {
@@ -19,7 +19,7 @@ fn varint_within(most: u8, at: usize, bytes: &[u8]) -> Result<(u64, &[u8]), Wire
         [] => Err(WireFault::Truncated { at }),
         [last, rest @ ..] if *last < 128 => Ok((u64::from(*last), rest)),
         [low, rest @ ..] => {
-            let (high, rest) = varint_within(most - 1, at, rest)?;
+            let (high, rest) = read_varint_bytewise(most - 1, at, rest)?;
             Ok((u64::from(*low % 128) + 128 * (high % (1 << 57)), rest))
         }
     }
@@ -37,7 +37,7 @@ fn low(byte: u8) -> u64
 /// varint.
 #[inline(always)]
 #[tactic(auto, unfolding(crate::specs::Varints::varint_in))]
-fn first_five(bytes: &[u8]) -> Option<(u64, &[u8])>
+fn read_short_varint(bytes: &[u8]) -> Option<(u64, &[u8])>
     ensures five { IfSome result (λ x. (at : ℕ) → varint_in 5 at bytes.now ≡ Ok (x.0, x.1.now)) }
     ensures ten { IfSome result (λ x. (at : ℕ) → varint_in 10 at bytes.now ≡ Ok (x.0, x.1.now)) }
     ensures shorter { IfSome result (λ x. length x.1.now < length bytes.now) }
@@ -61,25 +61,25 @@ fn first_five(bytes: &[u8]) -> Option<(u64, &[u8])>
 }
 
 /// Reads a varint of at most five bytes. Returns its number with the remaining bytes.
-fn last_five(at: usize, bytes: &[u8]) -> Result<(u64, &[u8]), WireFault>
+fn read_varint_tail(at: usize, bytes: &[u8]) -> Result<(u64, &[u8]), WireFault>
     ensures value { Gives (λ x. (x.0, x.1.now)) result (varint_in 5 at bytes.now) }
     ensures shorter { IfOk result (λ x. length x.1.now < length bytes.now) }
 {
-    match first_five(bytes) {
+    match read_short_varint(bytes) {
         Some(found) => Ok(found),
-        None => varint_within(5, at, bytes),
+        None => read_varint_bytewise(5, at, bytes),
     }
 }
 
 /// Reads a varint of six to ten bytes, the first five of them at once. Returns its number with the remaining bytes.
-fn by_fives(at: usize, bytes: &[u8]) -> Result<(u64, &[u8]), WireFault>
+fn read_long_varint(at: usize, bytes: &[u8]) -> Result<(u64, &[u8]), WireFault>
     ensures value { Gives (λ x. (x.0, x.1.now)) result (varint_in 10 at bytes.now) }
     ensures shorter { IfOk result (λ x. length x.1.now < length bytes.now) }
 {
     match bytes {
         [a, b, c, d, e, rest @ ..]
             if *a >= 128 && *b >= 128 && *c >= 128 && *d >= 128 && *e >= 128 => {
-            let (high, rest) = last_five(at, rest)?;
+            let (high, rest) = read_varint_tail(at, rest)?;
             let number = low(*a)
                 + (low(*b) << 7)
                 + (low(*c) << 14)
@@ -87,19 +87,19 @@ fn by_fives(at: usize, bytes: &[u8]) -> Result<(u64, &[u8]), WireFault>
                 + (low(*e) << 28);
             Ok((number + ((high % (1 << 29)) << 35), rest))
         }
-        _ => varint_within(10, at, bytes),
+        _ => read_varint_bytewise(10, at, bytes),
     }
 }
 
 /// Reads a varint of at most ten bytes. Returns its number with the remaining bytes. One call for each byte would take three times as long.
 #[inline(never)]
-fn general_varint(at: usize, bytes: &[u8]) -> Result<(u64, &[u8]), WireFault>
+fn read_general_varint(at: usize, bytes: &[u8]) -> Result<(u64, &[u8]), WireFault>
     ensures value { Gives (λ x. (x.0, x.1.now)) result (varint_in 10 at bytes.now) }
     ensures shorter { IfOk result (λ x. length x.1.now < length bytes.now) }
 {
-    match first_five(bytes) {
+    match read_short_varint(bytes) {
         Some(found) => Ok(found),
-        None => by_fives(at, bytes),
+        None => read_long_varint(at, bytes),
     }
 }
 
@@ -116,13 +116,13 @@ pub(crate) fn read_varint(at: usize, bytes: &[u8]) -> Result<(u64, &[u8]), WireF
         [low, high, rest @ ..] if *high < 128 => {
             Ok((u64::from(*low % 128) + 128 * u64::from(*high), rest))
         }
-        _ => general_varint(at, bytes),
+        _ => read_general_varint(at, bytes),
     }
 }
 
 /// Appends a number as its minimal varint (Protocol Buffers encoding, "Base 128 Varints").
 /// Fails with `AllocError` if an allocation fails; a prefix of the varint may then have been appended.
-pub fn push_varint(out: &mut Vec<u8>, number: u64) -> Result<(), AllocError>
+pub fn append_varint(out: &mut Vec<u8>, number: u64) -> Result<(), AllocError>
     // With `Ok` exactly the minimal varint of the number is appended.
     ensures { OnOk result (out.new.items ≡ out.old.items ++ varint number) }
 {

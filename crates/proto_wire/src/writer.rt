@@ -7,7 +7,7 @@ ghost use Rattle.proto_wire.specs.Writing.{head_of, number_field, packing, paylo
 ghost use Rattle.proto_wire.specs.Writers.{answer_of, is_failure, WritesRecord};
 
 use crate::WireFault;
-use crate::encoding::{push_head, push_number, push_packing};
+use crate::encoding::{append_packed_numbers, append_payload_head, append_varint_field};
 use byte_sink::{Sink, SinkFault, write_fully};
 use std::alloc::Global;
 use std::marker::Model;
@@ -23,7 +23,7 @@ fn write_number<S: Sink>(
     ensures failures { S.failures sink.new ≡ failures_after result (S.failures sink.old) }
 {
     let mut record = Vec::new(alloc);
-    push_number(&mut record, field, number).map_err(|_| SinkFault::Memory)?;
+    append_varint_field(&mut record, field, number).map_err(|_| SinkFault::Memory)?;
     write_fully(sink, &record)
 }
 
@@ -33,7 +33,7 @@ fn head(alloc: Global, field: u32, count: usize) -> Result<Vec<u8>, SinkFault>
     ensures memory { IsOkUnless result SinkFault.Memory }
 {
     let mut head = Vec::new(alloc);
-    push_head(&mut head, field, count).map_err(|_| SinkFault::Memory)?;
+    append_payload_head(&mut head, field, count).map_err(|_| SinkFault::Memory)?;
     Ok(head)
 }
 
@@ -63,7 +63,7 @@ fn write_numbers<S: Sink>(
     ensures failures { S.failures sink.new ≡ failures_after result (S.failures sink.old) }
 {
     let mut payload = Vec::new(alloc);
-    push_packing(&mut payload, numbers).map_err(|_| SinkFault::Memory)?;
+    append_packed_numbers(&mut payload, numbers).map_err(|_| SinkFault::Memory)?;
     write_payload(alloc, field, &payload, sink)
 }
 

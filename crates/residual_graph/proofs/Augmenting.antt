@@ -1,4 +1,4 @@
--- One step more along a path.
+-- Sending an amount over one more step of a path.
 use Rattle.std.proofs.Common.{◌≡◌, ◌≢◌, ℕ, ◌+◌, ◌-◌, ◌≤◌, ◌<◌, Bool, true, false, cond, eqb, List, [], length, get_or, set, drop, refl, sym, ap, ◌∙◌, subst, arith, get_or-set_other}
 use Rattle.std.specs.Prelude.{All, AllPairs}
 use Rattle.std.proofs.lemmas.List.{drop_all, drop_more}
@@ -10,7 +10,7 @@ use Rattle.residual_graph.specs.declared.arc.ResidualArc.{ResidualArc}
 use Rattle.residual_graph.specs.Flows.{IsBalanced, RaisesBy, entering, leaving, pushed}
 use Rattle.residual_graph.specs.Graphs.{no_residual_arc, HasArc, IsResidualWalk, head, no_arc, residual, room, tail}
 
--- a flow of this value, but that this amount has come to the node u and not gone on
+-- a flow of this value, except that node u has this amount of excess
 pub record Carries (arcs : List Arc) (a b value u amount : ℕ) : Type 0 where
   pub kept : (m : ℕ) → m ≢ a → m ≢ b → entering arcs m ≡ leaving arcs m + cond (eqb u m) amount 0
   pub start : entering arcs a + value + amount ≡ leaving arcs a + cond (eqb u a) amount 0

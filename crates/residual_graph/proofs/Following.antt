@@ -1,4 +1,4 @@
--- Residual arcs are followed along trails.
+-- Residual arcs are followed along linked lists.
 use Rattle.std.proofs.Common.{◌≡◌, ℕ, ◌+◌, ◌*◌, ◌/◌, ◌%◌, ◌<◌, Bool, true, false, cond, List, [], ◌∷◌, ◌++◌, length, replicate, set, refl, sym, ◌∙◌, subst, arith, inl, inr, length-set}
 use Rattle.std.specs.Prelude.{All, Contains, ◌==◌}
 use Rattle.std.proofs.lemmas.Bool.{eq-eqb, eqb-true, false_from_ne_true}
@@ -65,7 +65,7 @@ module _ (arcs : List Arc) (start : ℕ) (reached_flags : List Bool) (waiting : 
   following_ends f = record { tree = f.tree; spread = follow_ends (LeavesFrom arcs) (led_to arcs) (length arcs * 2) reached_flags waiting v f.spread }
 
   module _ (number next : ℕ) (low : number < length arcs * 2) (own : LeavesFrom arcs v number) (last : IsLast (LeavesFrom arcs v) number next) (f : IsFollowing arcs start reached_flags waiting v (number + 1)) where
-    -- what it leads to has a mark already
+    -- what it leads to has its flag set already
     pub follows_marked : is_flagged reached_flags (led_to arcs number) ≡ true → IsFollowing arcs start reached_flags waiting v next
     follows_marked on = record { tree = f.tree; spread = follow_marked (LeavesFrom arcs) (led_to arcs) (length arcs * 2) reached_flags waiting v number next last f.spread on }
 

@@ -1,4 +1,4 @@
--- A search from a node over what is left of the arcs.
+-- A search from a node over residual arcs with capacity.
 use Rattle.std.proofs.Common.{◌≡◌, ℕ, ◌+◌, ◌≤◌, ◌<◌, Bool, true, false, cond, List, [], ◌∷◌, ◌++◌, length, get_or, set, replicate, refl, sym, ap, ◌∙◌, subst, arith, inl, inr, length-set}
 use Rattle.std.specs.Prelude.{◌↔◌, Contains}
 use Rattle.std.proofs.lemmas.Bool.{cases_Bool, cases_eq, both_ways}
@@ -87,7 +87,7 @@ module _ (g : Graph) (start : ℕ) (reached_flags : List Bool) (places : List Vi
     ];
   }
 
-  -- the node that the step k leads to is marked, and given the last place
+  -- the node that the step k leads to is flagged, and given the last index
   pub searching_yes : place < length places → HasArc g.arcs (get_or group k no_residual_arc) → tail g.arcs (get_or group k no_residual_arc) ≡ (get_or places place no_visit).node →
       head g.arcs (get_or group k no_residual_arc) < g.nodes → ExtendsSearch g.arcs (get_or group k no_residual_arc) reached_flags →
       Searching g start (set reached_flags (head g.arcs (get_or group k no_residual_arc)) true)
@@ -114,7 +114,7 @@ module _ (g : Graph) (start : ℕ) (reached_flags : List Bool) (places : List Vi
         ];
       }
 
-  -- the next place, where the group has all steps from the node at this one
+  -- the next index, where the group has all steps from the node at this one
   pub searching_next : ((s : ResidualArc) → Contains group s ↔ (HasArc g.arcs s × (tail g.arcs s ≡ (get_or places place no_visit).node))) → length group ≤ k →
       Searching g start reached_flags places (place + 1) [] 0
   searching_next steps all = record {
@@ -130,7 +130,7 @@ module _ (g : Graph) (start : ℕ) (reached_flags : List Bool) (places : List Vi
     here = λ j h _. absurd (omega arith);
   }
 
-  -- the marked nodes that no step has been followed from stand at the place and after it
+  -- the flagged nodes that no step has been followed from stand at the index and after it
   pub searching_end : length places ≤ place → AreClosed g.arcs reached_flags
   searching_end past s known left t =
       let (p, in_places, at_p) = z.tree.placed (tail g.arcs s) t in

@@ -1,4 +1,4 @@
--- A walk back over the places of a search.
+-- The walk back along the parents of the visits of a search.
 use Rattle.std.proofs.Common.{◌≡◌, ◌≢◌, ℕ, zero, suc, ◌+◌, ◌≤◌, ◌<◌, Bool, true, false, List, [], ◌∷◌, ◌++◌, length, get_or, refl, sym, ap, ◌∙◌, subst, arith, reverse, inl, inr, ◌⊎◌, ◌-◌}
 use Rattle.std.specs.Prelude.{All, AllPairs}
 use Rattle.std.proofs.lemmas.Bool.{cases_eq}
@@ -23,7 +23,7 @@ same_arc arcs s t e =
     subst (λ k. (head arcs s ≡ head arcs (record { arc = k; forward = t.forward })) ⊎ (tail arcs s ≡ head arcs (record { arc = k; forward = t.forward }))) e
     (ends arcs s.arc s.forward t.forward)
 
--- the steps so far lead from the place to the end, and were found at later places
+-- the steps so far lead from the index to the end, and were found at later indices
 pub record Walking (g : Graph) (places : List Visit) (end at : ℕ) (back : List ResidualArc) : Type 0 where
   pub at_in : at < length places
   pub leads : IsResidualWalk g.arcs (get_or places at no_visit).node (reverse back) (get_or places end no_visit).node
@@ -111,7 +111,7 @@ walking_end g start reached_flags places tree end back w = record {
 All-rest : (P : ResidualArc → Type 0) (s : ResidualArc) (more : List ResidualArc) → All P (s ∷ more) → All P more
 All-rest P s more all k d h = all (suc k) d (omega arith)
 
--- what holds at the start of a path and goes on over each step with something left holds at its end
+-- a property of the start that each step with residual capacity preserves holds at the end of the path
 pub along : (P : ℕ → Type 0) (arcs : List Arc) → ((s : ResidualArc) → HasArc arcs s → HasResidual arcs s → P (tail arcs s) → P (head arcs s)) →
     (a : ℕ) (path : List ResidualArc) (b : ℕ) → IsResidualWalk arcs a path b → All (HasArc arcs) path → All (HasResidual arcs) path → P a → P b
 along P arcs on a [] b e known left h = subst P e h
@@ -119,7 +119,7 @@ along P arcs on a (s ∷ more) b (e, rest) known left h =
     along P arcs on (head arcs s) more b rest (All-rest (HasArc arcs) s more known) (All-rest (HasResidual arcs) s more left)
     (on s (known 0 s (omega arith)) (left 0 s (omega arith)) (subst P (sym e) h))
 
--- the marked nodes are those that augmenting paths lead to
+-- the flagged nodes are those that augmenting paths lead to
 pub reached : (g : Graph) (start : ℕ) (reached_flags : List Bool) (places : List Visit) → IsTree g start reached_flags places → AreClosed g.arcs reached_flags → AreReached g start reached_flags
 reached g start reached_flags places t closed =
     record {

@@ -3,16 +3,16 @@ use Rattle.std.specs.Prelude.{◌≡◌, ℕ, ◌+◌, ◌≤◌, ◌<◌, if◌
 use Rattle.residual_graph.specs.declared.arc.Arc.{Arc}
 use Rattle.residual_graph.specs.declared.arc.OutArc.{OutArc}
 use Rattle.residual_graph.specs.declared.arc.ResidualArc.{ResidualArc}
-use Rattle.residual_graph.specs.declared.groups.Indexes.{Indexes}
+use Rattle.residual_graph.specs.declared.groups.OutArcIndexes.{OutArcIndexes}
 use Rattle.residual_graph.specs.Graphs.{Graph, IsGraph, HasArc, arc_of, no_residual_arc, room, tail}
 
 -- a step over this arc, with its head and residual capacity
-abbrev pub out_of : Arc → ResidualArc → OutArc
-out_of r s = record { step = s; head = if s.forward then r.to else r.from; residual = room r s.forward }
+abbrev pub out_arc_of : Arc → ResidualArc → OutArc
+out_arc_of r s = record { step = s; head = if s.forward then r.to else r.from; residual = room r s.forward }
 
 -- a step of the graph, with its head and residual capacity
 abbrev pub out_arc : List Arc → ResidualArc → OutArc
-out_arc arcs s = out_of (arc_of arcs s) s
+out_arc arcs s = out_arc_of (arc_of arcs s) s
 
 abbrev pub step_of : OutArc → ResidualArc
 step_of a = a.step
@@ -33,22 +33,22 @@ out_at outs p = slice_index_or outs p no_out_arc
 abbrev pub begin_of : List ℕ → ℕ → ℕ
 begin_of begins u = slice_index_or begins u 0
 
-abbrev pub no_indexes : Indexes
+abbrev pub no_indexes : OutArcIndexes
 no_indexes = record { forward = 0; backward = 0 }
 
--- its index among the residual arcs of its tail
-abbrev pub index_of : List Indexes → ResidualArc → ℕ
+-- the index of a step among the residual arcs of its tail
+abbrev pub index_of : List OutArcIndexes → ResidualArc → ℕ
 index_of indexes s = if s.forward then (slice_index_or indexes s.arc no_indexes).forward else (slice_index_or indexes s.arc no_indexes).backward
 
 -- the residual arc at this index among those of node u, with its head and residual capacity
-pub record IsOutAt (arcs : List Arc) (indexes : List Indexes) (u : ℕ) (a : OutArc) (index : ℕ) : Type 0 where
+pub record IsOutAt (arcs : List Arc) (indexes : List OutArcIndexes) (u : ℕ) (a : OutArc) (index : ℕ) : Type 0 where
   pub known : HasArc arcs a.step
   pub leaves : tail arcs a.step ≡ u
   pub beside : a ≡ out_arc arcs a.step
   pub is_at : index_of indexes a.step ≡ index
 
 -- the array has the residual arcs of each node in the range from the node's start to the start of the next node
-pub record AreListed (arcs : List Arc) (nodes : ℕ) (begins : List ℕ) (outs : List OutArc) (indexes : List Indexes) : Type 0 where
+pub record AreListed (arcs : List Arc) (nodes : ℕ) (begins : List ℕ) (outs : List OutArc) (indexes : List OutArcIndexes) : Type 0 where
   pub graph : IsGraph (record { nodes = nodes; arcs = arcs })
   pub each_begins : length begins ≡ nodes + 1
   pub each_indexed : length indexes ≡ length arcs

@@ -12,11 +12,11 @@ use Rattle.residual_graph.specs.Trees.{IsTree}
 abbrev pub step_at : ℕ → ResidualArc
 step_at n = record { arc = n / 2; forward = n % 2 == 0 }
 
--- it has residual capacity, and leaves v
+-- the residual arc of this number has capacity, and leaves v
 abbrev pub LeavesFrom : List Arc → ℕ → ℕ → Type 0
 LeavesFrom arcs v n = HasResidual arcs (step_at n) × (tail arcs (step_at n) ≡ v)
 
--- its head
+-- the head of the residual arc of this number
 abbrev pub led_to : List Arc → ℕ → ℕ
 led_to arcs n = head arcs (step_at n)
 

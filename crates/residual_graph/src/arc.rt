@@ -1,6 +1,6 @@
 //! Arcs, and residual arcs.
 ghost use Rattle.std.specs.Prelude.{◌≡◌, ◌≤◌};
-ghost use Rattle.residual_graph.specs.OutArcs.{out_of};
+ghost use Rattle.residual_graph.specs.OutArcs.{out_arc_of};
 
 /// An arc between two nodes with its capacity and flow. Nodes are given by their numbers.
 #[derive(Clone, Copy)]
@@ -36,9 +36,9 @@ pub struct OutArc {
 }
 
 /// The step with its head and its residual capacity.
-pub(crate) fn out_of(arc: Arc, step: ResidualArc) -> OutArc
+pub(crate) fn out_arc_of(arc: Arc, step: ResidualArc) -> OutArc
     requires { arc.flow ≤ arc.capacity }
-    ensures { result ≡ out_of arc step }
+    ensures { result ≡ out_arc_of arc step }
 {
     if step.forward {
         OutArc {

@@ -1,4 +1,4 @@
-//! Current arcs: the residual arcs of a node that need no inspection.
+//! Current arcs: how many leading residual arcs of each node need no inspection.
 
 use std::alloc::{AllocError, Global};
 
@@ -28,7 +28,7 @@ impl CurrentArcs {
     }
 
     /// Sets the index of the node's current arc.
-    pub fn pass(&mut self, node: u32, passed: usize) {
+    pub fn set_current(&mut self, node: u32, passed: usize) {
         if let Some(written) = self.passed.get_mut(node as usize) {
             *written = u32::try_from(passed).unwrap_or(0);
             self.any = true;
@@ -36,7 +36,7 @@ impl CurrentArcs {
     }
 
     /// Resets all indices to 0.
-    pub fn pass_none(&mut self) {
+    pub fn reset_all(&mut self) {
         if self.any {
             self.passed.as_mut_slice().fill(0);
             self.any = false;

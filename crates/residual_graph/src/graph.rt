@@ -5,9 +5,9 @@ ghost use Rattle.residual_graph.specs.Flows.{pushed, DifferInFlowOnly, RaisesBy}
 ghost use Rattle.residual_graph.specs.Graphs.{arc_of, head, residual, tail, HasArc, IsGraph, IsResidualWalk};
 ghost use Rattle.residual_graph.specs.OutArcs.{step_of, IsOutOf};
 
-use crate::arc::out_of;
+use crate::arc::out_arc_of;
 use crate::augment::{min_residual, push, residual_of};
-use crate::groups::{Indexes, begins_of, count_all, placed};
+use crate::groups::{OutArcIndexes, group_sizes_of, placed, range_starts};
 use crate::{Arc, OutArc, ResidualArc};
 use std::alloc::{AllocError, Global};
 use std::marker::Model;
@@ -21,7 +21,7 @@ pub struct ResidualGraph {
     arcs: Vec<Arc>,
     begins: Vec<usize>,
     outs: Vec<OutArc>,
-    indexes: Vec<Indexes>,
+    indexes: Vec<OutArcIndexes>,
 }
 
 impl Model for ResidualGraph {
@@ -45,8 +45,8 @@ impl ResidualGraph {
         // The graph has these nodes and arcs.
         ensures { IfOk result (λ g. g ≡ record { nodes = nodes; arcs = arcs.items }) }
     {
-        let counted = count_all(alloc, &arcs, nodes)?;
-        let begins = begins_of(alloc, &counted.sizes)?;
+        let counted = group_sizes_of(alloc, &arcs, nodes)?;
+        let begins = range_starts(alloc, &counted.sizes)?;
         let outs = placed(alloc, &arcs, nodes, &begins, &counted)?;
         Ok(ResidualGraph {
             nodes,
@@ -151,14 +151,14 @@ impl ResidualGraph {
         let forth = self.begins[arc.from as usize] + indexes.forward;
         let back = self.begins[arc.to as usize] + indexes.backward;
         self.arcs[step.arc] = arc;
-        self.outs[forth] = out_of(
+        self.outs[forth] = out_arc_of(
             arc,
             ResidualArc {
                 arc: step.arc,
                 forward: true,
             },
         );
-        self.outs[back] = out_of(
+        self.outs[back] = out_arc_of(
             arc,
             ResidualArc {
                 arc: step.arc,

@@ -1,4 +1,4 @@
-//! Topological order of a graph by its arcs (Kahn 1962). Proved is only that the numbers are nodes.
+//! Topological order of a graph by its arcs (Kahn 1962). The order itself isn't proved, only that it has no number but those of nodes.
 ghost use Rattle.std.specs.Prelude.{◌≡◌, ◌<◌, All, IfOk, OnOk, length, vec_len};
 
 use crate::{Arc, ResidualGraph};

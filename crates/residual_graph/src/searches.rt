@@ -17,7 +17,7 @@ fn extends_search(out: OutArc, reached_flags: &[bool]) -> bool
 }
 
 /// Visits the unreached heads of the residual arcs of the node at this index of `places`.
-fn visit(
+fn visit_heads(
     graph: &ResidualGraph,
     place: usize,
     reached_flags: &mut Vec<bool>,
@@ -79,7 +79,7 @@ pub fn search(alloc: Global, graph: &ResidualGraph, start: u32) -> Result<Search
     })?;
     let mut place = 0;
     while place < places.len() {
-        visit(graph, place, &mut reached_flags, &mut levels, &mut places)?;
+        visit_heads(graph, place, &mut reached_flags, &mut levels, &mut places)?;
         place += 1;
     }
     Ok(SearchResult {

@@ -45,7 +45,7 @@ fn head_of(arcs: &[Arc], step: ResidualArc) -> u32
 }
 
 /// The lists of all nodes.
-fn link_by_key(alloc: Global, arcs: &[Arc], nodes: u32) -> Result<LinkedLists, AllocError>
+fn link_by_tail(alloc: Global, arcs: &[Arc], nodes: u32) -> Result<LinkedLists, AllocError>
     requires within { All (λ r. r.flow ≤ r.capacity) arcs.now }
     requires between { All (λ r. (r.from < nodes) × (r.to < nodes)) arcs.now }
     ensures { IfOk result (λ t. AreArcLists arcs.now nodes t.last.items t.before.items (length arcs.now * 2)) }
@@ -65,8 +65,8 @@ fn link_by_key(alloc: Global, arcs: &[Arc], nodes: u32) -> Result<LinkedLists, A
     Ok(LinkedLists { last, before })
 }
 
-/// Flags the heads of the node's residual arcs; a newly flagged head joins the worklist.
-fn follow(
+/// Flags the heads of the node's residual arcs with capacity; a newly flagged head joins the worklist.
+fn flag_heads(
     arcs: &[Arc],
     linked: &LinkedLists,
     node: u32,
@@ -96,7 +96,12 @@ fn follow(
 
 /// Flags the nodes that augmenting paths from `start` reach, as `search` does in a graph. The ends of each arc are below `nodes`, and its
 /// flow is at most its capacity. Takes time linear in nodes and arcs, which isn't proved. Fails if an allocation fails.
-pub fn marks(alloc: Global, arcs: &[Arc], nodes: u32, start: u32) -> Result<Vec<bool>, AllocError>
+pub fn flag_reachable(
+    alloc: Global,
+    arcs: &[Arc],
+    nodes: u32,
+    start: u32,
+) -> Result<Vec<bool>, AllocError>
     // No flow exceeds its capacity.
     requires within { All (λ r. r.flow ≤ r.capacity) arcs.now }
     // The ends of each arc are nodes.
@@ -108,13 +113,13 @@ pub fn marks(alloc: Global, arcs: &[Arc], nodes: u32, start: u32) -> Result<Vec<
     // No residual arc with capacity leaves the flagged nodes.
     ensures closed { IfOk result (λ reached_flags. AreClosed arcs.now reached_flags.items) }
 {
-    let linked = link_by_key(alloc, arcs, nodes)?;
+    let linked = link_by_tail(alloc, arcs, nodes)?;
     let mut reached_flags = vec![in alloc; false; nodes as usize]?;
     let mut waiting = Vec::new(alloc);
     reached_flags[start as usize] = true;
     waiting.push(start)?;
     while let Some(node) = waiting.pop() {
-        follow(arcs, &linked, node, &mut reached_flags, &mut waiting)?;
+        flag_heads(arcs, &linked, node, &mut reached_flags, &mut waiting)?;
     }
     Ok(reached_flags)
 }

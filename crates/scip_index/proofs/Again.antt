@@ -1,4 +1,4 @@
--- Fields that are written are read again, without a fault.
+-- Fields that are written are read back, without a fault.
 use Rattle.std.proofs.Common.{◌≡◌, ℕ, zero, suc, ◌^◌, ◌<◌, ℤ, pos, negsuc, List, [], ◌∷◌, ◌++◌, length, map, Option, Some, None, refl, sym, ap, ◌∙◌, subst, arith}
 use Rattle.std.specs.Prelude.{FitsSigned, IfSome}
 use Rattle.std.specs.Int.{w32}
@@ -31,7 +31,7 @@ pub packed_number : (k : ℕ) (zs : List ℤ) → HaveNumber k (packed_fields k 
 packed_number k [] = tt
 packed_number k (z ∷ zs) = (refl, tt)
 
--- ---- fields that leave no fault in any record that carries them
+-- ---- fields such that no record that carries them has a fault
 
 abbrev NumberFits : Content → Type 0
 NumberFits (Number n) = n < 2 ^ 64
@@ -49,7 +49,7 @@ pub both : (inside : PayloadRecord → Option WireFault) (fs gs : List Field) �
 both inside [] gs h k = k
 both inside (f ∷ fs) gs h k = (h.0, both inside fs gs h.1 k)
 
--- a fault of a record of this field is all that is looked for in it
+-- the only fault looked for in a record of this field
 abbrev pub Passes : (PayloadRecord → Option WireFault) → ℕ → (PayloadRecord → Option WireFault) → Type 0
 Passes inside k fault = (p : PayloadRecord) → p.wire.field ≡ k → fault p ≡ None → inside p ≡ None
 
@@ -90,7 +90,7 @@ pub packed_good : (inside : PayloadRecord → Option WireFault) (k : ℕ) (zs : 
 packed_good inside k [] some most fits passes = tt
 packed_good inside k (z ∷ zs) some most fits passes = (record { is_field = is_field_of k some most; fits = tt; none = λ p h. passes p h.number (numbers_clean p k (z ∷ zs) fits h) }, tt)
 
--- ---- a message that is read again, wherever it stands
+-- ---- a message that is read back, at whatever offset
 
 abbrev pub IsAgain : {V : Type 0} → (PayloadRecord → Option WireFault) → (List PayloadRecord → V) → V → List ℕ → Type 0
 IsAgain inside of v bytes = (start : ℕ) → (fault_of inside start bytes ≡ None) × (of (payload_records start bytes).0 ≡ v)
@@ -121,7 +121,7 @@ pub option_fits : {V : Type 0} (Fits : V → Type 0) (o : Option V) → IfSome o
 option_fits Fits None h = tt
 option_fits Fits (Some v) h = (h, tt)
 
--- ---- what is inside is no longer than the whole
+-- ---- nested messages are no longer than the whole
 
 pub short_left : (fs gs : List Field) → length (spelled_fields (fs ++ gs)) < 2 ^ 64 → length (spelled_fields fs) < 2 ^ 64
 short_left fs gs h = omega (arith, h, ap length (spelled_fields-append fs gs), length-append (spelled_fields fs) (spelled_fields gs))
@@ -156,7 +156,7 @@ none_left : (inside : PayloadRecord → Option WireFault) (fs : List Field) → 
 none_left inside [] good = tt
 none_left inside (f ∷ fs) good = (good.0.none, none_left inside fs good.1)
 
--- good fields are read again, where the records that carry them say the message
+-- fields without a fault are read back, if the records that carry them mean the message
 pub again_from : {V : Type 0} (inside : PayloadRecord → Option WireFault) (of : List PayloadRecord → V) (v : V) (fs : List Field) → AreGood inside fs → length (spelled_fields fs) < 2 ^ 64 → ((ps : List PayloadRecord) → CarryAll ps fs → of ps ≡ v) → IsAgain inside of v (spelled_fields fs)
 again_from inside of v fs good short index_is =
     λ start.

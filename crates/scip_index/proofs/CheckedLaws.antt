@@ -20,7 +20,7 @@ use Rattle.proto_wire.proofs.PieceReadings.{records_found}
 use Rattle.scip_index.specs.Meaning.{document_fault, index_fault, index_of, metadata_fault, occurrence_fault, symbol_fault, Means}
 use Rattle.scip_index.proofs.OutcomeLaws.{means_from}
 
--- bytes without a fault mean what their records say
+-- bytes without a fault encode what their records determine
 pub checked_means : (bytes : List ℕ) (result : Result (Unit {0}) WireFault) → OnOk result (fault_of index_fault 0 bytes ≡ None) → OnOk result (Means bytes (index_of (payload_records 0 bytes).0))
 checked_means bytes (Ok x) clean = means_from bytes (index_of (payload_records 0 bytes).0) clean refl
 checked_means bytes (Err fault) clean = tt
@@ -99,9 +99,9 @@ HasSymbolText pieces = IsUtf8 (latest [] (each_of 2 bytes_in pieces))
 symbol_text : (pieces : List PayloadRecord) → IsClean occurrence_fault pieces → HasSymbolText pieces
 symbol_text pieces clean = latest_text [] (each_of 2 bytes_in pieces) (IsUtf8-from_ascii [] IsAscii-nil) (texts_of_occurrence pieces clean)
 
--- ---- messages inside
+-- ---- nested messages
 
--- what the clean records of a message have, those of a message of a field of clean records have
+-- a property of the clean records of a message holds for the records of a nested message of a field
 module _ (inside : PayloadRecord → Option WireFault) (Has : List PayloadRecord → Type 0) (has : (pieces : List PayloadRecord) → IsClean inside pieces → Has pieces) where
   message_given : (value : WireValue) (body : ℕ) (payload : List ℕ) → value_message_fault inside value body payload ≡ None → AllByRecursion Has (value_records value body payload)
   message_given (Varint n) body payload e = tt
@@ -138,10 +138,10 @@ documents_have Has has (p ∷ pieces) clean =
     (message_of_field document_fault Has has 2 p (former (field_fault 2 p.wire (message_fault document_fault p)) (field_fault 3 p.wire (message_fault symbol_fault p)) both))
     (documents_have Has has pieces clean.1)
 
--- the paths of the documents of bytes that mean an index are UTF-8
+-- the paths of the documents of bytes that encode an index are UTF-8
 pub paths_are_texts : (bytes : List ℕ) → fault_of index_fault 0 bytes ≡ None → AllByRecursion HasPathText (each_of 2 nested_records (payload_records 0 bytes).0)
 paths_are_texts bytes clean = documents_have HasPathText path_text (payload_records 0 bytes).0 (clean_records index_fault 0 bytes clean)
 
--- and so are the symbols of their occurrences
+-- the symbols of their occurrences are UTF-8 too
 pub symbols_are_texts : (bytes : List ℕ) → fault_of index_fault 0 bytes ≡ None → AllByRecursion HaveSymbolTexts (each_of 2 nested_records (payload_records 0 bytes).0)
 symbols_are_texts bytes clean = documents_have HaveSymbolTexts symbol_texts (payload_records 0 bytes).0 (clean_records index_fault 0 bytes clean)

@@ -1,4 +1,4 @@
--- An occurrence of a few short records that have no fault.
+-- Occurrences of a few compact records without a fault.
 use Rattle.std.proofs.Common.{◌≡◌, ◌≤◌, ℕ, List, [], ◌∷◌, length, true, false, Option, None, Result, Ok, Err, refl, arith}
 use Rattle.std.specs.Prelude.{OnOk}
 use Rattle.std.specs.Result.{is_ok, is_err}
@@ -13,13 +13,13 @@ use Rattle.proto_wire.specs.Messages.{fault_of, field_fault, first_fault, messag
 use Rattle.proto_wire.proofs.PieceLaws.{ended}
 use Rattle.scip_index.specs.Meaning.{occurrence_fault}
 
--- a record without a fault before others without one
+-- a record without a fault, followed by others without one
 pub clean_before : (inside : PayloadRecord → Option WireFault) (at there : ℕ) (bytes rest : List ℕ) (p : PayloadRecord) → payload_records at bytes ≡ (p ∷ (payload_records there rest).0, (payload_records there rest).1)
     → inside p ≡ None → fault_of inside there rest ≡ None → fault_of inside at bytes ≡ None
 unfolding first_fault
 clean_before inside at there bytes rest p e clean others = rw (e, clean) others
 
--- there is none at the end
+-- at the end there is no fault
 pub clean_end : (inside : PayloadRecord → Option WireFault) (at : ℕ) (bytes : List ℕ) → length bytes ≡ 0 → fault_of inside at bytes ≡ None
 unfolding first_fault payload_records
 clean_end inside at [] none = rw (ended 0 at [] refl) refl
@@ -29,7 +29,7 @@ missed : (k : ℕ) (p : PayloadRecord) (fault : Option WireFault) → (p.wire.fi
 unfolding field_fault
 missed k p fault other = rw (ne_eqb p.wire.field k other) refl
 
--- a range, a symbol and what stands behind them without a fault
+-- a range, a symbol and what follows them, without a fault
 pub clean_range : (p : PayloadRecord) → p.wire.field ≡ 1 → field_fault 1 p.wire (numbers_fault p) ≡ None → occurrence_fault p ≡ None
 clean_range p f e = rw (e, missed 2 p (text_fault p) (λ g. omega (arith, f, g)), missed 7 p (numbers_fault p) (λ g. omega (arith, f, g))) refl
 
@@ -39,7 +39,7 @@ clean_symbol p f e = rw (e, missed 1 p (numbers_fault p) (λ g. omega (arith, f,
 pub clean_further : (p : PayloadRecord) → 3 ≤ p.wire.field → field_fault 7 p.wire (numbers_fault p) ≡ None → occurrence_fault p ≡ None
 clean_further p further e = rw (missed 1 p (numbers_fault p) (λ g. omega (arith, further, g)), missed 2 p (text_fault p) (λ g. omega (arith, further, g)), e) refl
 
--- what a call says where it answers no fault
+-- what a call that returns no fault implies
 pub when_clean : {P : Type 0} (result : Result (Unit {0}) WireFault) → is_ok result ≡ true → OnOk result P → P
 when_clean (Ok x) e p = p
 when_clean (Err fault) e p = absurd cc

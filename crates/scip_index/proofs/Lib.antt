@@ -8,3 +8,5 @@ pub mod PartLaws
 pub mod StreamingLaws
 pub mod CheckedLaws
 mod CleanOccurrences
+pub mod InPlace
+pub mod CompactOccurrences

@@ -1,4 +1,4 @@
--- One record more.
+-- One more record.
 use Rattle.std.proofs.Common.{◌≡◌, ℕ, List, [], ◌∷◌, ◌++◌, map, Option, Some, None, refl, sym, ap, ◌∙◌}
 use Rattle.std.specs.Prelude.{pos, option_map}
 use Rattle.std.proofs.lemmas.List.{map-append}
@@ -8,7 +8,7 @@ use Rattle.proto_wire.proofs.MessageSteps.{each_of-push, latest-push}
 use Rattle.scip_index.specs.Plain.{OccurrenceModel, SymbolModel, DocumentModel, ToolModel, MetadataModel, IndexModel}
 use Rattle.scip_index.specs.Meaning.{occurrence_of, symbol_of, document_of, tool_of, merged, metadata_of, index_of}
 
--- what a message with this plain form means
+-- what a message with this model means
 abbrev pub Says : {M V : Type 0} → (M → V) → (List PayloadRecord → V) → M → List PayloadRecord → Type 0
 Says view of m pieces = view m ≡ of pieces
 
@@ -33,7 +33,7 @@ IsMerged-to view of None (ps ∷ given) h = absurd cc
 IsMerged-to view of (Some m) [] h = absurd cc
 IsMerged-to view of (Some m) (ps ∷ given) h = cc
 
--- an occurrence and one record more
+-- an occurrence and one more record
 abbrev pub occurrence_and : OccurrenceModel → PayloadRecord → OccurrenceModel
 occurrence_and o p = record {
   range = o.range ++ if_field 1 p.wire (numbers_in p);
@@ -80,7 +80,7 @@ tool_and t p = record {
 pub tool-more : (front : List PayloadRecord) (p : PayloadRecord) (old new : ToolModel) → old ≡ tool_of front → new ≡ tool_and old p → new ≡ tool_of (front ++ p ∷ [])
 tool-more front p old new h step = step ∙ ap (λ o. tool_and o p) h ∙ sym (rw (latest-push 1 [] bytes_in front p, latest-push 2 [] bytes_in front p, each_of-push 3 bytes_in front p) refl)
 
--- metadata and one record more, where the tool is known already
+-- metadata and one more record, if the tool is present already
 abbrev pub metadata_and : MetadataModel → PayloadRecord → Option ToolModel → MetadataModel
 metadata_and m p tool = record {
   version = latest m.version (if_field 1 p.wire (number_in p));

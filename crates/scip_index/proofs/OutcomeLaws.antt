@@ -1,4 +1,4 @@
--- What bytes are, once.
+-- The outcome of bytes is unique.
 use Rattle.std.proofs.Common.{◌≡◌, ℕ, List, Option, Some, None, Result, Ok, Err, sym, refl, ap, ◌∙◌}
 use Rattle.std.specs.Prelude.{IfErr, IfOk, OnOk}
 use Rattle.proto_wire.specs.declared.fault.WireFault.{WireFault}
@@ -13,7 +13,7 @@ use Rattle.scip_index.specs.declared.index.Index.{Index}
 use Rattle.scip_index.specs.Plain.{index_model, IndexModel}
 use Rattle.scip_index.specs.Meaning.{index_fault, index_of, Means, IsIndexOutcome}
 
--- the index that clean records say is the one that the bytes mean
+-- the index that clean records encode is the index that the bytes encode
 pub means_from : (bytes : List ℕ) (i : IndexModel) → fault_of index_fault 0 bytes ≡ None → i ≡ index_of (payload_records 0 bytes).0 → Means bytes i
 means_from bytes i clean index_is =
     let h = (no_fault_iff index_fault 0 bytes).0 clean in
@@ -23,7 +23,7 @@ means_from bytes i clean index_is =
 said_of : (bytes : List ℕ) (i : IndexModel) → Means bytes i → i ≡ index_of (payload_records 0 bytes).0
 said_of bytes i m = m.index_is ∙ sym (ap (λ (x : List PayloadRecord × Option WireFault). index_of x.0) (records_found 0 bytes m.pieces m.are_records))
 
--- bytes mean one index
+-- bytes encode one index
 pub one_meaning : (bytes : List ℕ) (i j : IndexModel) → Means bytes i → Means bytes j → i ≡ j
 one_meaning bytes i j m n = said_of bytes i m ∙ sym (said_of bytes j n)
 
@@ -53,7 +53,7 @@ pub tells-then : {X Y : Type 0} (view : X → Y) (result : Result X WireFault) (
 tells-then view (Ok x) P Q h go = go (Ok (view x)) h
 tells-then view (Err fault) P Q h go = UnlessMemory-then fault h (go (Err fault))
 
--- what the loop over records says is the outcome of the bytes
+-- the result of the loop over the records is the outcome of the bytes
 pub index_told : (bytes : List ℕ) (result : Result Index WireFault) → OnOk result (fault_of index_fault 0 bytes ≡ None) → IfOk result (λ i. index_model i ≡ index_of (payload_records 0 bytes).0) → IfErr result (λ e. Stops e (fault_of index_fault 0 bytes))
     → HasOutcome index_model result (IsIndexOutcome bytes)
 index_told bytes (Ok i) clean index_is err = means_from bytes (index_model i) clean index_is

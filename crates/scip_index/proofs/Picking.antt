@@ -1,4 +1,4 @@
--- The fields of one number among those of a message, and what the records that carry them give.
+-- The fields of one number among the fields of a message, and the values of the records that carry them.
 use Rattle.std.proofs.Common.{◌≡◌, ℕ, eqb, false, List, [], ◌∷◌, ◌++◌, map, Option, Some, None, refl, ap, ◌∙◌, subst, inl, inr}
 use Rattle.std.specs.Prelude.{◌==◌, IfSome, if◌then◌else◌}
 use Rattle.std.specs.Option.{option_to_list}
@@ -42,7 +42,7 @@ each_of_picked k gives (p ∷ ps) =
       | inr e ↦ rw e (each_of_picked k gives ps)
     ]
 
--- what the records of a message give is what those of one row of fields give
+-- the values of a field in the records of a message are those of the fields with its number
 pub row_said : {X Y : Type 0} (f : List X → Y) (k : ℕ) (gives : PayloadRecord → List X) (fs row : List Field) (ps : List PayloadRecord) (v : Y) → CarryAll ps fs → select k fs ≡ row → ((qs : List PayloadRecord) → CarryAll qs row → f (each_of k gives qs) ≡ v) → f (each_of k gives ps) ≡ v
 row_said f k gives fs row ps v h e given =
     ap f (each_of_picked k gives ps) ∙ given (picked k ps) (subst (λ (gs : List Field). CarryAll (picked k ps) gs) e (carry_picked k ps fs h))
@@ -56,13 +56,13 @@ select_append k (f ∷ fs) gs =
       | inr e ↦ rw e (select_append k fs gs)
     ]
 
--- all fields of this number
+-- all fields have this number
 pub hit : (k : ℕ) (fs : List Field) → HaveNumber k fs → select k fs ≡ fs
 unfolding select
 hit k [] h = refl
 hit k (f ∷ fs) h = rw (eq-eqb f.number k h.0) (ap (λ (xs : List Field). f ∷ xs) (hit k fs h.1))
 
--- none of them
+-- no field has this number
 pub miss : (k j : ℕ) (fs : List Field) → HaveNumber j fs → eqb j k ≡ false → select k fs ≡ []
 unfolding select
 miss k j [] h e = refl
@@ -87,7 +87,7 @@ each_of_none : {X : Type 0} (k : ℕ) (gives : PayloadRecord → List X) → eac
 unfolding each_of
 each_of_none k gives = refl
 
--- a singular message that was written is read again
+-- a singular message that was written is read back
 pub merged_given : {V : Type 0} (k : ℕ) (of : List PayloadRecord → V) (written : V → List ℕ) (o : Option V) (qs : List PayloadRecord) → IfSome o (λ v. Restores of v (written v)) → CarryAll qs (payload_fields k (map written (option_to_list o))) → merged of (each_of k nested_records qs) ≡ o
 merged_given k of written None [] r h = ap (merged of) (each_of_none k nested_records)
 merged_given k of written None (p ∷ qs) r h = absurd h

@@ -1,4 +1,4 @@
--- What is written means the message that was written, and has no fault, wherever it stands.
+-- The written form of a message means the message, and has no fault, at whatever offset.
 use Rattle.std.proofs.Common.{◌≡◌, ℕ, ◌^◌, ◌<◌, pos, List, [], ◌++◌, length, map, None, refl, sym, subst, arith}
 use Rattle.std.specs.Option.{option_to_list}
 use Rattle.proto_wire.specs.Records.{PayloadRecord}
@@ -335,7 +335,7 @@ index_again i fits short =
     (λ qs k. messages-given 3 symbol_of written_symbol i.external_symbols qs (restores symbol_fault symbol_of written_symbol i.external_symbols symbols) k) in
     rw (one, two, three) refl)
 
--- bytes that are written of an index mean it
+-- the written form of an index encodes the index
 pub means_it : (i : IndexModel) (bytes : List ℕ) → IndexFits i → bytes ≡ written i → length bytes < 2 ^ 64 → Means bytes i
 means_it i bytes fits e short =
     let again = index_again i fits (subst (λ (bs : List ℕ). length bs < 2 ^ 64) e short) 0 in

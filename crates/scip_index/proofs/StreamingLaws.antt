@@ -1,4 +1,4 @@
--- A record carries one message of a field at most, and what a reader keeps at its start and its end.
+-- A record carries at most one message of a field; the state of a reader at the start and at the end of the bytes.
 use Rattle.std.proofs.Common.{◌≡◌, ◌<◌, ◌≤◌, ◌++◌, ◌∷◌, [], ℕ, suc, true, false, List, take, length, map, Option, Some, None, refl, sym, ap, subst, ◌∙◌, inl, inr, arith}
 use Rattle.std.specs.Prelude.{◌==◌, IfNone, IfSome}
 use Rattle.std.specs.Option.{is_some, option_to_list}
@@ -66,14 +66,14 @@ read_so_far bytes front at rest r = ap (payload_records 0) (read_bytes bytes fro
 pub given_is : (bytes : List ℕ) (at : ℕ) (error : Option WireFault) (front : List PayloadRecord) (rest : List ℕ) → IsSplit 0 bytes front at rest → given (record { bytes = bytes; at = at; error = error }) ≡ documents_in front
 given_is bytes at error front rest r = ap (λ (x : List PayloadRecord × Option WireFault). documents_in x.0) (read_so_far bytes front at rest r)
 
--- the bytes that are read mean an index with the documents that are given
+-- the bytes that are read encode an index with the documents that were returned
 pub read_means : (bytes : List ℕ) (at : ℕ) (error : Option WireFault) (front : List PayloadRecord) (rest : List ℕ) → IsSplit 0 bytes front at rest → IsClean index_fault front
     → HasDocuments (take at bytes) (given (record { bytes = bytes; at = at; error = error }))
 read_means bytes at error front rest r clean =
     subst (λ (read : List ℕ). HasDocuments read (given (record { bytes = bytes; at = at; error = error }))) (sym (read_bytes bytes front at rest r))
     (index_of front, record { pieces = front; are_records = r.are_records; clean = clean; index_is = refl }, sym (given_is bytes at error front rest r))
 
--- at the end the bytes mean what the reader keeps and gave
+-- at the end the bytes encode an index with what the reader stores and has returned
 pub ended : (bytes : List ℕ) (front : List PayloadRecord) (at : ℕ) (rest : List ℕ) (metadata : Option MetadataModel) (externals : List SymbolModel) → IsReaderAt bytes front at rest metadata externals → length rest ≡ 0
     → (i : IndexModel) × Means bytes i × (i.metadata ≡ metadata) × (i.external_symbols ≡ externals) × (i.documents ≡ documents_in front)
 ended bytes front at rest metadata externals s none = (
@@ -84,7 +84,7 @@ ended bytes front at rest metadata externals s none = (
   refl,
 )
 
--- a reader that comes to a shorter rest has read on
+-- a reader with fewer remaining bytes has read on
 pub onward : {X : Type 0} (bytes : List ℕ) (front more : List PayloadRecord) (at next : ℕ) (rest after : List ℕ) (document : Option X) → IsSplit 0 bytes front at rest → IsSplit 0 bytes more next after
     → IfSome document (λ _. length after < length rest) → IfSome document (λ _. (at < next) × (next ≤ length bytes))
 onward bytes front more at next rest after None r s h = tt
@@ -93,12 +93,12 @@ onward bytes front more at next rest after (Some x) r s h =
     let new = ap length s.form ∙ length-append s.good after in
     (omega (arith, old, new, r.here, s.here, h), omega (arith, new, s.here))
 
--- a reader of which nothing is read
+-- a reader that has read nothing
 pub fresh : (bytes : List ℕ) → IsReaderAt bytes [] 0 bytes None []
 unfolding each_of
 fresh bytes = record { reached = IsSplit-start 0 bytes; clean = tt; metadata_is = refl; externals_are = refl }
 
--- where no document came, all are given
+-- if there is no further document, all documents were returned
 pub all_given : (bytes : List ℕ) (front more : List PayloadRecord) (at : ℕ) (rest : List ℕ) (metadata : Option MetadataModel) (externals : List SymbolModel) (document : Option Document) (before : List DocumentModel) → IsReaderAt bytes (front ++ more) at rest metadata externals
     → documents_in (front ++ more) ≡ documents_in front ++ map document_model (option_to_list document) → IfNone document (length rest ≡ 0) → before ≡ documents_in front → IfNone document (HasDocuments bytes before)
 all_given bytes front more at rest metadata externals None before s d none b =

@@ -1,4 +1,4 @@
--- One field after the other, and forms of values in a row.
+-- One field after another, and the written forms of a list of values.
 use Rattle.std.proofs.Common.{◌≡◌, List, [], ◌∷◌, ◌++◌, map, Option, Some, None, Result, Ok, Err, String, Global, refl, ap}
 use Rattle.std.specs.Prelude.{option_map, IfSome, OnOk}
 use Rattle.std.specs.List.{AllByRecursion}

@@ -1,4 +1,5 @@
--- What the types of the code guarantee of each message: its numbers fit 32 bits, and its strings are UTF-8. So its written form can be decoded.
+-- What the types of the code guarantee of each message: its numbers fit 32 bits, and its strings are UTF-8. So its written form can be
+-- decoded.
 use Rattle.std.specs.Prelude.{FitsSigned, IfSome}
 use Rattle.std.specs.Int.{w32}
 use Rattle.std.specs.List.{AllByRecursion}

@@ -4,3 +4,4 @@ pub mod Written
 pub mod Fits
 pub mod Writers
 pub mod Streaming
+pub mod Ranges

@@ -1,4 +1,5 @@
--- The message that records encode, in any order: all values of a repeated field, the last value of a singular one, and the merge of a singular message.
+-- The message that records encode, in any order: all values of a repeated field, the last value of a singular field, and the merge of a
+-- singular message.
 use Rattle.std.specs.Prelude.{◌≡◌, ℕ, pos, List, [], ◌∷◌, map, Option, Some, None, Result, Ok, Err}
 use Rattle.std.specs.List.{flat_map}
 use Rattle.proto_wire.specs.declared.fault.WireFault.{WireFault}

@@ -7,7 +7,8 @@ use Rattle.proto_wire.specs.Readings.{payload_records}
 use Rattle.scip_index.specs.Plain.{MetadataModel, SymbolModel, DocumentModel, IndexModel}
 use Rattle.scip_index.specs.Meaning.{metadata_of, symbol_of, document_of, merged, index_fault, Means}
 
--- a reader has read these records, none with a fault inside: the offset, the remaining bytes, the metadata and the external symbols are those after them
+-- a reader has read these records, none with a fault inside: the offset, the remaining bytes, the metadata and the external symbols are
+-- those after these records
 pub record IsReaderAt (bytes : List ℕ) (front : List PayloadRecord) (at : ℕ) (rest : List ℕ) (metadata : Option MetadataModel) (externals : List SymbolModel) : Type 0 where
   pub reached : IsSplit 0 bytes front at rest
   pub clean : IsClean index_fault front

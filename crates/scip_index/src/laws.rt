@@ -28,7 +28,7 @@ pub fn what_is_written_is_read()
 {}
 
 /// The written form of an index is the concatenation of what the calls of an `IndexWriter` write, in order.
-pub fn in_parts()
+pub fn written_form_has_parts()
     // The written form is the metadata's record, then the documents' records, then the external symbols' records.
     ensures { (i : IndexModel) → written i ≡ metadata_part i.metadata ++ documents_part i.documents ++ externals_part i.external_symbols }
 {}

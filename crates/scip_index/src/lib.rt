@@ -5,17 +5,27 @@
 //! `to_bytes` returns the one written form of an index, which encodes this index and no other.
 #![tactic(auto)]
 
-mod checking;
+mod borrowed;
+mod checked_messages;
+mod compact;
+mod in_place;
 mod index;
 pub mod laws;
+mod message_decoding;
+mod message_encoding;
+mod range;
 mod reader;
-mod reading;
+mod record_head;
 mod writer;
-mod writing;
 
-pub use checking::check;
+pub use borrowed::{BorrowedOccurrence, BorrowedSymbol};
+pub use checked_messages::check;
+pub use compact::{append_compact_occurrence, is_compact};
+pub use in_place::append_in_place;
 pub use index::{Document, Index, Metadata, Occurrence, SymbolInfo, ToolInfo};
+pub use message_decoding::from_bytes;
+pub use message_encoding::to_bytes;
+pub use range::{Range, TokenSpan};
 pub use reader::IndexReader;
-pub use reading::from_bytes;
+pub use record_head::{LARGE_DOCUMENT, head_capacity, record_after_head};
 pub use writer::{IndexWriter, Stage};
-pub use writing::to_bytes;

@@ -15,8 +15,8 @@ use proto_wire::{WireFault, merge_message, read_record, take_messages};
 use std::alloc::Global;
 use std::marker::Model;
 
-/// The element of a list that has at most one.
-fn sole(mut documents: Vec<Document>) -> Option<Document>
+/// The only document of a list of at most one; none if the list is empty.
+fn only_document(mut documents: Vec<Document>) -> Option<Document>
     requires { length documents.items ≤ 1 }
     ensures { documents.items ≡ option_to_list result }
 {
@@ -25,7 +25,7 @@ fn sole(mut documents: Vec<Document>) -> Option<Document>
 
 /// Decodes the first record of `rest`, which begins at offset `at`. Returns its document, if it has one, with the offset after the record
 /// and the remaining bytes.
-fn take_record<'a>(
+fn decode_first_record<'a>(
     alloc: Global,
     at: usize,
     rest: &'a [u8],
@@ -47,7 +47,11 @@ fn take_record<'a>(
     merge_message(alloc, 1, metadata, &wire, payload)?;
     take_messages(alloc, 2, &mut documents, &wire, payload)?;
     take_messages(alloc, 3, externals, &wire, payload)?;
-    Ok((sole(documents), at + (rest.len() - after.len()), after))
+    Ok((
+        only_document(documents),
+        at + (rest.len() - after.len()),
+        after,
+    ))
 }
 
 /// Reads records up to the next document. Returns the document with the offset after its record and the remaining bytes, or `None` at the
@@ -72,7 +76,7 @@ fn next_document<'a>(
     let mut place = at;
     let mut left = rest;
     'records: while !left.is_empty() {
-        let (document, next, after) = take_record(alloc, place, left, metadata, externals)?;
+        let (document, next, after) = decode_first_record(alloc, place, left, metadata, externals)?;
         if document.is_some() {
             return Ok((document, next, after));
         }
@@ -100,7 +104,7 @@ fn read_rest(
     let mut place = at;
     let mut left = rest;
     'records: while !left.is_empty() {
-        let (_, next, after) = take_record(alloc, place, left, metadata, externals)?;
+        let (_, next, after) = decode_first_record(alloc, place, left, metadata, externals)?;
         place = next;
         left = after;
     }
@@ -108,8 +112,8 @@ fn read_rest(
 }
 
 /// Reads an index one document at a time, so that one document is in memory at a time.
-/// Contracts describe a reader by the bytes, the number of bytes that are read, and the error that it has returned, if any. From then on it
-/// returns this error again.
+/// Contracts describe a reader by the bytes, the number of bytes that are read, and the error that it has returned, if any. After an error
+/// each call returns this error again.
 #[derive(Drop)]
 pub struct IndexReader<'a> {
     alloc: Global,

@@ -12,7 +12,7 @@ ghost use Rattle.scip_index.specs.Writers.{after_write, MayCall};
 
 use crate::{Document, Metadata, SymbolInfo};
 use byte_sink::{Sink, SinkFault, write_fully};
-use proto_wire::{Scratch, WireFault, push_message, write_messages};
+use proto_wire::{Scratch, WireFault, append_message, append_messages};
 use std::alloc::{AllocError, Global};
 use std::marker::Model;
 
@@ -39,7 +39,7 @@ fn write_metadata<S: Sink>(
     ensures failures { S.failures sink.new ≡ failures_after result (S.failures sink.old) }
 {
     bytes.clear();
-    push_message(scratch, bytes, 1, metadata).map_err(|_| SinkFault::Memory)?;
+    append_message(scratch, bytes, 1, metadata).map_err(|_| SinkFault::Memory)?;
     write_fully(sink, bytes)
 }
 
@@ -55,12 +55,12 @@ fn write_document<S: Sink>(
     ensures failures { S.failures sink.new ≡ failures_after result (S.failures sink.old) }
 {
     bytes.clear();
-    push_message(scratch, bytes, 2, document).map_err(|_| SinkFault::Memory)?;
+    append_message(scratch, bytes, 2, document).map_err(|_| SinkFault::Memory)?;
     write_fully(sink, bytes)
 }
 
 /// Encodes the records of the external symbols in the buffer.
-fn gather_externals(
+fn encode_externals(
     scratch: &mut Scratch,
     bytes: &mut Vec<u8>,
     externals: &[SymbolInfo],
@@ -69,7 +69,7 @@ fn gather_externals(
     ensures fits { OnOk result (AllByRecursion SymbolFits (map symbol_model externals.now)) }
 {
     bytes.clear();
-    write_messages(scratch, bytes, 3, externals)
+    append_messages(scratch, bytes, 3, externals)
 }
 
 /// Encodes the records of the external symbols in the buffer and writes them. After an error the sink has taken a prefix of the records.
@@ -83,7 +83,7 @@ fn write_externals<S: Sink>(
     ensures fits { OnOk result (AllByRecursion SymbolFits (map symbol_model externals.now)) }
     ensures failures { S.failures sink.new ≡ failures_after result (S.failures sink.old) }
 {
-    gather_externals(scratch, bytes, externals).map_err(|_| SinkFault::Memory)?;
+    encode_externals(scratch, bytes, externals).map_err(|_| SinkFault::Memory)?;
     write_fully(sink, bytes)
 }
 

@@ -1,4 +1,4 @@
--- What was answered, as an outcome.
+-- Results as outcomes.
 use Rattle.std.proofs.Common.{◌≡◌, ◌≢◌, true, false, eqb, List, [], ◌∷◌, length, Result, Ok, Err, refl, subst, arith}
 use Rattle.std.proofs.lemmas.Bool.{eqb-true}
 use Rattle.scip_symbol.specs.declared.fault.SymbolFault.{SymbolFault}
@@ -21,12 +21,12 @@ UnlessMemory-weaker OpenQuote p h = h p
 UnlessMemory-weaker Memory p h = tt
 UnlessMemory-weaker (BadPart part) p h = h p
 
--- what every outcome of a kind is, the one that was answered is
+-- if all outcomes of a kind are equal, the result is that outcome
 pub HasOutcome-weaker : {X Y : Type 0} (view : X → Y) (result : Result X SymbolFault) (P Q : Result Y SymbolFault → Type 0) → HasOutcome view result P → ((o : Result Y SymbolFault) → P o → Q o) → HasOutcome view result Q
 HasOutcome-weaker view (Ok x) P Q p h = h (Ok (view x)) p
 HasOutcome-weaker view (Err e) P Q p h = UnlessMemory-weaker e p (h (Err e))
 
--- what is so of the reading is so of what was answered
+-- a property of the specified result holds for the result
 pub Accords-tells : {X Y : Type 0} (view : X → Y) (result : Result X SymbolFault) (reading : Result Y SymbolFault) (P : Result Y SymbolFault → Type 0) → Accords view result reading → P reading → HasOutcome view result P
 Accords-tells view result reading P a p = HasOutcome-weaker view result (λ o. reading ≡ o) P a (λ o e. subst P e p)
 

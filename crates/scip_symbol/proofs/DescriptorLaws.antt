@@ -1,4 +1,4 @@
--- Descriptors are read as they are written, and not otherwise.
+-- Descriptors are read exactly as they are written.
 use Rattle.std.proofs.Common.{◌≡◌, ◌≢◌, ◌⊎◌, ℕ, ◌<◌, true, List, [], ◌∷◌, ◌++◌, codes, length, Option, Some, None, Result, Ok, Err, refl, sym, ap, subst, ◌∙◌, inl, inr, arith, append_assoc, length-append}
 use Rattle.std.specs.Option.{ok_or, option_map}
 use Rattle.std.proofs.lemmas.Bool.{cases_eq, eq-eqb, ne_eqb, eqb-false}
@@ -25,9 +25,9 @@ pub record IsRead (text : List ℕ) (x : DescriptorModel × List ℕ) : Type 0 w
 err_as : {X : Type 0} (x y : SymbolFault) → ◌≡◌ {A = Result X SymbolFault} (Err x) (Err y) → ◌≡◌ {A = Result (List ℕ × List ℕ) SymbolFault} (Err x) (Err y)
 err_as x y e = ap (λ (z : SymbolFault). Err z) (err_same x y e)
 
--- ---- what is read is written so
+-- ---- a descriptor that is read has the string that was read
 
--- the name of a read text and what follows it make a descriptor of this kind
+-- the name that was read and what follows it are a descriptor of this kind
 read_as : (kind : DescriptorKind) (name disambiguator written rest others : List ℕ) → NameText name written → IsOfMethod kind disambiguator → are_simple disambiguator ≡ true
     → rest ≡ closing kind disambiguator ++ others → IsRead (before_name kind ++ written ++ rest) (record { kind = kind; name = name; disambiguator = disambiguator }, others)
 read_as kind name disambiguator written rest others t m s e = record {
@@ -75,7 +75,7 @@ method_takes at name written inside x t e = go (after_bytes (codes ").") (simple
         subst (λ (v : DescriptorModel × List ℕ). IsRead (written ++ 40 ∷ inside) v) z
         (read_as Method name (simple_prefix inside).0 written (40 ∷ inside) rest t (λ ne. absurd (ne refl)) (front_simple inside) whole)
 
--- the byte behind a name of this kind, and what stands before one
+-- the byte after a name of this kind, and the byte before it
 pub record IsTold (b : ℕ) (kind : DescriptorKind) : Type 0 where
   pub closes : closing kind [] ≡ b ∷ []
   pub opens : before_name kind ≡ []
@@ -166,7 +166,7 @@ descriptor_shortens at text d rest e =
     let r = read_of at text (d, rest) e in
     omega (arith, descriptor_some d r.first r.first_is, ap length r.split, length-append r.first rest)
 
--- ---- what is written is read again
+-- ---- a descriptor that is written is read back
 
 after_name : (at : ℕ) (kind : DescriptorKind) (name written others : List ℕ) → NameText name written → EndsName others → bare_at at (written ++ others) ≡ suffixed_at at name others
 unfolding bare_at
@@ -233,14 +233,14 @@ parts_again at kind name disambiguator written others t m s =
           (plain_again at kind name written others t ne)
     ]
 
--- a descriptor that is written is read again, whatever follows it
+-- a descriptor that is written is read back, whatever follows it
 pub descriptor_again : (at : ℕ) (d : DescriptorModel) (first others : List ℕ) → DescriptorText d first → descriptor_at at (first ++ others) ≡ Ok (d, others)
 descriptor_again at d first others t =
     ap (λ (xs : List ℕ). descriptor_at at (xs ++ others)) t.whole
     ∙ ap (descriptor_at at) (append_assoc (before_name d.kind ++ t.name) (closing d.kind d.disambiguator) others ∙ append_assoc (before_name d.kind) t.name (closing d.kind d.disambiguator ++ others))
     ∙ parts_again at d.kind d.name d.disambiguator t.name others t.name_is t.of_method t.simple
 
--- ---- what is no descriptor
+-- ---- bytes that begin with no descriptor
 
 closed_open : (at : ℕ) (kind : DescriptorKind) (close : ℕ) (inside : List ℕ) → IsUnended 96 inside → closed_at at kind close (96 ∷ inside) ≡ Err faults.OpenQuote
 unfolding closed_at
@@ -261,11 +261,11 @@ opening_open at Macro inside u = bare_open at inside u
 opening_open at TypeParameter inside u = closed_open at TypeParameter 93 inside u
 opening_open at Parameter inside u = closed_open at Parameter 41 inside u
 
--- a name with an open quote is refused
+-- a name with an open backtick is an error
 pub descriptor_open : (at : ℕ) (rest : List ℕ) → HasOpenQuote rest → descriptor_at at rest ≡ Err faults.OpenQuote
 descriptor_open at rest q = ap (descriptor_at at) q.begins ∙ opening_open at q.kind q.inside q.open_is
 
--- what is wrong with a text that begins with no descriptor
+-- the error of a string that begins with no descriptor
 abbrev pub IsWrong : ℕ → List ℕ → SymbolFault → Type 0
 IsWrong at rest e = (e ≡ faults.BadDescriptor at) ⊎ ((e ≡ faults.OpenQuote) × HasOpenQuote rest)
 

@@ -1,11 +1,11 @@
--- Descriptors in a row, read from the left.
+-- A sequence of descriptors, read from its start.
 use Rattle.std.proofs.Common.{◌≡◌, ℕ, List, [], ◌∷◌, ◌++◌, refl, sym, ap, ◌∙◌, append_assoc}
 use Rattle.std.proofs.lemmas.List.{append-nil, map-append}
 use Rattle.scip_symbol.specs.declared.descriptor.Descriptor.{Descriptor}
 use Rattle.scip_symbol.specs.Views.{descriptor_model, descriptor_models}
 use Rattle.scip_symbol.specs.SymbolTexts.{DescriptorModel, DescriptorText, DescriptorTexts}
 
--- the text begins with these descriptors, and goes on so
+-- the string begins with these descriptors, and continues with the rest
 pub record IsReadTo (text : List ℕ) (ds : List DescriptorModel) (rest : List ℕ) : Type 0 where
   pub front : List ℕ
   pub front_is : DescriptorTexts ds front

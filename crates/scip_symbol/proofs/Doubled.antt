@@ -1,4 +1,4 @@
--- Putting a text with a byte doubled, from one such byte to the next.
+-- Appending a string with a byte doubled, from one occurrence of the byte to the next.
 use Rattle.std.proofs.Common.{◌≡◌, ℕ, List, [], ◌∷◌, ◌++◌, Some, None, Result, Ok, Err, refl, sym, ap, subst, ◌∙◌, inl, inr, append_assoc}
 use Rattle.std.specs.Prelude.{OnOk, is_ok, if◌then◌else◌}
 use Rattle.std.proofs.lemmas.Bool.{cases_eq, eq-eqb, ne_eqb}
@@ -38,7 +38,7 @@ put_more delimiter before out text rest front after h e =
     append_assoc ((out ++ front) ++ delimiter ∷ []) (delimiter ∷ []) (doubled delimiter after) ∙ append_assoc (out ++ front) (delimiter ∷ []) (delimiter ∷ doubled delimiter after)
     ∙ append_assoc out front (delimiter ∷ delimiter ∷ doubled delimiter after) ∙ ap (λ (t : List ℕ). out ++ t) (sym (doubled_cut delimiter rest (front, after) e)) ∙ h
 
--- where the last of it was put, all of it was
+-- once the rest without the byte is appended, the whole string is
 pub put_on_ok : {E : Type 0} (r : Result (Unit {0}) E) (new out rest all : List ℕ) → new ≡ (if is_ok r then out ++ rest else out) → out ++ rest ≡ all → OnOk r (new ≡ all)
 put_on_ok (Ok x) new out rest all h e = h ∙ e
 put_on_ok (Err x) new out rest all h e = tt

@@ -1,4 +1,4 @@
--- Parts that a single byte ends: they are read as they are written, and not otherwise.
+-- Parts that a single byte ends are read exactly as they are written.
 use Rattle.std.proofs.Common.{◌≡◌, ◌≢◌, ℕ, ◌<◌, List, [], ◌∷◌, ◌++◌, length, Option, Some, None, refl, sym, ap, subst, ◌∙◌, inl, inr, arith, append_assoc}
 use Rattle.std.specs.Prelude.{option_map}
 use Rattle.std.proofs.lemmas.Bool.{cases_eq, eq-eqb, ne_eqb}
@@ -32,7 +32,7 @@ doubled-byte delimiter b part ne = rw (ne_eqb b delimiter ne) refl
 
 -- ---- whole parts
 
--- a part that is written is read again
+-- a part that is written is read back
 pub ended-again : (delimiter : ℕ) (part rest : List ℕ) → IsNotFirst delimiter rest → ended_by delimiter (doubled delimiter part ++ delimiter ∷ rest) ≡ Some (part, rest)
 ended-again delimiter [] rest h = ended-end delimiter rest h
 ended-again delimiter (b ∷ part) rest h =
@@ -63,7 +63,7 @@ with_byte delimiter b more y ne i = record {
   next = i.next;
 }
 
--- what is read as a part is written so
+-- a part that is read is written as the bytes that were read
 pub ended-said : (delimiter : ℕ) (text : List ℕ) (x : List ℕ × List ℕ) → ended_by delimiter text ≡ Some x → IsEnded delimiter text x.0 x.1
 unfolding ended_by
 ended-said delimiter [] x e = absurd cc
@@ -102,7 +102,7 @@ unended-none delimiter text u = go (ended_by delimiter text) refl
     go None e = refl
     go (Some x) e = absurd (u x.0 x.1 (ended-said delimiter text x e))
 
--- ---- by the first such byte
+-- ---- up to the first occurrence of the byte
 
 abbrev pub with_front : List ℕ → List ℕ × List ℕ → List ℕ × List ℕ
 with_front xs parts = (xs ++ parts.0, parts.1)
@@ -158,7 +158,7 @@ after_some delimiter (b ∷ text) rest e =
       | inr ne ↦ absurd (let y = rw (ne_eqb b delimiter ne) at e in cc)
     ]
 
--- ---- a loop over these
+-- ---- the loop over the occurrences
 
 pub runs_out : (delimiter : ℕ) (text part rest : List ℕ) → ended_by delimiter text ≡ option_map (with_front part) (ended_by delimiter rest) → cut_at delimiter rest ≡ None → ended_by delimiter text ≡ None
 runs_out delimiter text part rest h e = h ∙ ap (option_map (with_front part)) (cut_none delimiter rest e)

@@ -1,4 +1,4 @@
--- What a text with four parts says.
+-- The outcomes of reading a string with four parts.
 use Rattle.std.proofs.Common.{◌≡◌, ◌≢◌, ℕ, ◌-◌, ◌≤◌, List, [], ◌∷◌, ◌++◌, length, Result, Ok, Err, refl, sym, ap, subst, ◌∙◌, inl, inr, arith, length-append}
 use Rattle.std.specs.List.{flat_map}
 use Rattle.scip_symbol.specs.declared.fault.SymbolFault.{SymbolFault}
@@ -10,14 +10,14 @@ use Rattle.scip_symbol.specs.Reading.{PartsModel, descriptor_at, IsFirstWrong}
 use Rattle.scip_symbol.proofs.PartLaws.{ArePartsRead}
 use Rattle.scip_symbol.proofs.DescriptorLaws.{IsWrong, descriptor_again, descriptor_open, descriptor_fails}
 
--- a text begins with `local` where its scheme does
+-- a string begins with `local` exactly if its scheme does
 local_scheme : (scheme manager package_name version rest : List ℕ) → BeginsLocal scheme → BeginsLocal (parts_text scheme manager package_name version ++ rest)
 local_scheme scheme m p v rest b = (
   doubled 32 b.0 ++ (32 ∷ []) ++ flat_map ended_part (part_shown m ∷ part_shown p ∷ part_shown v ∷ []) ++ rest,
   ap (λ (s : List ℕ). parts_text s m p v ++ rest) b.1,
 )
 
--- where no name has an open quote there, nothing but a descriptor is wrong
+-- if no name has an open backtick there, only a wrong descriptor can be the error
 pub no_descriptor : (at : ℕ) (rest : List ℕ) (fault : SymbolFault) → descriptor_at at rest ≡ Err fault → HasNoDescriptor rest
 no_descriptor at rest fault e d first others t s =
     let again : descriptor_at at rest ≡ Ok (d, others) = ap (descriptor_at at) s ∙ descriptor_again at d first others t in
@@ -46,7 +46,7 @@ front_of text x fault r w =
       offset = omega (arith, length-append (parts_text x.0.scheme x.0.manager x.0.package_name x.0.version) x.1, length-append w.front w.rest);
     }
 
--- the first wrong descriptor is what is refused
+-- the first wrong descriptor is the error
 pub wrong_refused : (text : List ℕ) (x : PartsModel × List ℕ) (fault : SymbolFault) → ArePartsRead text x → IsFirstWrong (length text) x.1 fault → IsReadError text fault
 wrong_refused text x fault r w = by_wrong (descriptor_fails (length text - length w.rest) w.rest fault w.answer)
   where
@@ -60,7 +60,7 @@ wrong_refused text x fault r w = by_wrong (descriptor_fails (length text - lengt
 abbrev pub global_of : PartsModel → List DescriptorModel → SymbolModel
 global_of x ds = Global x.scheme x.manager x.package_name x.version ds
 
--- descriptors behind the parts make a symbol
+-- the four parts and the descriptors after them are a symbol
 pub global_text : (text : List ℕ) (x : PartsModel × List ℕ) (ds : List DescriptorModel) → ArePartsRead text x → x.1 ≢ [] → DescriptorTexts ds x.1 → SymbolText (global_of x.0 ds) text
 global_text text x ds r some t = record {
   scheme_is = r.scheme_is;

@@ -32,7 +32,7 @@ local_is (b ∷ id) = by_rest (simple_prefix (b ∷ id)).1 refl
 pub local_read : (text id : List ℕ) → after_bytes (codes "local ") text ≡ Some id → IsReadOutcome text (local_of id)
 local_read text id e = subst (λ (t : List ℕ). IsReadOutcome t (local_of id)) (sym (after_bytes_some (codes "local ") text id e)) (local_is id)
 
--- an id that is simple, and one that isn't
+-- an id of identifier characters, and an id with another byte
 pub local_ok : (id : List ℕ) → IsSimple id → local_of id ≡ Ok (Local id)
 unfolding local_of
 local_ok [] s = absurd (s.some refl)

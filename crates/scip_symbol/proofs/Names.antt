@@ -1,4 +1,4 @@
--- Names are read as they are written, and not otherwise.
+-- Names are read exactly as they are written.
 use Rattle.std.proofs.Common.{◌≡◌, ◌≢◌, ◌⊎◌, ℕ, true, false, List, [], ◌∷◌, ◌++◌, Option, Some, None, Ok, Err, refl, sym, ap, subst, ◌∙◌, inl, inr, append_assoc}
 use Rattle.std.specs.Option.{ok_or}
 use Rattle.std.proofs.lemmas.Bool.{cases_Bool, and_parts, both_ways}
@@ -10,9 +10,9 @@ use Rattle.scip_symbol.specs.Reading.{after_byte, ended_by, simple_prefix, nonem
 use Rattle.scip_symbol.proofs.Ends.{ended-again, ended-said, unended, unended-none, after_some}
 use Rattle.scip_symbol.proofs.TextCuts.{after_byte-other}
 
--- ---- simple bytes
+-- ---- identifier characters
 
--- no simple byte stands in front, and no backtick
+-- the bytes begin neither with an identifier character nor with a backtick
 abbrev pub EndsName : List ℕ → Type 0
 EndsName [] = Unit {0}
 EndsName (b ∷ bytes) = (is_simple b ≡ false) × (b ≢ 96)
@@ -116,7 +116,7 @@ name_takes at text x e = go (after_byte 96 text) refl e
 simple_other : (b c : ℕ) → is_simple b ≡ true → is_simple c ≡ false → b ≢ c
 simple_other b c e f s = both_ways (is_simple b) (ap is_simple s ∙ f) e
 
--- another byte that isn't simple doesn't stand before a name
+-- a name begins with no other byte that isn't an identifier character
 pub name_begins : (delimiter : ℕ) (name written rest : List ℕ) → is_simple delimiter ≡ false → delimiter ≢ 96 → NameText name written → after_byte delimiter (written ++ rest) ≡ None
 name_begins delimiter name written rest m n t = go name written t.some t.written
   where
@@ -148,9 +148,9 @@ name_again at name written rest t h =
       | inr q ↦ ap (λ (xs : List ℕ). first_name_at at (xs ++ rest)) q ∙ quoted_again at name rest t.some h
     ]
 
--- ---- what isn't a name
+-- ---- bytes that begin with no name
 
--- a backtick that isn't closed stands in front
+-- the bytes begin with a backtick that isn't closed
 pub record OpensQuote (text : List ℕ) : Type 0 where
   pub inside : List ℕ
   pub begins : text ≡ 96 ∷ inside

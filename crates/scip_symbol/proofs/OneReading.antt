@@ -1,4 +1,4 @@
--- A text answers one thing.
+-- A string has one outcome of reading.
 use Rattle.std.proofs.Common.{◌≡◌, ◌≢◌, ◌⊎◌, ℕ, ◌<◌, ◌-◌, true, eqb, List, [], ◌∷◌, ◌++◌, codes, length, Result, Ok, Err, refl, sym, ap, subst, ◌∙◌, inl, inr, arith, append_assoc, length-append}
 use Rattle.std.specs.Prelude.{unwrap_or, not}
 use Rattle.std.specs.List.{slice_get, flat_map, list_all}
@@ -18,13 +18,13 @@ use Rattle.scip_symbol.proofs.LocalLaws.{local_ok, local_bad, local_none}
 use Rattle.scip_symbol.proofs.OneRow.{nothing_begins, row_once, row_first}
 use Rattle.scip_symbol.proofs.Starts.{Start, Nothing, LocalId, LocalWord, Space, Lacks, Four, start_of, starts_local, starts_word, starts_space, starts_nothing, starts_four, starts_lacking}
 
--- ---- what a start leaves open
+-- ---- the outcomes that each start allows
 
-abbrev part_in : ℕ → List (List ℕ) → List ℕ
-part_in number parts = unwrap_or (slice_get parts number) []
+abbrev read_part : ℕ → List (List ℕ) → List ℕ
+read_part number parts = unwrap_or (slice_get parts number) []
 
 abbrev global_by : List (List ℕ) → List DescriptorModel → SymbolModel
-global_by parts ds = Global (part_in 0 parts) (part_meant (part_in 1 parts)) (part_meant (part_in 2 parts)) (part_meant (part_in 3 parts)) ds
+global_by parts ds = Global (read_part 0 parts) (part_meant (read_part 1 parts)) (part_meant (read_part 2 parts)) (part_meant (read_part 3 parts)) ds
 
 record IsGlobalBy (parts : List (List ℕ)) (rest : List ℕ) (s : SymbolModel) : Type 0 where
   descriptors : List DescriptorModel
@@ -44,7 +44,7 @@ IsOutcomeFrom whole Space o = o ≡ Err (faults.BadPart 0)
 IsOutcomeFrom whole (Lacks n) o = o ≡ Err (faults.BadPart n)
 IsOutcomeFrom whole (Four parts rest) o = IsFourOutcome whole parts rest o
 
--- ---- once
+-- ---- the outcome is unique
 
 wrong_stuck : (whole : ℕ) (rest : List ℕ) (fault : SymbolFault) → (w : IsFirstWrong whole rest fault) → HasNoDescriptor w.rest
 wrong_stuck whole rest fault w = no_descriptor (whole - length w.rest) w.rest fault w.answer
@@ -87,7 +87,7 @@ once whole Space o p i k = i ∙ sym k
 once whole (Lacks n) o p i k = i ∙ sym k
 once whole (Four parts rest) o p i k = four_once whole parts rest o p i k
 
--- ---- from the text
+-- ---- from the string
 
 from_start : (text : List ℕ) (start : Start) (o : Result SymbolModel SymbolFault) → start_of text ≡ start → IsOutcomeFrom (length text) start o → IsOutcomeFrom (length text) (start_of text) o
 from_start text start o e i = subst (λ (s : Start). IsOutcomeFrom (length text) s o) (sym e) i
@@ -95,7 +95,7 @@ from_start text start o e i = subst (λ (s : Start). IsOutcomeFrom (length text)
 begins_more : (w b : ℕ) (word scheme : List ℕ) → b ≡ w → (others : List ℕ) × (scheme ≡ word ++ others) → (others : List ℕ) × (b ∷ scheme ≡ w ∷ (word ++ others))
 begins_more w b word scheme same i = (i.0, ap (λ (x : ℕ). x ∷ scheme) same ∙ ap (λ (xs : List ℕ). w ∷ xs) i.1)
 
--- a word without spaces stands in front of a scheme where it does in front of its text
+-- a word without spaces is a prefix of a scheme exactly if it is a prefix of the string
 scheme_begins : (word scheme rest more : List ℕ) → list_all (λ b. not (eqb b 32)) word ≡ true → doubled 32 scheme ++ 32 ∷ rest ≡ word ++ more → (others : List ℕ) × (scheme ≡ word ++ others)
 scheme_begins [] scheme rest more n e = (scheme, refl)
 scheme_begins (w ∷ word) [] rest more n e =

@@ -1,4 +1,4 @@
--- A text has one row of descriptors in front.
+-- A string begins with one sequence of descriptors.
 use Rattle.std.proofs.Common.{◌≡◌, ℕ, List, [], ◌∷◌, ◌++◌, length, Result, Ok, refl, sym, ap, subst, ◌∙◌, arith, append_assoc, length-append}
 use Rattle.std.proofs.lemmas.Bool.{eqb-false}
 use Rattle.scip_symbol.specs.declared.kind.DescriptorKind.{DescriptorKind}

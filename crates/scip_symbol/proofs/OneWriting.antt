@@ -1,4 +1,4 @@
--- A symbol answers one thing.
+-- A symbol has one outcome of writing.
 use Rattle.std.proofs.Common.{◌≡◌, ◌≢◌, ℕ, ◌+◌, true, false, List, [], ◌∷◌, codes, Some, None, Result, Ok, Err, refl, sym, ap, ◌∙◌}
 use Rattle.std.specs.List.{list_any, position_from}
 use Rattle.std.proofs.lemmas.Bool.{ne_eqb, both_ways}
@@ -9,7 +9,7 @@ use Rattle.scip_symbol.specs.Bytes.{IsNotFirst}
 use Rattle.scip_symbol.specs.SymbolTexts.{DescriptorModel, SymbolModel, Local, Global, DescriptorTexts, IsPackagePart, IsOptionalPart, SymbolText}
 use Rattle.scip_symbol.specs.Outcomes.{is_empty, has_empty, HasLocalScheme, begins_with_space, is_stop, is_wrong_part, wrong_part_of, is_wrong_descriptor, IsWritable, IsWriteError, IsWriteOutcome}
 
--- ---- what has a text can be written
+-- ---- a symbol that has a string can be written
 
 not_empty : {X : Type 0} (xs : List X) → xs ≢ [] → is_empty xs ≡ false
 not_empty [] h = absurd (h refl)
@@ -57,7 +57,7 @@ text_writable (Global scheme m p v ds) text t = record {
   descriptors = none_wrong ds 0 t.rest t.rest_is;
 }
 
--- ---- once
+-- ---- the outcome is unique
 
 never_refused : (s : SymbolModel) (fault : SymbolFault) → IsWritable s → IsWriteError s fault → ⊥
 never_refused s faults.Empty w r = both_ways (has_empty s) w.no_empty r

@@ -1,4 +1,4 @@
--- Parts are read as they are written, and not otherwise.
+-- Parts are read exactly as they are written.
 use Rattle.std.proofs.Common.{◌≡◌, ◌≢◌, ℕ, ◌<◌, List, [], ◌∷◌, ◌++◌, length, Option, Some, None, Result, Ok, Err, refl, sym, ap, subst, ◌∙◌, inl, inr, arith, append_assoc}
 use Rattle.std.specs.Option.{ok_or}
 use Rattle.std.specs.List.{flat_map, AllByRecursion}
@@ -13,7 +13,7 @@ use Rattle.scip_symbol.specs.Outcomes.{BeginsWithParts, IsBadPart, IsReadError}
 use Rattle.scip_symbol.specs.Reading.{ended_by, first_part_at, part_meant, optional_part_at, PartsModel, parts_at, ◌>>=◌}
 use Rattle.scip_symbol.proofs.Ends.{ended-said, unended}
 
--- ---- parts as they are shown, and as they are meant
+-- ---- parts in the string, and the values that they denote
 
 pub shown_is_part : (part : List ℕ) → IsOptionalPart part → IsPackagePart (part_shown part)
 shown_is_part [] h = eqb-false 46 32 refl
@@ -42,7 +42,7 @@ meant_is (b ∷ []) h =
     ]
 meant_is (b ∷ c ∷ part) h = record { next = h; no_stop = λ s. absurd cc }
 
--- ---- one part more
+-- ---- one more part
 
 all-push : (parts : List (List ℕ)) (part : List ℕ) → AllByRecursion IsPackagePart parts → IsPackagePart part → AllByRecursion IsPackagePart (parts ++ part ∷ [])
 all-push [] part a h = (h, tt)
@@ -87,7 +87,7 @@ pub record ArePartsRead (text : List ℕ) (x : PartsModel × List ℕ) : Type 0 
   pub version_is : IsOptionalPart x.0.version
   pub has_parts : BeginsWithParts text (shown_parts x.0.scheme x.0.manager x.0.package_name x.0.version) x.1
 
--- what reading the parts of a text answers
+-- the result of reading the parts of a string
 abbrev pub ArePartsOf : List ℕ → Result (PartsModel × List ℕ) SymbolFault → Type 0
 ArePartsOf text (Ok x) = ArePartsRead text x
 ArePartsOf text (Err fault) = IsReadError text fault
@@ -100,7 +100,7 @@ part_some : (text : List ℕ) → IsPackagePart text → text ≢ []
 part_some [] p = absurd p
 part_some (b ∷ text) p = λ e. absurd cc
 
--- a part is read, or there are too few
+-- a part is read, or the string has too few parts
 with_part : (text : List ℕ) (parts : List (List ℕ)) (rest : List ℕ) (n : ℕ) (o : Option (List ℕ × List ℕ)) (go : List ℕ × List ℕ → Result (PartsModel × List ℕ) SymbolFault)
     → text ≢ [] → BeginsWithParts text parts rest → length parts ≡ n → n < 4 → ended_by 32 rest ≡ o
     → ((x : List ℕ × List ℕ) → IsPackagePart x.0 → BeginsWithParts text (parts ++ x.0 ∷ []) x.1 → ArePartsOf text (go x))

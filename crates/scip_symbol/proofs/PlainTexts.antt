@@ -1,4 +1,4 @@
--- The plain text of a symbol is a text of it, and the shortest.
+-- The canonical string of a symbol is a string of it, and the shortest.
 use Rattle.std.proofs.Common.{◌≡◌, ◌⊎◌, ℕ, ◌<◌, ◌≤◌, List, [], ◌∷◌, ◌++◌, length, Ok, refl, sym, ap, subst, ◌∙◌, inl, inr, arith, length-append}
 use Rattle.std.specs.List.{flat_map}
 use Rattle.std.proofs.lemmas.Bool.{cases_Bool, cases_eq, eq-eqb, ne_eqb, both_ways}
@@ -8,7 +8,7 @@ use Rattle.scip_symbol.proofs.Answered.{ok_same}
 use Rattle.scip_symbol.proofs.WriteLaws.{plain_name_text}
 use Rattle.scip_symbol.proofs.OneReading.{outcome_once}
 
--- ---- at most one symbol has a text
+-- ---- at most one symbol has a string
 
 pub symbol_once : (text : List ℕ) (s t : SymbolModel) → SymbolText s text → SymbolText t text → s ≡ t
 symbol_once text s t i k = ok_same s t (outcome_once text (Ok s) (Ok t) i k)
@@ -18,7 +18,7 @@ texts_apart s t i k e = symbol_once (canonical_text t) s t (subst (λ (x : List 
 
 -- ---- names
 
--- shorter than this text, or the same
+-- shorter than this string, or equal
 abbrev IsLeast : List ℕ → List ℕ → Type 0
 IsLeast plain text = (text ≡ plain) ⊎ (length plain < length text)
 

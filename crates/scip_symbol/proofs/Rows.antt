@@ -1,4 +1,4 @@
--- Tests of descriptors, and of what clauses see of them.
+-- Tests of descriptors, and their form in contracts.
 use Rattle.std.proofs.Common.{◌≡◌, ℕ, ◌+◌, Bool, true, false, cond, eqb, length, List, [], ◌∷◌, Option, Some, refl, sym, ap, subst}
 use Rattle.std.specs.Prelude.{◌||◌}
 use Rattle.std.specs.List.{list_any, position_from}

@@ -1,4 +1,4 @@
--- The simple bytes in front of a text.
+-- The prefix of identifier characters of a string.
 use Rattle.std.proofs.Common.{◌≡◌, ℕ, suc, ◌+◌, ◌<◌, true, List, [], ◌∷◌, take, drop, refl, ap, arith, inl, inr}
 use Rattle.std.specs.List.{prefix_len}
 use Rattle.std.specs.Str.{IsUtf8, IsAscii, IsCharBoundary}
@@ -37,7 +37,7 @@ take_simple (b ∷ text) =
       | inr not_simple ↦ rw not_simple refl
     ]
 
--- the text may be cut behind them
+-- the string may be split after this prefix
 pub front_boundary : (text : List ℕ) → IsUtf8 text → IsCharBoundary text (prefix_len is_simple text)
 front_boundary text u =
     IsCharBoundary-from_take text (prefix_len is_simple text) u (prefix_len-le-length is_simple text) (IsUtf8-from_ascii (take (prefix_len is_simple text) text) (simple_text_ascii (take (prefix_len is_simple text) text) (take_simple text)))

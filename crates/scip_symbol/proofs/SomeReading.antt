@@ -1,4 +1,4 @@
--- Every text answers something.
+-- Every string has an outcome of reading.
 use Rattle.std.proofs.Common.{◌≡◌, ◌≢◌, ℕ, zero, suc, ◌<◌, ◌≤◌, ◌-◌, List, [], ◌∷◌, ◌++◌, codes, length, Option, Some, None, Result, Ok, Err, refl, sym, ap, ◌∙◌, inl, inr, arith, append_assoc}
 use Rattle.std.proofs.lemmas.Bool.{cases_eq, eq-eqb}
 use Rattle.scip_symbol.specs.declared.fault.SymbolFault.{SymbolFault}
@@ -47,7 +47,7 @@ some_row n whole [] le = (Ok [], refl)
 some_row zero whole (b ∷ text) le = absurd (omega arith)
 some_row (suc n) whole (b ∷ text) le = row_step whole (b ∷ text) (λ e. absurd cc) (λ rest shorter. some_row n whole rest (omega arith))
 
--- ---- texts
+-- ---- strings
 
 abbrev SomeOutcome : List ℕ → Type 0
 SomeOutcome text = (o : Result SymbolModel SymbolFault) × IsReadOutcome text o

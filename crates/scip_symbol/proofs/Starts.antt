@@ -1,4 +1,4 @@
--- What a text begins with decides what can be answered.
+-- The outcomes that the first bytes of a string allow.
 use Rattle.std.proofs.Common.{◌≡◌, ◌≢◌, ◌⊎◌, ℕ, zero, suc, ◌<◌, true, List, [], ◌∷◌, ◌++◌, codes, length, Option, Some, None, refl, sym, ap, subst, ◌∙◌, inl, inr, arith, append_assoc}
 use Rattle.std.specs.Prelude.{◌==◌, if◌then◌else◌}
 use Rattle.std.specs.List.{flat_map, AllByRecursion}
@@ -18,7 +18,7 @@ pub data Start : Type 0 where
   Lacks : ℕ → Start
   Four : List (List ℕ) → List ℕ → Start
 
--- up to so many parts in front, and what follows them
+-- at most this many parts at the start, and what follows them
 abbrev taken_by : Option (List ℕ × List ℕ) → List ℕ → (List ℕ → List (List ℕ) × List ℕ) → List (List ℕ) × List ℕ
 taken_by None text more = ([], text)
 taken_by (Some x) text more = (x.0 ∷ (more x.1).0, (more x.1).1)
@@ -42,7 +42,7 @@ by_local None None text = by_space text
 pub start_of : List ℕ → Start
 start_of text = by_local (after_bytes (codes "local ") text) (after_bytes (codes "local") text) text
 
--- ---- parts in a row
+-- ---- a sequence of parts
 
 not_first : (parts : List (List ℕ)) (rest : List ℕ) → AllByRecursion IsPackagePart parts → IsNotFirst 32 rest → IsNotFirst 32 (flat_map ended_part parts ++ rest)
 not_first [] rest a h = h

@@ -1,4 +1,4 @@
--- The byte behind a name.
+-- The byte after a name.
 use Rattle.std.proofs.Common.{◌≡◌, ℕ, ◌<◌, ◌≤◌, List, [], ◌∷◌, Some, None, refl, sym, subst, ◌∙◌, arith, inl, inr}
 use Rattle.std.specs.List.{slice_get}
 use Rattle.std.specs.Str.{IsUtf8, IsCharBoundary}
@@ -18,7 +18,7 @@ told_ascii b kind e =
       | inr le ↦ absurd (none-some kind (sym (none_told b le) ∙ e))
     ]
 
--- the text may be cut behind it
+-- the string may be split after this byte
 pub told_boundary : (text : List ℕ) (b : ℕ) (kind : DescriptorKind) → IsUtf8 text → Some b ≡ slice_get text 0 → kind_of b ≡ Some kind → IsCharBoundary text 1
 told_boundary [] b kind u e k = absurd (none-some b (sym e))
 told_boundary (x ∷ text) b kind u e k =

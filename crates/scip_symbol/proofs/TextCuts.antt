@@ -1,4 +1,4 @@
--- Cuts of a text, as std's methods make them, are the functions on lists.
+-- The methods of std that split a string equal the functions on lists.
 use Rattle.std.proofs.Common.{◌≡◌, ◌≢◌, ℕ, ◌<◌, Bool, eqb, eq-eqb, ltb, List, [], ◌∷◌, ◌++◌, length, Option, Some, None, refl, sym, ap, ◌∙◌, arith, inl, inr, Bor}
 use Rattle.std.specs.Prelude.{option_map, MatchOption}
 use Rattle.std.specs.List.{position_or_len, before_first, after_first}
@@ -45,11 +45,11 @@ after_bytes_some (w ∷ word) (b ∷ text) rest e =
       | inr ne ↦ absurd (let y = rw (ne_eqb b w ne) at e in cc)
     ]
 
--- where nothing follows a word, it doesn't stand in front
+-- if `after_bytes` finds nothing, the string doesn't begin with the word
 pub not_word : (word text : List ℕ) → after_bytes word text ≡ None → (rest : List ℕ) → text ≢ word ++ rest
 not_word word text e rest s = none-some rest (sym e ∙ ap (after_bytes word) s ∙ after_bytes-again word rest)
 
--- ---- at the first of several
+-- ---- at the first occurrence
 
 pub cut_from : (delimiter : ℕ) (bytes : List ℕ) (r : Option (Bor (List ℕ) × Bor (List ℕ)))
     → MatchOption r (position_or_len (λ b. eqb b delimiter) bytes ≡ length bytes) (λ x. (position_or_len (λ b. eqb b delimiter) bytes < length bytes) × (x.0.now ≡ before_first (λ b. eqb b delimiter) bytes) × (x.1.now ≡ after_first (λ b. eqb b delimiter) bytes))

@@ -1,4 +1,4 @@
--- What can be written has a text, and what has one can be written.
+-- A symbol can be written exactly if it has a string.
 use Rattle.std.proofs.Common.{◌≡◌, ◌≢◌, ◌⊎◌, ℕ, ◌+◌, Bool, true, false, cond, List, [], ◌∷◌, codes, Option, Some, None, Result, Ok, Err, refl, subst, inl, inr}
 use Rattle.std.specs.Prelude.{◌||◌, not}
 use Rattle.std.specs.List.{list_any, flat_map, position_from, AllByRecursion}
@@ -15,7 +15,7 @@ use Rattle.scip_symbol.specs.Reading.{after_bytes}
 use Rattle.scip_symbol.proofs.TextCuts.{after_bytes_some, not_word}
 use Rattle.scip_symbol.specs.Outcomes.{is_empty, has_empty, HasLocalScheme, begins_with_space, is_stop, is_wrong_part, wrong_part_of, is_wrong_descriptor, wrong_descriptor_of, AreOfMethods, IsWritable, IsWriteOutcome}
 
--- ---- the type of descriptors keeps this
+-- ---- the type of descriptors guarantees that only methods have a disambiguator
 
 abbrev AreKept : List DescriptorModel → Type 0
 AreKept ds = AllByRecursion (λ d. IsOfMethod d.kind d.disambiguator) ds
@@ -28,7 +28,7 @@ pub are_of_methods : (s : Symbol) → AreOfMethods (symbol_model s)
 are_of_methods (symbols.Local id) = tt
 are_of_methods (symbols.Global scheme m p v ds) = are_kept ds.items
 
--- ---- what can be written has its plain text
+-- ---- a writable symbol has its canonical string
 
 some_of : {X : Type 0} (xs : List X) → is_empty xs ≡ false → xs ≢ []
 some_of [] e = absurd cc
@@ -102,7 +102,7 @@ writable_outcome s k w = (writable_text s k w, refl)
 pub symbol_text : (s : Symbol) → IsWritable (symbol_model s) → SymbolText (symbol_model s) (canonical_text (symbol_model s))
 symbol_text s w = writable_text (symbol_model s) (are_of_methods s) w
 
--- ---- every symbol answers something
+-- ---- every symbol has an outcome of writing
 
 abbrev SomeOutcome : SymbolModel → Type 0
 SomeOutcome s = (o : Result (List ℕ) SymbolFault) × IsWriteOutcome s o

@@ -11,8 +11,8 @@ abbrev pub IsNotFirst : ℕ → List ℕ → Type 0
 IsNotFirst delimiter [] = Unit {0}
 IsNotFirst delimiter (b ∷ bytes) = b ≢ delimiter
 
--- the text is this part with the byte doubled, then a single byte that ends the part, then the rest. The run of the byte that ends the part is then the first
--- one of odd length
+-- the text is this part with the byte doubled, then a single byte that ends the part, then the rest. The byte that ends the part is in the
+-- first run of odd length
 pub record IsEnded (delimiter : ℕ) (text part rest : List ℕ) : Type 0 where
   pub whole : text ≡ doubled delimiter part ++ delimiter ∷ rest
   pub next : IsNotFirst delimiter rest

@@ -27,7 +27,8 @@ after_bytes [] text = Some text
 after_bytes (w ∷ word) [] = None
 after_bytes (w ∷ word) (b ∷ bytes) = if b == w then after_bytes word bytes else None
 
--- the part that the bytes begin with, and what follows the single byte that ends it; in the part this byte is doubled. None if nothing ends the part
+-- the part that the bytes begin with, and what follows the single byte that ends it; in the part this byte is doubled. None if nothing ends
+-- the part
 unfoldable pub ended_by : ℕ → List ℕ → Option (List ℕ × List ℕ)
 ended_by delimiter [] = None
 ended_by delimiter (b ∷ []) = if b == delimiter then Some ([], []) else None
@@ -125,7 +126,7 @@ descriptor_after_mark at (Some inside) _ text = closed_at at TypeParameter 93 in
 unfoldable pub descriptor_at : ℕ → List ℕ → Result (DescriptorModel × List ℕ) SymbolFault
 descriptor_at at text = descriptor_after_mark at (after_byte 91 text) (after_byte 40 text) text
 
--- some descriptors of the string are followed by a wrong one, which has this error; the string is the end of one of this length
+-- some descriptors are followed by a wrong descriptor, which has this error; they are the end of a string of `whole` bytes
 pub record IsFirstWrong (whole : ℕ) (text : List ℕ) (fault : SymbolFault) : Type 0 where
   pub descriptors : List DescriptorModel
   pub front : List ℕ

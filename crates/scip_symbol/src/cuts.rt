@@ -9,7 +9,7 @@ ghost use Rattle.scip_symbol.specs.Reading.{after_byte, after_bytes, ended_by, s
 use std::alloc::{AllocError, Global};
 
 /// What follows the ASCII character `delimiter`, if the string begins with it.
-pub(crate) fn after_char(text: &str, delimiter: char) -> Option<&str>
+pub(crate) fn strip_char(text: &str, delimiter: char) -> Option<&str>
     requires { delimiter < 128 }
     ensures { option_map (λ rest. rest.now) result ≡ after_byte delimiter text.now }
 {
@@ -17,7 +17,7 @@ pub(crate) fn after_char(text: &str, delimiter: char) -> Option<&str>
 }
 
 /// What follows `word`, if the string begins with it.
-pub(crate) fn after_word<'a>(text: &'a str, word: &str) -> Option<&'a str>
+pub(crate) fn strip_word<'a>(text: &'a str, word: &str) -> Option<&'a str>
     ensures { option_map (λ rest. rest.now) result ≡ after_bytes word.now text.now }
 {
     text.strip_prefix(word)
@@ -31,9 +31,9 @@ pub(crate) fn split_at_char(text: &str, delimiter: char) -> Option<(&str, &str)>
     text.split_once(delimiter)
 }
 
-/// The part that the string begins with, unescaped, and what follows the ASCII character `delimiter` that ends the part. In the part each `delimiter`
-/// is doubled, so a single one ends it. `None` if no single `delimiter` ends the part.
-pub(crate) fn ended_in(
+/// The part that the string begins with, unescaped, and what follows the ASCII character `delimiter` that ends the part. In the part each
+/// `delimiter` is doubled, so a single `delimiter` ends it. `None` if no single `delimiter` ends the part.
+pub(crate) fn read_delimited(
     alloc: Global,
     text: &str,
     delimiter: char,
@@ -45,7 +45,7 @@ pub(crate) fn ended_in(
     let mut rest = text;
     while let Some((front, after)) = split_at_char(rest, delimiter) {
         part.push_str(front)?;
-        let Some(more) = after_char(after, delimiter) else {
+        let Some(more) = strip_char(after, delimiter) else {
             return Ok(Some((part, after)));
         };
         part.push(delimiter)?;
@@ -68,15 +68,15 @@ pub(crate) fn is_simple_text(text: &str) -> bool
 }
 
 /// The number of identifier characters that the bytes begin with.
-fn simple_len(bytes: &[u8]) -> usize
+fn simple_prefix_len(bytes: &[u8]) -> usize
     ensures { result ≡ prefix_len is_simple bytes.now }
 {
     bytes.iter().take_while(|b| is_simple_byte(**b)).count()
 }
 
 /// The identifier characters that the string begins with, and what follows them.
-pub(crate) fn simple_in(text: &str) -> (&str, &str)
+pub(crate) fn split_simple_prefix(text: &str) -> (&str, &str)
     ensures { (result.0.now, result.1.now) ≡ simple_prefix text.now }
 {
-    text.split_at(simple_len(text.as_bytes()))
+    text.split_at(simple_prefix_len(text.as_bytes()))
 }

@@ -5,14 +5,14 @@ ghost use Rattle.scip_symbol.specs.Faults.{Accords, HasOutcome};
 ghost use Rattle.scip_symbol.specs.Views.{descriptor_model, descriptor_models};
 ghost use Rattle.scip_symbol.specs.Reading.{bare_at, closed_at, descriptor_at, kind_of, method_at, suffix_at, suffixed_at, one_byte_suffixed_at, IsDescriptorsOutcome};
 
-use crate::cuts::{after_char, after_word, simple_in};
-use crate::name::name_in;
+use crate::cuts::{split_simple_prefix, strip_char, strip_word};
+use crate::name::read_name;
 use crate::{Descriptor, DescriptorKind, SymbolFault};
 use std::alloc::Global;
 
 /// Reads a name and the character that closes its descriptor. The opening character has been read.
 #[tactic(auto, unfolding(crate::specs::Reading::closed_at))]
-fn closed_in(
+fn read_enclosed_descriptor(
     alloc: Global,
     at: usize,
     kind: DescriptorKind,
@@ -22,14 +22,14 @@ fn closed_in(
     requires { close < 128 }
     ensures { Accords (λ x. (descriptor_model x.0, x.1.now)) result (closed_at at kind close inside.now) }
 {
-    let (name, rest) = name_in(alloc, at, inside)?;
-    let rest = after_char(rest, close).ok_or(SymbolFault::BadDescriptor { at })?;
+    let (name, rest) = read_name(alloc, at, inside)?;
+    let rest = strip_char(rest, close).ok_or(SymbolFault::BadDescriptor { at })?;
     Ok((Descriptor::new(kind, name), rest))
 }
 
 /// Reads the rest of a method whose name and `(` have been read.
 #[tactic(auto, unfolding(crate::specs::Reading::method_at))]
-fn method_in(
+fn read_method_suffix(
     alloc: Global,
     at: usize,
     name: String,
@@ -37,8 +37,8 @@ fn method_in(
 ) -> Result<(Descriptor, &str), SymbolFault>
     ensures { Accords (λ x. (descriptor_model x.0, x.1.now)) result (method_at at (string_bytes name) inside.now) }
 {
-    let (disambiguator, rest) = simple_in(inside);
-    let rest = after_word(rest, ").").ok_or(SymbolFault::BadDescriptor { at })?;
+    let (disambiguator, rest) = split_simple_prefix(inside);
+    let rest = strip_word(rest, ").").ok_or(SymbolFault::BadDescriptor { at })?;
     let disambiguator = String::from_str(alloc, disambiguator)?;
     Ok((Descriptor::method(name, disambiguator), rest))
 }
@@ -58,7 +58,7 @@ fn suffix_kind(b: u8) -> Option<DescriptorKind>
 }
 
 /// The kind of a descriptor with the first byte after its name, and what follows this byte.
-fn suffix_in(text: &str) -> Option<(DescriptorKind, &str)>
+fn read_suffix(text: &str) -> Option<(DescriptorKind, &str)>
     ensures { option_map (λ x. (x.0, x.1.now)) result ≡ suffix_at text.now }
 {
     let first = *text.as_bytes().first()?;
@@ -69,20 +69,20 @@ fn suffix_in(text: &str) -> Option<(DescriptorKind, &str)>
 
 /// Reads the one byte that ends a descriptor whose name has been read.
 #[tactic(auto, unfolding(crate::specs::Reading::one_byte_suffixed_at))]
-fn one_byte_suffixed_in(
+fn read_one_byte_suffix(
     at: usize,
     name: String,
     text: &str,
 ) -> Result<(Descriptor, &str), SymbolFault>
     ensures { Accords (λ x. (descriptor_model x.0, x.1.now)) result (one_byte_suffixed_at at (string_bytes name) text.now) }
 {
-    let (kind, rest) = suffix_in(text).ok_or(SymbolFault::BadDescriptor { at })?;
+    let (kind, rest) = read_suffix(text).ok_or(SymbolFault::BadDescriptor { at })?;
     Ok((Descriptor::new(kind, name), rest))
 }
 
 /// Reads the rest of a descriptor whose name has been read.
 #[tactic(auto, unfolding(crate::specs::Reading::suffixed_at))]
-fn suffixed_in(
+fn read_descriptor_suffix(
     alloc: Global,
     at: usize,
     name: String,
@@ -90,37 +90,41 @@ fn suffixed_in(
 ) -> Result<(Descriptor, &str), SymbolFault>
     ensures { Accords (λ x. (descriptor_model x.0, x.1.now)) result (suffixed_at at (string_bytes name) text.now) }
 {
-    match after_char(text, '(') {
-        None => one_byte_suffixed_in(at, name, text),
-        Some(inside) => method_in(alloc, at, name, inside),
+    match strip_char(text, '(') {
+        None => read_one_byte_suffix(at, name, text),
+        Some(inside) => read_method_suffix(alloc, at, name, inside),
     }
 }
 
 /// Reads a descriptor that begins with its name.
 #[tactic(auto, unfolding(crate::specs::Reading::bare_at))]
-fn bare_in(alloc: Global, at: usize, text: &str) -> Result<(Descriptor, &str), SymbolFault>
+fn read_bare_descriptor(
+    alloc: Global,
+    at: usize,
+    text: &str,
+) -> Result<(Descriptor, &str), SymbolFault>
     ensures { Accords (λ x. (descriptor_model x.0, x.1.now)) result (bare_at at text.now) }
 {
-    let (name, rest) = name_in(alloc, at, text)?;
-    suffixed_in(alloc, at, name, rest)
+    let (name, rest) = read_name(alloc, at, text)?;
+    read_descriptor_suffix(alloc, at, name, rest)
 }
 
 /// Reads the first descriptor, which begins at offset `at`. Returns it with what follows it.
 #[tactic(auto, unfolding(crate::specs::Reading::descriptor_at))]
-fn descriptor_in(alloc: Global, at: usize, text: &str) -> Result<(Descriptor, &str), SymbolFault>
+fn read_descriptor(alloc: Global, at: usize, text: &str) -> Result<(Descriptor, &str), SymbolFault>
     ensures { Accords (λ x. (descriptor_model x.0, x.1.now)) result (descriptor_at at text.now) }
 {
-    if let Some(inside) = after_char(text, '[') {
-        return closed_in(alloc, at, DescriptorKind::TypeParameter, ']', inside);
+    if let Some(inside) = strip_char(text, '[') {
+        return read_enclosed_descriptor(alloc, at, DescriptorKind::TypeParameter, ']', inside);
     }
-    match after_char(text, '(') {
-        None => bare_in(alloc, at, text),
-        Some(inside) => closed_in(alloc, at, DescriptorKind::Parameter, ')', inside),
+    match strip_char(text, '(') {
+        None => read_bare_descriptor(alloc, at, text),
+        Some(inside) => read_enclosed_descriptor(alloc, at, DescriptorKind::Parameter, ')', inside),
     }
 }
 
 /// Reads all descriptors of `text`, which is the end of a symbol string of `whole` bytes. Fails with the error of the first wrong one.
-pub(crate) fn descriptors_in(
+pub(crate) fn read_descriptors(
     alloc: Global,
     whole: usize,
     text: &str,
@@ -131,7 +135,7 @@ pub(crate) fn descriptors_in(
     let mut descriptors = Vec::new(alloc);
     let mut rest = text;
     while !rest.is_empty() {
-        let (descriptor, after) = descriptor_in(alloc, whole - rest.len(), rest)?;
+        let (descriptor, after) = read_descriptor(alloc, whole - rest.len(), rest)?;
         descriptors.push(descriptor)?;
         rest = after;
     }

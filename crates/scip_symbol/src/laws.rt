@@ -21,7 +21,7 @@ pub fn canonical_text_is_shortest()
 {}
 
 /// Two different symbols that have strings have different canonical strings.
-pub fn different_texts()
+pub fn canonical_texts_differ()
     // If two symbols have their canonical strings, and these are equal, the symbols are equal.
     ensures { (s t : SymbolModel) → SymbolText s (canonical_text s) → SymbolText t (canonical_text t) → canonical_text s ≡ canonical_text t → s ≡ t }
 {}

@@ -22,4 +22,4 @@ pub use fault::SymbolFault;
 pub use kind::DescriptorKind;
 pub use reader::read;
 pub use symbol::Symbol;
-pub use writer::{push_step, write, write_parts};
+pub use writer::{append_simple_descriptor, write, write_parts};

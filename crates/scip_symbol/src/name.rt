@@ -4,15 +4,15 @@ ghost use Rattle.scip_symbol.specs.Faults.{Accords};
 ghost use Rattle.scip_symbol.specs.Reading.{first_name_at, quoted_name_at, simple_name_at};
 
 use crate::SymbolFault;
-use crate::cuts::{after_char, ended_in, simple_in};
+use crate::cuts::{read_delimited, split_simple_prefix, strip_char};
 use std::alloc::Global;
 
 /// Reads a name that is a simple identifier. `at` is the offset of its descriptor.
 #[tactic(auto, unfolding(crate::specs::Reading::simple_name_at))]
-fn simple_name_in(alloc: Global, at: usize, text: &str) -> Result<(String, &str), SymbolFault>
+fn read_simple_name(alloc: Global, at: usize, text: &str) -> Result<(String, &str), SymbolFault>
     ensures { Accords (λ x. (string_bytes x.0, x.1.now)) result (simple_name_at at text.now) }
 {
-    let (name, rest) = simple_in(text);
+    let (name, rest) = split_simple_prefix(text);
     if name.is_empty() {
         return Err(SymbolFault::BadDescriptor { at });
     }
@@ -21,10 +21,10 @@ fn simple_name_in(alloc: Global, at: usize, text: &str) -> Result<(String, &str)
 
 /// Reads the rest of an escaped name, whose first backtick has been read. `at` is the offset of its descriptor.
 #[tactic(auto, unfolding(crate::specs::Reading::quoted_name_at))]
-fn quoted_name_in(alloc: Global, at: usize, inside: &str) -> Result<(String, &str), SymbolFault>
+fn read_escaped_name(alloc: Global, at: usize, inside: &str) -> Result<(String, &str), SymbolFault>
     ensures { Accords (λ x. (string_bytes x.0, x.1.now)) result (quoted_name_at at inside.now) }
 {
-    let (name, rest) = ended_in(alloc, inside, '`')?.ok_or(SymbolFault::OpenQuote)?;
+    let (name, rest) = read_delimited(alloc, inside, '`')?.ok_or(SymbolFault::OpenQuote)?;
     if name.is_empty() {
         return Err(SymbolFault::BadDescriptor { at });
     }
@@ -34,11 +34,11 @@ fn quoted_name_in(alloc: Global, at: usize, inside: &str) -> Result<(String, &st
 /// Reads the name that the string begins with, a simple identifier or one in backticks. Returns it unescaped, with what follows it. `at` is
 /// the offset of its descriptor.
 #[tactic(auto, unfolding(crate::specs::Reading::first_name_at))]
-pub(crate) fn name_in(alloc: Global, at: usize, text: &str) -> Result<(String, &str), SymbolFault>
+pub(crate) fn read_name(alloc: Global, at: usize, text: &str) -> Result<(String, &str), SymbolFault>
     ensures { Accords (λ x. (string_bytes x.0, x.1.now)) result (first_name_at at text.now) }
 {
-    match after_char(text, '`') {
-        None => simple_name_in(alloc, at, text),
-        Some(inside) => quoted_name_in(alloc, at, inside),
+    match strip_char(text, '`') {
+        None => read_simple_name(alloc, at, text),
+        Some(inside) => read_escaped_name(alloc, at, inside),
     }
 }

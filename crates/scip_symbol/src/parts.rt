@@ -4,7 +4,7 @@ ghost use Rattle.scip_symbol.specs.Faults.{Accords};
 ghost use Rattle.scip_symbol.specs.Reading.{optional_part_at, first_part_at, parts_at, parts_model};
 
 use crate::SymbolFault;
-use crate::cuts::ended_in;
+use crate::cuts::read_delimited;
 use std::alloc::Global;
 
 /// The four parts of a symbol, which precede its descriptors.
@@ -18,10 +18,10 @@ pub(crate) struct Parts {
 
 /// Reads the part with this number, which the string begins with. Returns it unescaped, with what follows the space that ends it.
 #[tactic(auto, unfolding(crate::specs::Reading::first_part_at))]
-fn part_in(alloc: Global, part: usize, text: &str) -> Result<(String, &str), SymbolFault>
+fn read_part(alloc: Global, part: usize, text: &str) -> Result<(String, &str), SymbolFault>
     ensures { Accords (λ x. (string_bytes x.0, x.1.now)) result (first_part_at part text.now) }
 {
-    let found = ended_in(alloc, text, ' ')?;
+    let found = read_delimited(alloc, text, ' ')?;
     let ended = found.ok_or(SymbolFault::BadPart { part })?;
     Ok(ended)
 }
@@ -29,10 +29,10 @@ fn part_in(alloc: Global, part: usize, text: &str) -> Result<(String, &str), Sym
 /// Reads the part with this number, which may be empty, with `.` as placeholder. Returns it unescaped, with what follows the space that
 /// ends it.
 #[tactic(auto, unfolding(crate::specs::Reading::optional_part_at))]
-fn optional_part_in(alloc: Global, part: usize, text: &str) -> Result<(String, &str), SymbolFault>
+fn read_optional_part(alloc: Global, part: usize, text: &str) -> Result<(String, &str), SymbolFault>
     ensures { Accords (λ x. (string_bytes x.0, x.1.now)) result (optional_part_at part text.now) }
 {
-    let (mut shown, rest) = part_in(alloc, part, text)?;
+    let (mut shown, rest) = read_part(alloc, part, text)?;
     if shown.as_str() == "." {
         shown.clear();
     }
@@ -41,13 +41,13 @@ fn optional_part_in(alloc: Global, part: usize, text: &str) -> Result<(String, &
 
 /// Reads the four parts that the string begins with. Returns them with what follows them.
 #[tactic(auto, unfolding(crate::specs::Reading::parts_at))]
-pub(crate) fn parts_in(alloc: Global, text: &str) -> Result<(Parts, &str), SymbolFault>
+pub(crate) fn read_parts(alloc: Global, text: &str) -> Result<(Parts, &str), SymbolFault>
     ensures { Accords (λ x. (parts_model x.0, x.1.now)) result (parts_at text.now) }
 {
-    let (scheme, rest) = part_in(alloc, 0, text)?;
-    let (manager, rest) = optional_part_in(alloc, 1, rest)?;
-    let (package, rest) = optional_part_in(alloc, 2, rest)?;
-    let (version, rest) = optional_part_in(alloc, 3, rest)?;
+    let (scheme, rest) = read_part(alloc, 0, text)?;
+    let (manager, rest) = read_optional_part(alloc, 1, rest)?;
+    let (package, rest) = read_optional_part(alloc, 2, rest)?;
+    let (version, rest) = read_optional_part(alloc, 3, rest)?;
     let parts = Parts {
         scheme,
         manager,

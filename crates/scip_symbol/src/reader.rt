@@ -7,22 +7,22 @@ ghost use Rattle.scip_symbol.specs.Views.{symbol_model};
 ghost use Rattle.scip_symbol.specs.Outcomes.{IsReadOutcome};
 ghost use Rattle.scip_symbol.specs.Reading.{local_of};
 
-use crate::cuts::{after_char, after_word, simple_in};
-use crate::descriptors::descriptors_in;
-use crate::parts::parts_in;
+use crate::cuts::{split_simple_prefix, strip_char, strip_word};
+use crate::descriptors::read_descriptors;
+use crate::parts::read_parts;
 use crate::{Symbol, SymbolFault};
 use std::alloc::Global;
 
 /// The local symbol with this id, which follows the six bytes of `local `.
 #[tactic(auto, unfolding(crate::specs::Reading::local_of))]
-fn local_in(alloc: Global, id: &str) -> Result<Symbol, SymbolFault>
+fn parse_local_id(alloc: Global, id: &str) -> Result<Symbol, SymbolFault>
     requires { 6 + length id.now < 2 ^ 64 }
     ensures { Accords symbol_model result (local_of id.now) }
 {
     if id.is_empty() {
         return Err(SymbolFault::Empty);
     }
-    let (front, rest) = simple_in(id);
+    let (front, rest) = split_simple_prefix(id);
     if !rest.is_empty() {
         let at = 6 + front.len();
         return Err(SymbolFault::BadDescriptor { at });
@@ -31,16 +31,16 @@ fn local_in(alloc: Global, id: &str) -> Result<Symbol, SymbolFault>
 }
 
 /// Reads a global symbol. The string isn't empty, and begins neither with a space nor with `local`.
-fn global_in(alloc: Global, text: &str) -> Result<Symbol, SymbolFault>
+fn read_global_symbol(alloc: Global, text: &str) -> Result<Symbol, SymbolFault>
     requires part { IsPackagePart text.now }
     requires not_local { BeginsLocal text.now → ⊥ }
     ensures { HasOutcome symbol_model result (IsReadOutcome text.now) }
 {
-    let (parts, rest) = parts_in(alloc, text)?;
+    let (parts, rest) = read_parts(alloc, text)?;
     if rest.is_empty() {
         return Err(SymbolFault::Empty);
     }
-    let descriptors = descriptors_in(alloc, text.len(), rest)?;
+    let descriptors = read_descriptors(alloc, text.len(), rest)?;
     Ok(Symbol::Global {
         scheme: parts.scheme,
         manager: parts.manager,
@@ -51,22 +51,22 @@ fn global_in(alloc: Global, text: &str) -> Result<Symbol, SymbolFault>
 }
 
 /// Reads a symbol. The contract of `read` follows from this one.
-fn read_any(alloc: Global, text: &str) -> Result<Symbol, SymbolFault>
+fn read_symbol(alloc: Global, text: &str) -> Result<Symbol, SymbolFault>
     ensures { HasOutcome symbol_model result (IsReadOutcome text.now) }
 {
     if text.is_empty() {
         return Err(SymbolFault::Empty);
     }
-    if let Some(id) = after_word(text, "local ") {
-        return local_in(alloc, id);
+    if let Some(id) = strip_word(text, "local ") {
+        return parse_local_id(alloc, id);
     }
-    if after_word(text, "local").is_some() {
+    if strip_word(text, "local").is_some() {
         return Err(SymbolFault::LocalScheme);
     }
-    if after_char(text, ' ').is_some() {
+    if strip_char(text, ' ').is_some() {
         return Err(SymbolFault::BadPart { part: 0 });
     }
-    global_in(alloc, text)
+    read_global_symbol(alloc, text)
 }
 
 /// Returns the symbol that has this string (scip.proto, the grammar of `Symbol`), or the first error. Offsets are in bytes from 0.
@@ -86,5 +86,5 @@ pub fn read(alloc: Global, text: &str) -> Result<Symbol, SymbolFault>
     // Each outcome of reading the string, a symbol or an error, is the result, unless the result is `Memory`.
     ensures only { (o : Result SymbolModel SymbolFault) → IsReadOutcome text.now o → HasOutcome symbol_model result (λ p. p ≡ o) }
 {
-    read_any(alloc, text)
+    read_symbol(alloc, text)
 }

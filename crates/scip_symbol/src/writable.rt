@@ -4,7 +4,7 @@ ghost use Rattle.std.specs.List.{list_any, position, position_from};
 ghost use Rattle.scip_symbol.specs.Views.{descriptor_model, descriptor_models, symbol_model};
 ghost use Rattle.scip_symbol.specs.Outcomes.{begins_with_space, has_empty, is_empty, is_wrong_descriptor, is_wrong_part, wrong_descriptor_of, wrong_part_of, HasLocalScheme, IsWritable, IsWriteError};
 
-use crate::cuts::{after_char, after_word, is_simple_text};
+use crate::cuts::{is_simple_text, strip_char, strip_word};
 use crate::{Descriptor, Symbol, SymbolFault};
 
 fn is_empty_text(text: &str) -> bool
@@ -19,21 +19,21 @@ fn has_no_name(descriptor: &Descriptor) -> bool
     is_empty_text(descriptor.name())
 }
 
-fn has_nameless(descriptors: &[Descriptor]) -> bool
+fn has_unnamed_descriptor(descriptors: &[Descriptor]) -> bool
     ensures { result ≡ list_any (λ d. is_empty (descriptor_model d).name) descriptors.now }
 {
     descriptors.iter().any(|d| has_no_name(d))
 }
 
 /// Whether there is no descriptor, or one with an empty name.
-fn is_nameless(descriptors: &[Descriptor]) -> bool
+fn lacks_descriptor_or_name(descriptors: &[Descriptor]) -> bool
     ensures { result ≡ (is_empty (descriptor_models descriptors.now) || list_any (λ d. is_empty d.name) (descriptor_models descriptors.now)) }
 {
-    descriptors.is_empty() || has_nameless(descriptors)
+    descriptors.is_empty() || has_unnamed_descriptor(descriptors)
 }
 
 /// Whether the scheme, the local id, a name or the list of descriptors is empty.
-fn lacks_content(symbol: &Symbol) -> bool
+fn has_empty_field(symbol: &Symbol) -> bool
     ensures { result ≡ has_empty (symbol_model symbol.now) }
 {
     match symbol {
@@ -42,7 +42,7 @@ fn lacks_content(symbol: &Symbol) -> bool
             scheme,
             descriptors,
             ..
-        } => is_empty_text(scheme.as_str()) || is_nameless(descriptors.as_slice()),
+        } => is_empty_text(scheme.as_str()) || lacks_descriptor_or_name(descriptors.as_slice()),
     }
 }
 
@@ -52,24 +52,24 @@ fn has_local_scheme(symbol: &Symbol) -> bool
 {
     match symbol {
         Symbol::Local(_) => false,
-        Symbol::Global { scheme, .. } => after_word(scheme.as_str(), "local").is_some(),
+        Symbol::Global { scheme, .. } => strip_word(scheme.as_str(), "local").is_some(),
     }
 }
 
 fn starts_with_space(text: &str) -> bool
     ensures { result ≡ begins_with_space text.now }
 {
-    after_char(text, ' ').is_some()
+    strip_char(text, ' ').is_some()
 }
 
-fn is_wrong(part: &str) -> bool
+fn is_unwritable_part(part: &str) -> bool
     ensures { result ≡ is_wrong_part part.now }
 {
     starts_with_space(part) || part == "."
 }
 
 /// The number of the first part that can't be written.
-fn wrong_part(symbol: &Symbol) -> Option<usize>
+fn find_wrong_part(symbol: &Symbol) -> Option<usize>
     ensures { result ≡ wrong_part_of (symbol_model symbol.now) }
 {
     let Symbol::Global {
@@ -84,61 +84,61 @@ fn wrong_part(symbol: &Symbol) -> Option<usize>
     };
     if starts_with_space(scheme.as_str()) {
         Some(0)
-    } else if is_wrong(manager.as_str()) {
+    } else if is_unwritable_part(manager.as_str()) {
         Some(1)
-    } else if is_wrong(package.as_str()) {
+    } else if is_unwritable_part(package.as_str()) {
         Some(2)
-    } else if is_wrong(version.as_str()) {
+    } else if is_unwritable_part(version.as_str()) {
         Some(3)
     } else {
         None
     }
 }
 
-fn is_wrong_in(descriptor: &Descriptor) -> bool
+fn has_wrong_disambiguator(descriptor: &Descriptor) -> bool
     ensures { result ≡ is_wrong_descriptor (descriptor_model descriptor.now) }
 {
     !is_simple_text(descriptor.disambiguator())
 }
 
-fn index_of_wrong(descriptors: &[Descriptor]) -> Option<usize>
+fn wrong_disambiguator_index(descriptors: &[Descriptor]) -> Option<usize>
     ensures { result ≡ position (λ d. is_wrong_descriptor (descriptor_model d)) descriptors.now }
 {
-    descriptors.iter().position(|d| is_wrong_in(d))
+    descriptors.iter().position(|d| has_wrong_disambiguator(d))
 }
 
-fn first_wrong(descriptors: &[Descriptor]) -> Option<usize>
+fn first_wrong_descriptor(descriptors: &[Descriptor]) -> Option<usize>
     ensures { result ≡ position_from is_wrong_descriptor 0 (descriptor_models descriptors.now) }
 {
-    index_of_wrong(descriptors)
+    wrong_disambiguator_index(descriptors)
 }
 
 /// The index of the first descriptor that can't be written, or 0 for a local id that can't be written.
-fn wrong_descriptor(symbol: &Symbol) -> Option<usize>
+fn find_wrong_descriptor(symbol: &Symbol) -> Option<usize>
     ensures { result ≡ wrong_descriptor_of (symbol_model symbol.now) }
 {
     match symbol {
         Symbol::Local(id) if is_simple_text(id.as_str()) => None,
         Symbol::Local(_) => Some(0),
-        Symbol::Global { descriptors, .. } => first_wrong(descriptors.as_slice()),
+        Symbol::Global { descriptors, .. } => first_wrong_descriptor(descriptors.as_slice()),
     }
 }
 
 /// Fails with the first error of a symbol, if it has one.
-pub(crate) fn check(symbol: &Symbol) -> Result<(), SymbolFault>
+pub(crate) fn check_writable(symbol: &Symbol) -> Result<(), SymbolFault>
     ensures refused { IfErr result (IsWriteError (symbol_model symbol.now)) }
     ensures fits { OnOk result (IsWritable (symbol_model symbol.now)) }
 {
-    if lacks_content(symbol) {
+    if has_empty_field(symbol) {
         return Err(SymbolFault::Empty);
     }
     if has_local_scheme(symbol) {
         return Err(SymbolFault::LocalScheme);
     }
-    if let Some(part) = wrong_part(symbol) {
+    if let Some(part) = find_wrong_part(symbol) {
         return Err(SymbolFault::BadPart { part });
     }
-    match wrong_descriptor(symbol) {
+    match find_wrong_descriptor(symbol) {
         Some(at) => Err(SymbolFault::BadDescriptor { at }),
         None => Ok(()),
     }

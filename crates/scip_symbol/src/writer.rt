@@ -10,12 +10,12 @@ ghost use Rattle.scip_symbol.specs.Views.{descriptor_model, descriptor_models, s
 ghost use Rattle.scip_symbol.specs.Outcomes.{IsWriteOutcome};
 
 use crate::cuts::{is_simple_text, split_at_char};
-use crate::writable::check;
+use crate::writable::check_writable;
 use crate::{Descriptor, DescriptorKind, Symbol, SymbolFault};
 use std::alloc::{AllocError, Global};
 
 /// Appends a string with each ASCII character `delimiter` doubled.
-fn push_doubled(out: &mut String, text: &str, delimiter: char) -> Result<(), AllocError>
+fn append_doubled(out: &mut String, text: &str, delimiter: char) -> Result<(), AllocError>
     requires { delimiter < 128 }
     ensures { OnOk result (string_bytes out.new ≡ string_bytes out.old ++ doubled delimiter text.now) }
 {
@@ -30,19 +30,19 @@ fn push_doubled(out: &mut String, text: &str, delimiter: char) -> Result<(), All
 }
 
 /// Appends a name, escaped with backticks if it isn't a simple identifier.
-fn push_name(out: &mut String, name: &str) -> Result<(), AllocError>
+fn append_name(out: &mut String, name: &str) -> Result<(), AllocError>
     ensures { OnOk result (string_bytes out.new ≡ string_bytes out.old ++ canonical_name name.now) }
 {
     if is_simple_text(name) {
         return out.push_str(name);
     }
     out.push_str("`")?;
-    push_doubled(out, name, '`')?;
+    append_doubled(out, name, '`')?;
     out.push_str("`")
 }
 
 /// What precedes a name in a descriptor of this kind.
-fn opening_of(kind: DescriptorKind) -> &'static str
+fn opening_delimiter(kind: DescriptorKind) -> &'static str
     ensures { result.now ≡ before_name kind }
 {
     match kind {
@@ -58,7 +58,7 @@ fn opening_of(kind: DescriptorKind) -> &'static str
 }
 
 /// Appends what follows a name in a descriptor of this kind.
-fn push_closing(
+fn append_closing(
     out: &mut String,
     kind: DescriptorKind,
     disambiguator: &str,
@@ -81,40 +81,40 @@ fn push_closing(
     }
 }
 
-fn push_descriptor(out: &mut String, descriptor: &Descriptor) -> Result<(), AllocError>
+fn append_descriptor(out: &mut String, descriptor: &Descriptor) -> Result<(), AllocError>
     ensures { OnOk result (string_bytes out.new ≡ string_bytes out.old ++ canonical_descriptor_text (descriptor_model descriptor.now)) }
 {
     let kind = descriptor.kind();
-    out.push_str(opening_of(kind))?;
-    push_name(out, descriptor.name())?;
-    push_closing(out, kind, descriptor.disambiguator())
+    out.push_str(opening_delimiter(kind))?;
+    append_name(out, descriptor.name())?;
+    append_closing(out, kind, descriptor.disambiguator())
 }
 
-fn push_descriptors(out: &mut String, descriptors: &[Descriptor]) -> Result<(), AllocError>
+fn append_descriptors(out: &mut String, descriptors: &[Descriptor]) -> Result<(), AllocError>
     ensures { OnOk result (string_bytes out.new ≡ string_bytes out.old ++ flat_map canonical_descriptor_text (descriptor_models descriptors.now)) }
 {
     for descriptor in descriptors {
-        push_descriptor(out, descriptor)?;
+        append_descriptor(out, descriptor)?;
     }
     Ok(())
 }
 
 /// Appends a part that isn't empty, with its spaces doubled, and a single space.
-fn push_part(out: &mut String, part: &str) -> Result<(), AllocError>
+fn append_part(out: &mut String, part: &str) -> Result<(), AllocError>
     ensures { OnOk result (string_bytes out.new ≡ string_bytes out.old ++ ended_part part.now) }
 {
-    push_doubled(out, part, ' ')?;
+    append_doubled(out, part, ' ')?;
     out.push_str(" ")
 }
 
 /// Appends a part, with `.` as placeholder for an empty one, and a single space.
-fn push_optional_part(out: &mut String, part: &str) -> Result<(), AllocError>
+fn append_optional_part(out: &mut String, part: &str) -> Result<(), AllocError>
     ensures { OnOk result (string_bytes out.new ≡ string_bytes out.old ++ ended_part (part_shown part.now)) }
 {
     if part.is_empty() {
-        push_part(out, ".")
+        append_part(out, ".")
     } else {
-        push_part(out, part)
+        append_part(out, part)
     }
 }
 
@@ -133,27 +133,31 @@ pub fn write_parts(
     ensures { IfOk result (λ text. string_bytes text ≡ parts_text scheme.now manager.now package_name.now version.now) }
 {
     let mut out = String::new(alloc);
-    push_part(&mut out, scheme)?;
-    push_optional_part(&mut out, manager)?;
-    push_optional_part(&mut out, package_name)?;
-    push_optional_part(&mut out, version)?;
+    append_part(&mut out, scheme)?;
+    append_optional_part(&mut out, manager)?;
+    append_optional_part(&mut out, package_name)?;
+    append_optional_part(&mut out, version)?;
     Ok(out)
 }
 
 /// Appends a descriptor without a disambiguator, as `write` writes it (scip.proto, the grammar of `Symbol`). So the string of a symbol
-/// becomes that of the symbol with one more descriptor.
+/// becomes the string of the symbol with one more descriptor.
 /// Fails with `AllocError` if an allocation fails.
-pub fn push_step(out: &mut String, kind: DescriptorKind, name: &str) -> Result<(), AllocError>
+pub fn append_simple_descriptor(
+    out: &mut String,
+    kind: DescriptorKind,
+    name: &str,
+) -> Result<(), AllocError>
     // With `Ok` the string has grown by the canonical string of a descriptor of this kind and name, without a disambiguator.
     ensures { OnOk result (string_bytes out.new ≡ string_bytes out.old ++ canonical_descriptor_text (record { kind = kind; name = name.now; disambiguator = [] })) }
 {
-    out.push_str(opening_of(kind))?;
-    push_name(out, name)?;
-    push_closing(out, kind, "")
+    out.push_str(opening_delimiter(kind))?;
+    append_name(out, name)?;
+    append_closing(out, kind, "")
 }
 
 /// The canonical string of a symbol, which isn't checked.
-fn text_of(alloc: Global, symbol: &Symbol) -> Result<String, AllocError>
+fn canonical_symbol_text(alloc: Global, symbol: &Symbol) -> Result<String, AllocError>
     ensures { IfOk result (λ text. string_bytes text ≡ canonical_text (symbol_model symbol.now)) }
 {
     match symbol {
@@ -177,18 +181,18 @@ fn text_of(alloc: Global, symbol: &Symbol) -> Result<String, AllocError>
                 package.as_str(),
                 version.as_str(),
             )?;
-            push_descriptors(&mut out, descriptors.as_slice())?;
+            append_descriptors(&mut out, descriptors.as_slice())?;
             Ok(out)
         }
     }
 }
 
 /// Writes a symbol. The contract of `write` follows from this one.
-fn write_any(alloc: Global, symbol: &Symbol) -> Result<String, SymbolFault>
+fn check_and_write(alloc: Global, symbol: &Symbol) -> Result<String, SymbolFault>
     ensures { HasOutcome string_bytes result (IsWriteOutcome (symbol_model symbol.now)) }
 {
-    check(symbol)?;
-    Ok(text_of(alloc, symbol)?)
+    check_writable(symbol)?;
+    Ok(canonical_symbol_text(alloc, symbol)?)
 }
 
 /// Returns the canonical string of a symbol (scip.proto, the grammar of `Symbol`), or the first error. In a canonical string a name is
@@ -205,5 +209,5 @@ pub fn write(alloc: Global, symbol: &Symbol) -> Result<String, SymbolFault>
     // Each outcome of writing the symbol, its canonical string or an error, is the result, unless the result is `Memory`.
     ensures only { (o : Result (List ℕ) SymbolFault) → IsWriteOutcome (symbol_model symbol.now) o → HasOutcome string_bytes result (λ p. p ≡ o) }
 {
-    write_any(alloc, symbol)
+    check_and_write(alloc, symbol)
 }

@@ -7,7 +7,7 @@ use std::alloc::{AllocError, Global};
 use std::process::Abort;
 use std::test::Fail;
 use test_doubles::ByOne;
-use text_escape::LocationStyle;
+use texts::LocationStyle;
 
 /// Three documents, the first and the last with one path. The first has a definition and a reference of `s`, definitions of a local symbol,
 /// of no symbol, of one without a range, and one with a second role, on two lines.

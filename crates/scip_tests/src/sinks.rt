@@ -7,7 +7,7 @@ use scip_index::{Document, Index, IndexWriter, Metadata, from_bytes};
 use std::alloc::{AllocError, Global};
 use std::test::Fail;
 use test_doubles::ByOne;
-use text_escape::LocationStyle;
+use texts::LocationStyle;
 
 /// An output.
 #[derive(Clone, Copy)]

@@ -1,4 +1,4 @@
--- Where a module of a tree uses another, and how often.
+-- Where a module of a tree uses another module, and how often.
 use Rattle.std.proofs.Common.{◌≡◌, ℕ, zero, suc, ◌+◌, ◌<◌, ◌≤◌, List, [], ◌∷◌, ◌++◌, length, get_or, take, Some, None, Ok, refl, sym, ap, ◌∙◌, subst, inl, inr, arith}
 use Rattle.std.specs.Prelude.{Contains, slice_get}
 use Rattle.std.specs.Str.{bytes_eq}
@@ -19,16 +19,16 @@ use Rattle.ob_imports.specs.Names.{index_in}
 use Rattle.ob_imports.specs.Outcomes.{AreFilesOfGraph}
 use Rattle.ob_imports.proofs.Nodes.{nodes_known}
 use Rattle.ob_imports.proofs.Places.{place_found, place_is}
-use Rattle.ob_parse.specs.Parsed.{IsTheTree}
+use Rattle.ob_grammar.specs.Parsed.{IsTheTree}
 use Rattle.ob_scan.proofs.Outcomes.{spelled_once}
 use Rattle.ob_scan.specs.declared.token.Token.{Token}
 use Rattle.ob_scan.specs.Spelling.{IsOutcome}
 use Rattle.ob_scan.specs.Texts.{text_at}
 use Rattle.ob_scope.specs.declared.crossing_uses.Crossing.{Crossing}
-use Rattle.ob_scope.specs.Counted.{Crosses, HasWeight}
+use Rattle.scopes.specs.QualifiedUses.{Crosses, HasWeight}
 use Rattle.ob_scope.specs.Crossings.{AreCrossings}
-use Rattle.ob_scope.specs.Scoped.{AreScopes, ModuleScopes}
-use Rattle.ob_scope.proofs.Counting.{counts-once}
+use Rattle.scopes.specs.Scoped.{AreScopes, ModuleScopes}
+use Rattle.scopes.proofs.Counting.{counts-once}
 use Rattle.ob_scope.proofs.ImportUses.{crossings_weigh}
 use Rattle.ob_tree.specs.declared.declaration.Module.{Module}
 use Rattle.source_tree.specs.Crossings.{AreSpans, AreUseSpans, AreUses, AreImportUses, AreUsesInFile, IsNoModule, IsNoNode, IsSpan}
@@ -39,13 +39,13 @@ use Rattle.source_tree.specs.declared.crossing.ImportUses.TheVariants.{Places, N
 use Rattle.source_tree.specs.declared.crossing.Span.{Span}
 use Rattle.source_tree.specs.declared.source.Source.{Source}
 use Rattle.source_tree.specs.declared.tree_fault.TreeFault.{TreeFault}
-use Rattle.source_tree.specs.declared.tree_reading.Tree.{Tree}
+use Rattle.source_tree.specs.declared.tree_reading.ScopedTree.{ScopedTree}
 use Rattle.source_tree.proofs.SameFiles.{import_over, one_rows}
 use Rattle.source_tree.proofs.ReadFiles.{first_fault, of_tree}
 use Rattle.source_tree.proofs.TreeFiles.{there}
 use Rattle.source_tree.proofs.TreeNet.{at_left, member_at, index_or_len, same_at}
 
--- ---- places of crossings
+---- ranges of crossings
 
 spans_more : (bytes : List ℕ) (ts : List Token) (cs : List Crossing) (spans : List Span) (c : Crossing) (span : Span) → AreSpans bytes ts cs spans → IsSpan bytes ts c span → AreSpans bytes ts (cs ++ c ∷ []) (spans ++ span ∷ [])
 spans_more bytes ts [] [] c span all one = (one, tt)
@@ -64,7 +64,7 @@ spans_as_many bytes ts (c ∷ cs) (x ∷ spans) all = ap suc (spans_as_many byte
 
 -- ---- one file
 
--- what is found by one reading of a file holds of each
+-- a result for one reading of a file holds for each reading
 module _ (source : Source) (ts : List Token) (m : Module) (reads : IsOutcome source.bytes.items (Ok ts)) (tree : IsTheTree source.bytes.items ts m) (s : ModuleScopes) (n : List ℕ) where
   pub places_by : (r : Rows) (cs : List Crossing) (spans : List Span) → r ≡ rows_of m
       → ((bytes : List ℕ) (us : List Token) → AreScopes bytes us r s → AreCrossings (text_at bytes us) r n r.uses cs)
@@ -105,14 +105,14 @@ module _ (files : List ModuleFile) (g : ImportGraph) (kept : AreFilesOfGraph (fi
       let is : get_or g.names v [] ≡ names file 1 = get_or_from_slice_get g.names v (names file 1) [] (own_at v file at) in
       (file, at, sym ((bytes_eq-Decides name (get_or g.names v [])).0 found.1 ∙ is))
 
-  -- a name that no node has
+  -- a name that no module has
   pub no_node : (name : List ℕ) → None ≡ index_in g.names name → IsNode (files_of files) name → ⊥
   no_node name e node = let found = place_found g.names name (nodes_known (files_of files) g.names kept.is_graph.nodes name node) in let bad : None ≡ Some (Rattle.ob_imports.specs.Numbering.index_or_len g.names name) = e ∙ found in absurd cc
 
   pub no_module : (name : List ℕ) → None ≡ index_in g.names name → Contains (names_of (files_of files)) name → ⊥
   no_module name e has = no_node name e (inl has)
 
-  -- nor one of the tree's own
+  -- nor a module of the tree
   pub not_own : (v : ℕ) (name : List ℕ) → Some v ≡ index_in g.names name → g.modules ≤ v → Contains (names_of (files_of files)) name → ⊥
   not_own v name e past has =
       let (f, has_f, same_f) = from_map (λ (f : File). f.name) (files_of files) name has in
@@ -126,7 +126,7 @@ module _ (files : List ModuleFile) (g : ImportGraph) (kept : AreFilesOfGraph (fi
       let module_name_token : names file 1 ≡ name = ap (λ (h : File). h.name) is ∙ same_f in
       false≢true (sym not_it ∙ (bytes_eq-Decides name (get_or g.names w [])).1 (sym (own ∙ module_name_token)))
 
-  -- a node that has a number
+  -- a module with a number
   pub is_node : (v : ℕ) (name : List ℕ) → Some v ≡ index_in g.names name → IsNode (files_of files) name
   is_node v name e =
       let found = position-Some (bytes_eq name) g.names v [] (sym e) in
@@ -140,20 +140,20 @@ module _ (files : List ModuleFile) (g : ImportGraph) (kept : AreFilesOfGraph (fi
 
 -- ---- a tree
 
-tree_is : (sources : List Source) (tree : Tree) (of : IsTreeOf sources tree) → IsTree sources of.files
+tree_is : (sources : List Source) (tree : ScopedTree) (of : IsTreeOf sources tree) → IsTree sources of.files
 tree_is sources tree of = record { accepted = of.read.accepted; graph = tree.graph; kept = of.kept; acyclic = of.acyclic }
 
-module _ (sources : List Source) (tree : Tree) (of : IsTreeOf sources tree) (m n : List ℕ) where
+module _ (sources : List Source) (tree : ScopedTree) (of : IsTreeOf sources tree) (m n : List ℕ) where
   pub crossed_no_importer : ((files : List ModuleFile) → AreFilesOfGraph (files_of files) tree.graph → Contains (names_of (files_of files)) m → ⊥) → IsNoModule sources m
   crossed_no_importer none = record { files = of.files; is_tree = tree_is sources tree of; absent = none of.files of.kept }
 
-  importer_of : (v : ℕ) → ((files : List ModuleFile) → AreFilesOfGraph (files_of files) tree.graph → (file : ModuleFile) × (slice_get files v ≡ Some file) × (names file 1 ≡ m)) → (file : ModuleFile) × (slice_get of.files v ≡ Some file) × (names file 1 ≡ m)
-  importer_of v found = found of.files of.kept
+  find_importer : (v : ℕ) → ((files : List ModuleFile) → AreFilesOfGraph (files_of files) tree.graph → (file : ModuleFile) × (slice_get files v ≡ Some file) × (names file 1 ≡ m)) → (file : ModuleFile) × (slice_get of.files v ≡ Some file) × (names file 1 ≡ m)
+  find_importer v found = found of.files of.kept
 
   pub crossed_no_imported : (v : ℕ) → ((files : List ModuleFile) → AreFilesOfGraph (files_of files) tree.graph → (file : ModuleFile) × (slice_get files v ≡ Some file) × (names file 1 ≡ m))
       → None ≡ index_in tree.graph.names n → IsNoNode sources m n
   crossed_no_imported v found e =
-      let (file, at, named) = importer_of v found in
+      let (file, at, named) = find_importer v found in
       record {
         files = of.files;
         is_tree = tree_is sources tree of;
@@ -164,14 +164,14 @@ module _ (sources : List Source) (tree : Tree) (of : IsTreeOf sources tree) (m n
   -- the file and its scopes at a module's number
   pub within_sources : (v : ℕ) → ((files : List ModuleFile) → AreFilesOfGraph (files_of files) tree.graph → (file : ModuleFile) × (slice_get files v ≡ Some file) × (names file 1 ≡ m)) → v < length sources
   within_sources v found =
-      let (file, at, named) = importer_of v found in
+      let (file, at, named) = find_importer v found in
       let within = slice_get_within of.files v file at in
       let many = of.read.accepted.as_many in
       omega arith
 
   pub within_scopes : (v : ℕ) → ((files : List ModuleFile) → AreFilesOfGraph (files_of files) tree.graph → (file : ModuleFile) × (slice_get files v ≡ Some file) × (names file 1 ≡ m)) → v < length tree.scopes.items
   within_scopes v found =
-      let (file, at, named) = importer_of v found in
+      let (file, at, named) = find_importer v found in
       let within = slice_get_within of.files v file at in
       let many = of.read.as_many in
       omega arith
@@ -179,7 +179,7 @@ module _ (sources : List Source) (tree : Tree) (of : IsTreeOf sources tree) (m n
   pub crossed_at : (v w : ℕ) (source : Source) (s : ModuleScopes) (crossed : ImportUses) → ((files : List ModuleFile) → AreFilesOfGraph (files_of files) tree.graph → (file : ModuleFile) × (slice_get files v ≡ Some file) × (names file 1 ≡ m))
       → Some w ≡ index_in tree.graph.names n → slice_get sources v ≡ Some source → slice_get tree.scopes.items v ≡ Some s → AreUsesInFile source s n crossed → AreImportUses sources m n crossed
   crossed_at v w source s (Places path spans) found node at_source at_scopes (same_path, places) =
-      let (file, at, named) = importer_of v found in
+      let (file, at, named) = find_importer v found in
       let accepted = of.read.accepted.each v source file at_source at in
       record {
         files = of.files;
@@ -218,7 +218,7 @@ module _ (sources : List Source) (tree : Tree) (of : IsTreeOf sources tree) (m n
 
 -- ---- how often
 
--- the files of a tree are told by the names of their modules
+-- the files of a tree differ in the names of their modules
 one_importer : (files : List ModuleFile) (f g : ModuleFile) (m : List ℕ) → DifferInName (files_of files) → Contains files f → Contains files g → names f 1 ≡ m → names g 1 ≡ m → f ≡ g
 one_importer files f g m differ has_f has_g is_f is_g =
     let (v, at_f) = index_or_len files f has_f in

@@ -15,13 +15,13 @@ use Rattle.digraph.specs.Edges as edges
 use Rattle.ob_imports.proofs.ByName.{acyclic_over}
 use Rattle.digraph.proofs.Members.{from_map, in_map}
 use Rattle.ob_imports.proofs.Places.{place_is}
-use Rattle.ob_scope.specs.Scoped.{ModuleScopes}
+use Rattle.scopes.specs.Scoped.{ModuleScopes}
 use Rattle.cut_net.specs.declared.priced.Priced.{Priced}
 use Rattle.texts.specs.Fields.{is_name}
 use Rattle.source_tree.specs.GraphNet.{graph_entry, graph_import, graph_lines, graph_weight, AreLight}
 use Rattle.cut_net.specs.Network as network
 use Rattle.cut_net.specs.Network.{Network}
-use Rattle.cut_net.specs.NetText.{NetLine, Module, Import, is_import, AreOfTwoImports, AreNamesOf, IsNetLine, IsNetOf, Mentions}
+use Rattle.cut_net.specs.NetText.{NetLine, Module, Import, is_import, HaveDifferentImports, AreNamesOf, IsNetLine, IsNetOf, Mentions}
 use Rattle.cut_net.specs.NetReading.{entry_line, AreTablesOf}
 use Rattle.cut_net.specs.Cuts.{Any, Imports}
 use Rattle.cut_net.specs.WellFormed.{IsAcyclic, IsNetwork, total_weight}
@@ -40,13 +40,13 @@ entries_are : (g : ImportGraph) (ss : List ModuleScopes) (ps : List Edge) → ma
 entries_are g ss [] = refl
 entries_are g ss (p ∷ ps) = ap (λ (t : List NetLine). graph_import g ss p ∷ t) (entries_are g ss ps)
 
-module_apart : (n : List ℕ) (line : NetLine) → AreOfTwoImports (Module n) line
+module_apart : (n : List ℕ) (line : NetLine) → HaveDifferentImports (Module n) line
 module_apart n (Module _) = tt
 module_apart n (Import _ _ _) = tt
 
-modules_apart : (names : List (List ℕ)) (lines : List NetLine) → AllPairs AreOfTwoImports lines → AllPairs AreOfTwoImports (map Module names ++ lines)
+modules_apart : (names : List (List ℕ)) (lines : List NetLine) → AllPairs HaveDifferentImports lines → AllPairs HaveDifferentImports (map Module names ++ lines)
 modules_apart [] lines h = h
-modules_apart (n ∷ ns) lines h = AllPairs-cons AreOfTwoImports (Module n) (map Module ns ++ lines) (λ k d l. module_apart n (get_or (map Module ns ++ lines) k d)) (modules_apart ns lines h)
+modules_apart (n ∷ ns) lines h = AllPairs-cons HaveDifferentImports (Module n) (map Module ns ++ lines) (λ k d l. module_apart n (get_or (map Module ns ++ lines) k d)) (modules_apart ns lines h)
 
 not_before : (a b c d : ℕ) → a ≡ b → c ≡ d → (ltb a b || (eqb a b && ltb c d)) ≡ true → ⊥
 not_before a b c d e f h = grind (arith, nat_tests)
@@ -84,7 +84,7 @@ module _ (g : ImportGraph) (ss : List ModuleScopes) (graph : IsGraph g) where
       ∙ ap (λ (t : List NetLine). t ++ filter is_import (map (graph_import g ss) g.pairs)) (modules_dropped g.names)
       ∙ imports_kept g ss g.pairs ∙ entries_are g ss g.pairs
 
-  imports_apart : AllPairs AreOfTwoImports (map (graph_import g ss) g.pairs)
+  imports_apart : AllPairs HaveDifferentImports (map (graph_import g ss) g.pairs)
   imports_apart i j d less within =
       let long = length-map g.pairs (graph_import g ss) in
       let li : i < length g.pairs = omega arith in
@@ -93,7 +93,7 @@ module _ (g : ImportGraph) (ss : List ModuleScopes) (graph : IsGraph g) where
       let q = get_or g.pairs j missing_item in
       let bp = graph.between p (Contains-get_or g.pairs i missing_item li) in
       let bq = graph.between q (Contains-get_or g.pairs j missing_item lj) in
-      let apart : AreOfTwoImports (graph_import g ss p) (graph_import g ss q) = λ e f. not_before p.from q.from p.to q.to (same_node p.from q.from bp.0 bq.0 e) (same_node p.to q.to bp.1 bq.1 f) (graph.ascend i j missing_item less lj) in
+      let apart : HaveDifferentImports (graph_import g ss p) (graph_import g ss q) = λ e f. not_before p.from q.from p.to q.to (same_node p.from q.from bp.0 bq.0 e) (same_node p.to q.to bp.1 bq.1 f) (graph.ascend i j missing_item less lj) in
       rw (get_or-map (graph_import g ss) g.pairs i missing_item d li, get_or-map (graph_import g ss) g.pairs j missing_item d lj) apart
 
   mentioned : (x : List ℕ) (line : NetLine) → Contains (graph_lines g ss) line → Mentions x line → Contains g.names x

@@ -1,4 +1,4 @@
--- The tables that a graph of imports is noted in: sums of uses, imports by the places of names, and names.
+-- Tables made from an import graph: sums of uses, imports by the indices of names, and names.
 use Rattle.std.proofs.Common.{◌≡◌, ℕ, suc, zero, ◌+◌, ◌<◌, ◌≤◌, true, false, ltb, eqb, ◌&&◌, ◌||◌, List, [], ◌∷◌, ◌++◌, length, get_or, map, take, Option, Some, refl, sym, ap, ◌∙◌, arith, inl, inr, subst}
 use Rattle.std.specs.Prelude.{All, Contains, filter}
 use Rattle.std.specs.Map.{update}
@@ -14,10 +14,10 @@ use Rattle.digraph.specs.declared.edge.Edge.{Edge}
 use Rattle.ob_imports.specs.Graphs.{ImportGraph, imported, name_of}
 use Rattle.digraph.specs.Edges.{AreBetween, IsAscending, Leads}
 use Rattle.digraph.proofs.Members.{first_member, from_map, later_member, of_filter}
-use Rattle.ob_scope.specs.Kept.{alias_of}
-use Rattle.ob_scope.specs.declared.module_scopes.Alias.{Alias}
-use Rattle.ob_scope.specs.Scoped.{AliasUses, ModuleScopes}
-use Rattle.ob_scope.specs.Weights.{uses_of_import, uses_for, uses_of_all}
+use Rattle.scopes.specs.ScopesInvariant.{alias_of}
+use Rattle.scopes.specs.declared.module_scopes.Alias.{Alias}
+use Rattle.scopes.specs.Scoped.{AliasUses, ModuleScopes}
+use Rattle.scopes.specs.Weights.{uses_of_import, uses_for, uses_of_all}
 use Rattle.source_tree.specs.GraphNet.{entry_to, graph_entry, scopes_at, AreLight}
 
 -- ---- sums of uses
@@ -31,14 +31,14 @@ uses_for_le name a = elim (cases_Bool (bytes_eq a.imported name)) [
   | inr f ↦ rw f (omega arith)
 ]
 
--- the sums of one name are no more than those of all
+-- the sum for one name is at most the sum for all names
 pub across_le : (list : List AliasUses) (name : List ℕ) → uses_of_import list name ≤ uses_of_all list
 across_le list name = sum_by-le-sum_by (uses_for name) all_of list (uses_for_le name)
 
 pub across_fits : (list : List AliasUses) (i : ℕ) (d : AliasUses) (name : List ℕ) → i < length list → uses_of_import (take i list) name + (get_or list i d).uses ≤ uses_of_all list
 across_fits list i d name l = sum_by_more_le_part (uses_for name) all_of list i d l (uses_for_le name)
 
--- an alias at its place
+-- an alias at its index
 pub alias_at : (items : List Alias) (list : List AliasUses) (i : ℕ) (x : Alias) → map alias_of items ≡ list → i < length items → x ≡ get_or items i x → (i < length list) × (get_or list i (alias_of x) ≡ alias_of x) × Contains list (alias_of x)
 alias_at items list i x e l is =
     let long : length list ≡ length items = sym (ap length e) ∙ length-map items alias_of in

@@ -13,16 +13,16 @@ use Rattle.cut_net.specs.Prices.{is_named}
 use Rattle.cut_net.specs.WellFormed.{IsNetwork}
 use Rattle.cut_net.proofs.Noting.{map_some_is, named_is, named_true, same_place}
 use Rattle.table_rules.specs.Declaring.{rows_of}
-use Rattle.ob_parse.specs.Parsed.{IsTheTree}
+use Rattle.ob_grammar.specs.Parsed.{IsTheTree}
 use Rattle.module_table.specs.Parts.{Rows}
 use Rattle.module_table.specs.declared.rows.Import.{Import}
 use Rattle.ob_scan.specs.declared.place.Position.{Position}
 use Rattle.ob_scan.specs.declared.token.Token.{Token}
 use Rattle.ob_scan.specs.Spelling.{IsOutcome, Spells}
 use Rattle.ob_scan.proofs.Outcomes.{spelled_once}
-use Rattle.ob_scope.specs.Kept.{alias_of}
-use Rattle.ob_scope.specs.declared.module_scopes.Alias.{Alias}
-use Rattle.ob_scope.specs.Scoped.{AliasUses, ModuleScopes}
+use Rattle.scopes.specs.ScopesInvariant.{alias_of}
+use Rattle.scopes.specs.declared.module_scopes.Alias.{Alias}
+use Rattle.scopes.specs.Scoped.{AliasUses, ModuleScopes}
 use Rattle.ob_tree.specs.declared.declaration.Module.{Module}
 use Rattle.source_tree.specs.Files.{AreAllOf}
 use Rattle.source_tree.specs.Located.{no_site, AreItemPositions, AreSitesOf, HasLocated, IsFirstFrom, HasSite, IsImportPosition, IsItemPosition, IsLocated, IsNotFrom, IsSetFrom, IsSiteFrom}
@@ -41,7 +41,7 @@ module _ (net : Network) (is : IsNetwork net) (f : ℕ) (s : ModuleScopes) (item
   abbrev import_at : ℕ → Priced
   import_at k = get_or net.imports k missing_item
 
-  -- the item names no import of the module, and those after it are looked at
+  -- the item names no import of the module, and those after it are inspected
   first_more : (n : List ℕ) (at : Position) → (alias.imported ≡ n → ⊥) → IsFirstFrom (low + 1) s.aliases items n at → IsFirstFrom low s.aliases items n at
   first_more n at not_here h = record {
     index = h.index;
@@ -129,7 +129,7 @@ positions_next bytes ts items k d at ps lt here so_far =
     one zero item p e f = subst (λ (x : Import). IsItemPosition bytes ts x p) (same_Some (get_or items k d) item e) (subst (IsItemPosition bytes ts (get_or items k d)) (same_Some at p f) here)
     one (suc j) item p e f = absurd cc
 
--- what is read of a file in one reading is so of the file
+-- the positions that one reading of a file gives are those of the file
 pub has_located : (source : Source) (ts : List Token) (tree : Module) (rows_are : Rows) → IsOutcome source.bytes.items (Ok ts) → IsTheTree source.bytes.items ts tree → rows_are ≡ rows_of tree → (l : LocatedScopes) → HasScopes source l.scopes
     → AreItemPositions source.bytes.items ts rows_are.imports l.items.items → HasLocated source l
 has_located source ts tree rows_are spelled is_tree same l (file, accepted, scoped) positions =
@@ -250,6 +250,6 @@ module _ (sources : List Source) (files : List ModuleFile) (located : List Locat
         subst (λ (ws : List (Vec Position Global)). HasSite net scopes_of ws (length scopes_of) (get_or net.imports k missing_item) (get_or sites k no_site)) f
         (subst (λ (rs : List ModuleScopes). HasSite net rs vs (length rs) (get_or net.imports k missing_item) (get_or sites k no_site)) e (found k lt)))
 
--- the alias of a row
+-- the alias of an entry
 pub alias_at : (rows : List Alias) (aliases : List AliasUses) (i : ℕ) (row : Alias) → map alias_of rows ≡ aliases → i < length rows → row ≡ get_or rows i row → slice_get aliases i ≡ Some (alias_of row)
 alias_at rows aliases i row all lt is = subst (λ (xs : List AliasUses). slice_get xs i ≡ Some (alias_of row)) all (slice_get-map alias_of rows i ∙ ap (option_map alias_of) (at_item rows i row lt is))

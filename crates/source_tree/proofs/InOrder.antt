@@ -1,4 +1,4 @@
--- Things that ascend by their texts, from each and the next.
+-- Lists that are sorted by byte strings, tested by adjacent elements.
 use Rattle.std.proofs.Common.{◌≡◌, ℕ, ◌+◌, ◌<◌, Bool, true, false, List, [], ◌∷◌, length, get_or, map, refl, sym, ap, ◌∙◌, arith, Ordering}
 use Rattle.std.specs.Prelude.{◌↔◌, IsTrue}
 use Rattle.std.specs.Cmp.Lexicographic.{slice_cmp, nat_list_cmp_total}
@@ -15,7 +15,7 @@ less_from Less e = refl
 less_from Equal e = absurd (false≢true (sym e))
 less_from Greater e = absurd (false≢true (sym e))
 
--- the text of the one is below that of the other, as a test answers
+-- one string is below the other, as a test returns
 abbrev pub IsBelow : {X : Type 0} → (X → List ℕ) → X → X → Bool → Type 0
 IsBelow text x y b = b ≡ is_lt (slice_cmp nat_cmp (text x) (text y))
 
@@ -36,7 +36,7 @@ does_not_ascend text (x ∷ xs) k within fails up =
     rw (← get_or-map text (x ∷ xs) k x [] (omega arith), ← get_or-map text (x ∷ xs) (k + 1) x [] within) less in
     false≢true (fails x ∙ ap is_lt here)
 
--- the test of each and the next tells whether all ascend
+-- the test of all adjacent elements decides whether the list is sorted
 pub ascend_both_ways : {X : Type 0} (text : X → List ℕ) (xs : List X) (r : Bool) → IsAllAdjacentAnswer (IsBelow text) xs r
     → IsTrue r ↔ IsStrictlySortedBy (slice_cmp nat_cmp) (map text xs)
 ascend_both_ways text xs true h = ((λ _. ascends text xs h), (λ _. refl))

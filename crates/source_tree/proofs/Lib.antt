@@ -13,8 +13,7 @@ pub mod OneTreeFault
 pub mod CrossedTrees
 pub mod PartsOfFiles
 pub mod TreeRows
-pub mod FilesRead
-pub mod OwnFaults
+pub mod FileFaults
 pub mod OneParting
 pub mod ImportSites
 pub mod LocatedFiles

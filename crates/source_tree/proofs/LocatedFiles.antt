@@ -12,7 +12,7 @@ use Rattle.std.proofs.lemmas.Option.{same_Some, slice_get-get_or, slice_get-map,
 use Rattle.cut_net.specs.Network.{Network, index_of, name_of}
 use Rattle.digraph.proofs.Members.{in_map}
 use Rattle.ob_imports.specs.Files.{File, IsNode, names_of}
-use Rattle.ob_scope.specs.Scoped.{ModuleScopes}
+use Rattle.scopes.specs.Scoped.{ModuleScopes}
 use Rattle.source_tree.specs.Located.{AreModulesOf}
 use Rattle.source_tree.specs.TreeReading.{AreFilesRead}
 use Rattle.source_tree.specs.Trees.{file_of, files_of, names, ModuleFile}
@@ -32,7 +32,7 @@ known net name (k, lt, is) e =
     ]
 
 module _ (sources : List Source) (files : List ModuleFile) (ss : List ModuleScopes) (read : AreFilesRead sources files ss) where
-  -- the scopes at a place are those of the file there
+  -- the scopes at an index are those of the file at that index
   named_at : (i : ℕ) (s : ModuleScopes) → slice_get ss i ≡ Some s → (file : ModuleFile) × (slice_get files i ≡ Some file) × (s.name ≡ names file 1)
   named_at i s e =
       let within = slice_get_within ss i s e in

@@ -1,4 +1,4 @@
--- An accepted tree has no fault but want of memory.
+-- An accepted tree has no error but a failed allocation.
 use Rattle.std.proofs.Common.{◌≡◌, ℕ, true, List, ◌∷◌, ◌++◌, length, Some, Ok, Err, refl, sym, ap, ◌∙◌, subst, length-append, arith}
 use Rattle.std.specs.Prelude.{slice_get}
 use Rattle.std.proofs.Math.Seq.{get_or-append_seam}
@@ -14,18 +14,18 @@ use Rattle.ob_scan.specs.Spelling.{IsOutcome}
 use Rattle.ob_scan.proofs.Outcomes.{outcome_once, spelled_once}
 use Rattle.ob_scan.specs.Texts.{text_at}
 use Rattle.ob_tree.specs.declared.declaration.Module.{Module}
-use Rattle.ob_parse.specs.declared.fault.ParseFault.{ParseFault}
-use Rattle.ob_parse.specs.declared.fault.ParseFault.TheVariants as parses
-use Rattle.ob_parse.specs.Parsed.{IsFaultOf, IsTheTree}
-use Rattle.ob_parse.proofs.OneTree.{no_fault}
+use Rattle.ob_grammar.specs.declared.fault.ParseFault.{ParseFault}
+use Rattle.ob_grammar.specs.declared.fault.ParseFault.TheVariants as parses
+use Rattle.ob_grammar.specs.Parsed.{IsFaultOf, IsTheTree}
+use Rattle.ob_grammar.proofs.OneTree.{no_fault}
 use Rattle.table_rules.specs.Declaring.{rows_of}
 use Rattle.module_table.specs.Parts.{Rows}
 use Rattle.ob_scope.specs.declared.fault.ScopeFault.{ScopeFault}
 use Rattle.ob_scope.specs.declared.fault.ScopeFault.TheVariants as scopes
-use Rattle.ob_scope.specs.Members.{members_of}
-use Rattle.ob_scope.specs.Scope.{HasNoDuplicates}
-use Rattle.ob_scope.specs.Scoped.{IsScopeFault}
-use Rattle.ob_scope.proofs.Meanings.{no_first}
+use Rattle.scopes.specs.Members.{members_of}
+use Rattle.scopes.specs.Scope.{HasNoDuplicates}
+use Rattle.ob_scope.specs.Faults.{IsScopeFault}
+use Rattle.scopes.proofs.Meanings.{no_first}
 use Rattle.source_tree.specs.TreeFaults.{is_out_of_memory}
 use Rattle.source_tree.specs.Trees.{files_of, rows, AreAccepted, HasParseFault, HasScanFault, HasScopeFault, IsAccepted, IsFileFault, IsFirstFault, IsGraphFault, IsTree, IsTreeFault, ModuleFile}
 use Rattle.source_tree.specs.declared.source.Source.{Source}
@@ -39,7 +39,7 @@ use Rattle.source_tree.proofs.TreeFiles.{there}
 no_other : (bytes : List ℕ) (ts : List Token) (fault : ScanFault) → IsOutcome bytes (Ok ts) → IsOutcome bytes (Err fault) → ⊥
 no_other bytes ts fault h k = let e = outcome_once bytes (Ok ts) (Err fault) h k in absurd cc
 
--- bytes with tokens have no fault of the scanner
+-- bytes that have tokens have no scanner error
 pub no_scan_fault : (bytes : List ℕ) (ts : List Token) (fault : ScanFault) → IsOutcome bytes (Ok ts) → HasScanFault fault bytes → fault ≡ scans.Memory
 no_scan_fault bytes ts (scans.BadByte at) h f = absurd (no_other bytes ts (scans.BadByte at) h f)
 no_scan_fault bytes ts (scans.BadNumber at) h f = absurd (no_other bytes ts (scans.BadNumber at) h f)
@@ -48,7 +48,7 @@ no_scan_fault bytes ts (scans.OpenComment at) h f = absurd (no_other bytes ts (s
 no_scan_fault bytes ts scans.TooLong h f = absurd (no_other bytes ts scans.TooLong h f)
 no_scan_fault bytes ts scans.Memory h f = refl
 
--- tokens with a tree have no fault of the parser
+-- tokens that have a syntax tree have no parser error
 pub no_parse_fault : (bytes : List ℕ) (ts : List Token) (m : Module) (fault : ParseFault) → IsOutcome bytes (Ok ts) → IsTheTree bytes ts m → HasParseFault fault bytes → fault ≡ parses.Memory
 no_parse_fault bytes ts m fault h tree (us, reads, f) =
     no_fault bytes ts m fault tree (subst (λ (vs : List Token). IsFaultOf bytes vs fault) (spelled_once bytes us ts reads.1 h.1) f)
@@ -59,7 +59,7 @@ no_twice bytes ts r (scopes.Twice name first second) once (d, e, block, located_
 no_twice bytes ts r (scopes.TwiceField name first second) once (d, e, token, located_message, h) = absurd (no_first (text_at bytes ts) (members_of r) d e once h.is_first)
 no_twice bytes ts r scopes.Memory once h = refl
 
--- a fault of names is one of the tokens and the tree that there are
+-- an error of names belongs to the tokens and the tree of the file
 pub scope_fault_of : (bytes : List ℕ) (ts : List Token) (m : Module) (fault : ScopeFault) → IsOutcome bytes (Ok ts) → IsTheTree bytes ts m → HasScopeFault fault bytes → IsScopeFault bytes ts (rows_of m) fault
 scope_fault_of bytes ts m fault h tree (us, n, reads, other, f) =
     let tokens : us ≡ ts = spelled_once bytes us ts reads.1 h.1 in
@@ -102,7 +102,7 @@ no_first_fault sources files fault ok f =
     let (file, at_file) = there files (length f.before) (omega arith) in
     no_file_fault f.source file fault (ok.each (length f.before) f.source file at at_file) f.has_fault
 
--- the imports of an accepted tree aren't refused
+-- the imports of an accepted tree aren't rejected
 pub no_graph_fault : (sources : List Source) (files : List ModuleFile) (fault : GraphFault) → IsTree sources files → IsGraphFault sources fault → ⊥
 no_graph_fault sources files fault tree f =
     let same : files_of f.files ≡ files_of files = same_files sources f.files files f.accepted tree.accepted in

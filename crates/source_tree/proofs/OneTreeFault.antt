@@ -1,11 +1,11 @@
--- A refused tree has one fault.
+-- A rejected tree has one error.
 use Rattle.std.proofs.Common.{◌≡◌, ◌≢◌, ℕ, ◌<◌, false, List, [], ◌∷◌, ◌++◌, length, Some, Result, Ok, Err, refl, sym, ap, ap₂, ◌∙◌, subst, inl, inr, arith}
 use Rattle.std.specs.Prelude.{codes, slice_get}
 use Rattle.std.specs.List.{flat_map}
 use Rattle.std.specs.String.{string_bytes}
 use Rattle.std.proofs.lemmas.Bool.{cases_order, false≢true}
 use Rattle.std.proofs.lemmas.Option.{slice_get_within}
-use Rattle.text_escape.specs.Places.{position_text, Style}
+use Rattle.texts.specs.Places.{position_text, Style}
 use Rattle.ob_imports.specs.declared.fault.GraphFault.{GraphFault}
 use Rattle.ob_imports.specs.declared.fault.GraphFault.TheVariants as graphs
 use Rattle.ob_imports.specs.Files.{File}
@@ -20,22 +20,22 @@ use Rattle.ob_scan.specs.Position.{IsPosition}
 use Rattle.ob_scan.specs.Spelling.{IsOutcome}
 use Rattle.ob_scan.proofs.Outcomes.{outcome_once, spelled_once}
 use Rattle.ob_scan.specs.Texts.{text_at, token_at}
-use Rattle.ob_parse.specs.declared.fault.ParseFault.{ParseFault}
-use Rattle.ob_parse.specs.declared.fault.ParseFault.TheVariants as parses
-use Rattle.ob_parse.specs.Parsed.{IsFaultOf}
-use Rattle.ob_parse.proofs.OneFault.{one_fault}
+use Rattle.ob_grammar.specs.declared.fault.ParseFault.{ParseFault}
+use Rattle.ob_grammar.specs.declared.fault.ParseFault.TheVariants as parses
+use Rattle.ob_grammar.specs.Parsed.{IsFaultOf}
+use Rattle.ob_grammar.proofs.OneFault.{one_fault}
 use Rattle.ob_scope.specs.declared.fault.ScopeFault.{ScopeFault}
 use Rattle.ob_scope.specs.declared.fault.ScopeFault.TheVariants as scopes
 use Rattle.table_rules.specs.Declaring.{rows_of}
 use Rattle.module_table.specs.Parts.{Rows}
-use Rattle.ob_scope.specs.declared.members.Member.{Member}
-use Rattle.ob_scope.specs.declared.members.Scope.{Scope}
-use Rattle.ob_scope.specs.declared.members.Scope.TheVariants.{Block, Record}
-use Rattle.ob_scope.specs.Members.{members_of}
-use Rattle.ob_scope.specs.Scope.{IsFirstDuplicate}
-use Rattle.ob_scope.specs.Scoped.{IsScopeFault}
-use Rattle.ob_scope.proofs.Meanings.{first_once}
-use Rattle.source_tree.specs.OwnFaults.{IsSound}
+use Rattle.scopes.specs.declared.members.Member.{Member}
+use Rattle.scopes.specs.declared.members.Scope.{Scope}
+use Rattle.scopes.specs.declared.members.Scope.TheVariants.{Block, Record}
+use Rattle.scopes.specs.Members.{members_of}
+use Rattle.scopes.specs.Scope.{IsFirstDuplicate}
+use Rattle.ob_scope.specs.Faults.{IsScopeFault}
+use Rattle.scopes.proofs.Meanings.{first_once}
+use Rattle.source_tree.specs.FileFaults.{IsAcceptedSource}
 use Rattle.source_tree.specs.TreeFaults.{after_space, graph_fault_text, parse_fault_text, located_text, scan_fault_text, scope_fault_text, tree_fault_text, two_modules_text, is_out_of_memory}
 use Rattle.source_tree.specs.Trees.{files_of, parse_offset, scan_offset, scope_offset, HasParseFault, HasScanFault, HasScopeFault, IsFault, IsFileFault, IsFirstFault, IsGraphFault, IsTreeFault}
 use Rattle.source_tree.specs.declared.source.Source.{Source}
@@ -49,7 +49,7 @@ use Rattle.source_tree.proofs.TreeNet.{at_left, same_at}
 -- ---- the first of a list without a property
 
 module _ {X : Type 0} (P : X → Type 0) (xs : List X) where
-  -- a place of the list, with the property at all places before it and not there
+  -- an index of the list at which the property fails, while it holds at all indices before
   pub record IsFirstWithout (before : List X) (x : X) (after : List X) : Type 0 where
     pub split : xs ≡ before ++ x ∷ after
     pub have : (i : ℕ) (y : X) → slice_get before i ≡ Some y → P y
@@ -71,9 +71,9 @@ module _ {X : Type 0} (P : X → Type 0) (xs : List X) where
     | inr (inr less) ↦ absurd (not_before others rest before after y x k h less)
   ]
 
--- ---- places in a text
+---- positions in a text
 
--- of two lines of one offset neither begins later: the byte before it would end the other
+-- two lines that contain one offset begin at one offset, as otherwise a line end would be between them
 no_earlier : (bytes : List ℕ) (offset line column row place : ℕ) (p : IsPosition bytes offset line column) (q : IsPosition bytes offset row place) → p.first < q.first → ⊥
 no_earlier bytes offset line column row place p q less = elim q.begins [
   | inl none ↦ absurd (omega arith)
@@ -92,7 +92,7 @@ one_column bytes offset line column row place p q =
       | inr (inr less) ↦ absurd (no_earlier bytes offset row place line column q p less)
     ]
 
--- the same is told of two faults of one file
+-- two errors of one file have equal messages
 one_text : (style : Style) (s : Source) (path other : List ℕ) (at to : Position) (m n : ℕ) (message says : List ℕ) (H G : List ℕ → Type 0) → IsFault s path at m H → IsFault s other to n G →
     m ≡ n → message ≡ says → located_text style path at message ≡ located_text style other to says
 one_text style s path other at to m n message says H G h k same e = λ i. style.prefix ++ same_path i ++ codes ":" ++ position_text style (line i) (column i) ++ codes ": " ++ e i
@@ -131,12 +131,12 @@ one_parse_fault bytes f g some other (ts, reads, h) (us, spells, k) =
 
 -- ---- the names
 
--- what is told of a name of a place that is declared twice
+-- the message for a name that is declared twice in one scope
 abbrev told_of : Scope → List ℕ → List ℕ
 told_of (Block block) name = codes "Twice " ++ name
 told_of (Record token) name = codes "TwiceField " ++ name
 
--- the first pair, and that the fault tells it
+-- the first pair, and that the error has it
 record ToldPair (bytes : List ℕ) (ts : List Token) (r : Rows) (fault : ScopeFault) : Type 0 where
   d : Member
   e : Member
@@ -174,7 +174,7 @@ one_scope_fault bytes f g some other (ts, m, reads, tree, h) k =
 
 -- ---- one file
 
--- of a file's tokens, of its tree and of its names there is a fault where those before are right
+-- a file has an error of its tokens, or else of its syntax tree, or else of its names
 pub one_file_fault : (style : Style) (s : Source) (f g : TreeFault) → is_out_of_memory f ≡ false → is_out_of_memory g ≡ false → IsFileFault s f → IsFileFault s g → tree_fault_text style f ≡ tree_fault_text style g
 one_file_fault style s (faults.Scan path at f) (faults.Scan other to g) some more (known, h) (sure, k) =
     let same : f ≡ g = one_scan_fault s.bytes.items f g known sure h.has_fault k.has_fault in
@@ -204,7 +204,7 @@ one_file_fault style s faults.Memory g some more h k = absurd (false≢true (sym
 
 -- ---- all files
 
-first_faulty : (sources : List Source) (fault : TreeFault) (f : IsFirstFault sources fault) → is_out_of_memory fault ≡ false → IsFirstWithout IsSound sources f.before f.source f.after
+first_faulty : (sources : List Source) (fault : TreeFault) (f : IsFirstFault sources fault) → is_out_of_memory fault ≡ false → IsFirstWithout IsAcceptedSource sources f.before f.source f.after
 first_faulty sources fault f known = record {
   split = f.split;
   have = λ i s at.
@@ -217,12 +217,12 @@ first_faulty sources fault f known = record {
 
 one_first_fault : (style : Style) (sources : List Source) (f g : TreeFault) → is_out_of_memory f ≡ false → is_out_of_memory g ≡ false → IsFirstFault sources f → IsFirstFault sources g → tree_fault_text style f ≡ tree_fault_text style g
 one_first_fault style sources f g some more h k =
-    let same : h.source ≡ k.source = one_first IsSound sources h.before h.after k.before k.after h.source k.source (first_faulty sources f h some) (first_faulty sources g k more) in
+    let same : h.source ≡ k.source = one_first IsAcceptedSource sources h.before h.after k.before k.after h.source k.source (first_faulty sources f h some) (first_faulty sources g k more) in
     one_file_fault style k.source f g some more (subst (λ (s : Source). IsFileFault s f) same h.has_fault) k.has_fault
 
 -- ---- the imports
 
--- what is told of a graph, and of what files are refused for
+-- the message for an error of the import graph, and the error that the files determine
 abbrev outcome_text : Style → Result ImportGraph GraphError → List ℕ
 outcome_text style (Ok g) = []
 outcome_text style (Err (TwoModules name first second)) = two_modules_text style name first second
@@ -241,7 +241,7 @@ one_graph_fault style sources f g h k =
 
 -- ---- the tree
 
--- a fault is one of a file, or of the imports
+-- the error of a tree is the error of a file, or else of the imports
 data IsOfTree (sources : List Source) (fault : TreeFault) : Type 0 where
   from_source : IsFirstFault sources fault → IsOfTree sources fault
   of_imports : (g : GraphFault) → fault ≡ faults.Graph g → IsGraphFault sources g → IsOfTree sources fault
@@ -253,7 +253,7 @@ which sources (faults.Scope path at fault) known h = from_source h
 which sources (faults.Graph fault) known h = of_imports fault refl h
 which sources faults.Memory known h = absurd (false≢true (sym known))
 
--- where the imports are refused no file is
+-- if the imports are rejected, no file has an error
 apart : (sources : List Source) (fault : TreeFault) (g : GraphFault) → is_out_of_memory fault ≡ false → IsFirstFault sources fault → IsGraphFault sources g → ⊥
 apart sources fault g known h k = false≢true (sym known ∙ no_first_fault sources k.files fault k.accepted h)
 

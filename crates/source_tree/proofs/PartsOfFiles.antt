@@ -1,4 +1,4 @@
--- The parts of files.
+-- The parts of files' modules.
 use Rattle.std.proofs.Common.{◌≡◌, List, map, Some, sym, ap, ◌∙◌, subst, arith}
 use Rattle.std.specs.Prelude.{option_map, Box}
 use Rattle.std.specs.declared.alloc.Global.{Global}

@@ -10,7 +10,7 @@ use Rattle.digraph.proofs.Members.{first_member, from_map, later_member}
 use Rattle.ob_imports.specs.Graphs.{ImportGraph, IsGraph, name_of}
 use Rattle.ob_imports.specs.Names.{names_by, IsByName}
 use Rattle.ob_imports.proofs.RankedEdges.{has_node, order_long}
-use Rattle.ob_scope.specs.Scoped.{ModuleScopes}
+use Rattle.scopes.specs.Scoped.{ModuleScopes}
 use Rattle.cut_net.specs.declared.priced.Priced.{Priced}
 use Rattle.cut_net.specs.Cuts.{have_equal_ends}
 use Rattle.texts.specs.Fields.{is_name}

@@ -1,4 +1,4 @@
--- Files that are read one after another, and in pieces.
+-- Files that are read one after another, and in chunks.
 use Rattle.std.proofs.Common.{◌≡◌, ℕ, zero, suc, ◌+◌, ◌*◌, ◌<◌, ◌≤◌, List, [], ◌∷◌, ◌++◌, length, get_or, take, drop, refl, sym, ap, ◌∙◌, subst, append_assoc, arith}
 use Rattle.std.specs.Prelude.{Result, Ok, Err, Vec}
 use Rattle.std.specs.Fork.{slice_chunk}
@@ -6,7 +6,7 @@ use Rattle.std.specs.declared.alloc.Global.{Global}
 use Rattle.std.proofs.Math.Nat.{suc-mul, zero-mul}
 use Rattle.std.proofs.Math.Seq.{drop-cons, drop-nil}
 use Rattle.std.proofs.lemmas.List.{append-nil, length-drop, nil_from_length, take-append-drop}
-use Rattle.source_tree.specs.Files.{AreAllOf, AreOfPieces, HasValue, IsFaultOfFiles, IsReading}
+use Rattle.source_tree.specs.Files.{AreAllOf, AreOfChunks, HasValue, IsFaultOfFiles, IsReading}
 use Rattle.source_tree.specs.Trees.{AreAccepted, IsAccepted, IsFileFault, IsFirstFault, IsTreeFault, ModuleFile}
 use Rattle.source_tree.specs.declared.source.Source.{Source}
 use Rattle.source_tree.specs.declared.tree_fault.TreeFault.{TreeFault}
@@ -21,7 +21,7 @@ accepted_joined xs ys fs gs p q = record {
   each = each_joined IsAccepted xs ys fs gs p.as_many p.each q.each;
 }
 
--- a fault of files is one of their tree
+-- an error of one of the files is the error of the tree
 pub of_tree : (sources : List Source) (fault : TreeFault) → IsFaultOfFiles sources fault → IsTreeFault sources fault
 of_tree sources (faults.Scan path at fault) h = h
 of_tree sources (faults.Parse path at fault) h = h
@@ -29,7 +29,7 @@ of_tree sources (faults.Scope path at fault) h = h
 of_tree sources (faults.Graph fault) h = absurd h
 of_tree sources faults.Memory h = tt
 
--- the fault of a file, where those before it are accepted
+-- the error of a file, where those before it are accepted
 fault_behind : (front rest : List Source) (files : List ModuleFile) (source : Source) (fault : TreeFault) → AreAccepted front files → IsFileFault source fault → IsFaultOfFiles (front ++ source ∷ rest) fault
 fault_behind front rest files source (faults.Scan path at fault) accepted h =
     record { before = front; source = source; after = rest; split = refl; files_before = files; accepted_before = accepted; has_fault = h }
@@ -40,7 +40,7 @@ fault_behind front rest files source (faults.Scope path at fault) accepted h =
 fault_behind front rest files source (faults.Graph fault) accepted h = absurd h
 fault_behind front rest files source faults.Memory accepted h = tt
 
--- the first fault of a piece, where the files before it are accepted
+-- the first error of a chunk, where the files before it are accepted
 later_first : (front piece rest : List Source) (files : List ModuleFile) (fault : TreeFault) → AreAccepted front files → IsFirstFault piece fault → IsFirstFault (front ++ (piece ++ rest)) fault
 later_first front piece rest files fault accepted h = record {
   before = front ++ h.before;
@@ -60,7 +60,7 @@ later_fault front piece rest files (faults.Scope path at fault) accepted h = lat
 later_fault front piece rest files (faults.Graph fault) accepted h = absurd h
 later_fault front piece rest files faults.Memory accepted h = tt
 
--- the first file with a fault
+-- the first file with an error
 pub first_fault : (sources : List Source) (i : ℕ) (source : Source) (files : List ModuleFile) (fault : TreeFault) → i < length sources → source ≡ get_or sources i source →
     AreAccepted (take i sources) files → IsFileFault source fault → IsFaultOfFiles sources fault
 first_fault sources i source files fault l is accepted h =
@@ -69,7 +69,7 @@ first_fault sources i source files fault l is accepted h =
     ∙ ap (λ (s : Source). take i sources ++ s ∷ drop (suc i) sources) (sym is) in
     subst (λ (xs : List Source). IsFaultOfFiles xs fault) (sym split) (fault_behind (take i sources) (drop (suc i) sources) files source fault accepted h)
 
--- ---- pieces
+-- ---- chunks
 
 drop_twice : (a b : ℕ) (xs : List Source) → drop b (drop a xs) ≡ drop (a + b) xs
 drop_twice zero b xs = ap (λ (n : ℕ). drop n xs) (omega arith)
@@ -78,9 +78,9 @@ drop_twice (suc a) b (x ∷ xs) =
     let more : suc (a + b) ≡ suc a + b = omega arith in
     drop_twice a b xs ∙ ap (λ (n : ℕ). drop n (x ∷ xs)) more
 
--- chunks of one size are pieces
+-- chunks of one size are consecutive parts of the list
 pub chunks_are_pieces : {A : Type 0} (IsOf : List Source → A → Type 0) (size : ℕ) (answers : List A) (sources : List Source) → length sources ≤ length answers * size →
-    ((n : ℕ) (d : A) → n < length answers → IsOf (slice_chunk sources size n) (get_or answers n d)) → AreOfPieces IsOf sources answers
+    ((n : ℕ) (d : A) → n < length answers → IsOf (slice_chunk sources size n) (get_or answers n d)) → AreOfChunks IsOf sources answers
 chunks_are_pieces IsOf size [] sources l each = nil_from_length sources (let none = zero-mul size in omega arith)
 chunks_are_pieces IsOf size (answer ∷ answers) sources l each =
     let first : slice_chunk sources size 0 ≡ take size sources = ap (λ (n : ℕ). take size (drop n sources)) (zero-mul size) in
@@ -97,7 +97,7 @@ chunks_are_pieces IsOf size (answer ∷ answers) sources l each =
     )
 
 module _ {K : Type 0} (is_of : ModuleFile → K → Type 0) where
-  -- ---- what is kept of files
+  ---- the values that are computed from files
 
   pub all_none : AreAllOf is_of [] [] []
   all_none = record {
@@ -133,18 +133,18 @@ module _ {K : Type 0} (is_of : ModuleFile → K → Type 0) where
         (all_joined (take i sources) (source ∷ []) files (file ∷ []) all (kept ∷ []) before (all_one source file kept accepted of)),
   )
 
-  -- ---- pieces
+  -- ---- chunks
 
-  -- the files before a piece have been read, and the rest is there
+  -- the files before a chunk have been read, and the rest is there
   pub record AreReadBefore (sources : List Source) (all : List K) (answers : List (Result (Vec K Global) TreeFault)) : Type 0 where
     pub front : List Source
     pub rest : List Source
     pub whole : sources ≡ front ++ rest
     pub files : List ModuleFile
     pub are : AreAllOf is_of front files all
-    pub pieces : AreOfPieces (IsReading is_of) rest answers
+    pub pieces : AreOfChunks (IsReading is_of) rest answers
 
-  pub before_pieces : (sources : List Source) (answers : List (Result (Vec K Global) TreeFault)) → AreOfPieces (IsReading is_of) sources answers → AreReadBefore sources [] answers
+  pub before_pieces : (sources : List Source) (answers : List (Result (Vec K Global) TreeFault)) → AreOfChunks (IsReading is_of) sources answers → AreReadBefore sources [] answers
   before_pieces sources answers pieces = record { front = []; rest = sources; whole = refl; files = []; are = all_none; pieces = pieces }
 
   pub next_piece : (sources : List Source) (all : List K) (more : Vec K Global) (answers : List (Result (Vec K Global) TreeFault)) → AreReadBefore sources all (Ok more ∷ answers) →

@@ -1,4 +1,4 @@
--- Accepted files say one thing: however their tokens and trees are found, what these say is the same.
+-- Accepted files are determined by their bytes: all tokens and trees that they have give equal tables.
 use Rattle.std.proofs.Common.{◌≡◌, ℕ, List, length, map, Some, sym, ap, ap₂, ◌∙◌, subst, arith}
 use Rattle.std.specs.Prelude.{Contains, slice_get}
 use Rattle.std.proofs.lemmas.Option.{slice_get_within}
@@ -10,9 +10,9 @@ use Rattle.ob_scan.specs.Texts.{text_at}
 use Rattle.ob_tree.specs.declared.declaration.Module.{Module}
 use Rattle.ob_tree.specs.Declaring.{module_events}
 use Rattle.ob_tree.specs.Derives.{Derives}
-use Rattle.ob_parse.specs.Parsed.{kinds_of}
-use Rattle.ob_parse.proofs.OneTree.{trees_same}
-use Rattle.ob_scope.specs.Counted.{HasWeight}
+use Rattle.ob_grammar.specs.Parsed.{kinds_of}
+use Rattle.ob_grammar.proofs.OneTree.{trees_same}
+use Rattle.scopes.specs.QualifiedUses.{HasWeight}
 use Rattle.table_rules.proofs.ReadingModules.{tables_same}
 use Rattle.table_rules.specs.Declaring.{rows_of}
 use Rattle.module_table.specs.Parts.{Rows}
@@ -22,7 +22,7 @@ use Rattle.source_tree.specs.declared.source.Source.{Source}
 use Rattle.source_tree.proofs.TreeFiles.{same_maps, there}
 use Rattle.source_tree.proofs.TreeNet.{member_at, index_or_len}
 
--- what two trees of one text's tokens declare and look up
+-- two trees of the tokens of one text declare and use the same
 pub one_rows : (bytes : List ℕ) (ts us : List Token) (m n : Module) → Spells bytes ts → Spells bytes us → Derives (kinds_of ts) m → Derives (kinds_of us) n → rows_of m ≡ rows_of n
 one_rows bytes ts us m n a b of_m of_n =
     let tokens : ts ≡ us = spelled_once bytes ts us a b in
@@ -62,7 +62,7 @@ module _ (sources : List Source) (files others : List ModuleFile) (a : AreAccept
       let (s, at) = there sources i (omega arith) in
       alike s file other (a.each i s file at at_file) (b.each i s other at at_other)
 
-  -- what the graph is told of them
+  -- the entries for the import graph are equal
   pub same_files : files_of files ≡ files_of others
   same_files =
       let many : length files ≡ length others = a.as_many ∙ sym b.as_many in

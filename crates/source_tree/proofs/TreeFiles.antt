@@ -8,21 +8,21 @@ use Rattle.std.proofs.lemmas.Option.{get_or_from_slice_get, slice_get-get_or, sl
 use Rattle.ob_imports.specs.declared.parsed.Parsed.{Parsed}
 use Rattle.ob_imports.specs.Files.{File, file_of as parsed_file, files_of as parsed_files}
 use Rattle.ob_imports.specs.Names.{texts}
-use Rattle.ob_scope.specs.declared.module_scopes.Alias.{Alias}
-use Rattle.ob_scope.specs.Kept.{alias_of}
+use Rattle.scopes.specs.declared.module_scopes.Alias.{Alias}
+use Rattle.scopes.specs.ScopesInvariant.{alias_of}
 use Rattle.module_table.specs.declared.rows.Import.{Import}
-use Rattle.ob_scope.specs.Scoped.{AliasUses, ModuleScopes}
+use Rattle.scopes.specs.Scoped.{AliasUses, ModuleScopes}
 use Rattle.source_tree.specs.Trees.{file_of, files_of, rows, names, IsAccepted, ModuleFile}
 use Rattle.source_tree.specs.TreeReading.{AreFilesRead, AreScopesOf}
 use Rattle.source_tree.specs.declared.source.Source.{Source}
 
 -- ---- two lists of one length
 
--- what holds of the elements at each place
+-- a property of the elements at each index
 abbrev pub Each : {X Y : Type 0} → (X → Y → Type 0) → List X → List Y → Type 0
 Each {X} {Y} P xs ys = (i : ℕ) (x : X) (y : Y) → slice_get xs i ≡ Some x → slice_get ys i ≡ Some y → P x y
 
--- and so of two such pairs of lists, one behind the other
+-- and the same for two pairs of lists, one after the other
 pub each_joined : {X Y : Type 0} (P : X → Y → Type 0) (xs us : List X) (ys vs : List Y) → length ys ≡ length xs → Each P xs ys → Each P us vs → Each P (xs ++ us) (ys ++ vs)
 each_joined P [] us [] vs e p q i a b at_a at_b = q i a b at_a at_b
 each_joined P [] us (y ∷ ys) vs e p q i a b at_a at_b = absurd (omega arith)
@@ -54,9 +54,9 @@ take_at {X} xs i x e =
 pub at_item : {X : Type 0} (xs : List X) (i : ℕ) (x : X) → i < length xs → x ≡ get_or xs i x → slice_get xs i ≡ Some x
 at_item xs i x l e = slice_get-get_or xs i x l ∙ ap Some (sym e)
 
--- ---- what the graph is made of
+---- the input of the import graph
 
--- what is said of a file for the graph
+-- the entry of a file for the import graph
 pub same_file : (source : Source) (file : ModuleFile) (s : ModuleScopes) (p : Parsed) → string_bytes p.path ≡ string_bytes source.path → string_bytes p.name ≡ s.name →
     texts p.imports.items ≡ map (λ (a : AliasUses). a.imported) s.aliases → IsAccepted source file → AreScopesOf file s → parsed_file p ≡ file_of file
 same_file source file s p path name imports accepted scoped = λ k. record { path = same_path k; name = same_name k; imports = same_imports k }
@@ -83,7 +83,7 @@ alias_next rows aliases i row ns n all l is name so_far =
     ∙ sym (map-append (λ (a : AliasUses). a.imported) (take i aliases) (alias_of row ∷ []))
     ∙ ap (map (λ (a : AliasUses). a.imported)) (sym (take_at aliases i (alias_of row) at))
 
--- one more file that is told
+-- one more file for the import graph
 pub parsed_next : (sources : List Source) (ss : List ModuleScopes) (files : List ModuleFile) (ps : List Parsed) (p : Parsed) (i : ℕ) (source : Source) (s : ModuleScopes) →
     AreFilesRead sources files ss → i < length sources → slice_get sources i ≡ Some source → slice_get ss i ≡ Some s →
     ((file : ModuleFile) → IsAccepted source file → AreScopesOf file s → parsed_file p ≡ file_of file) →
@@ -96,7 +96,7 @@ parsed_next sources ss files ps p i source s read l at_source at_scopes message 
     map-append parsed_file ps (p ∷ []) ∙ ap (λ (fs : List File). fs ++ parsed_file p ∷ []) so_far
     ∙ ap (λ (f : File). take i (files_of files) ++ f ∷ []) is ∙ sym (take_at (files_of files) i (file_of file) at)
 
--- all files are told
+-- all files for the import graph
 pub parsed_all : (sources : List Source) (ss : List ModuleScopes) (files : List ModuleFile) (ps : List Parsed) (i : ℕ) → AreFilesRead sources files ss → i ≡ length sources →
     parsed_files ps ≡ take i (files_of files) → parsed_files ps ≡ files_of files
 parsed_all sources ss files ps i read end so_far =

@@ -24,11 +24,11 @@ use Rattle.digraph.proofs.Members.{from_map, in_map}
 use Rattle.ob_imports.proofs.Nodes.{nodes_known}
 use Rattle.ob_scan.specs.declared.token.Token.{Token}
 use Rattle.ob_scan.specs.Texts.{text_at}
-use Rattle.ob_scope.specs.Counted.{HasWeight}
+use Rattle.scopes.specs.QualifiedUses.{HasWeight}
 use Rattle.module_table.specs.Parts.{Rows}
 use Rattle.module_table.specs.declared.rows.Import.{Import as Item}
-use Rattle.ob_scope.specs.Scoped.{AreScopes, ModuleScopes}
-use Rattle.ob_scope.specs.Weights.{uses_of_import}
+use Rattle.scopes.specs.Scoped.{AreScopes, ModuleScopes}
+use Rattle.scopes.specs.Weights.{uses_of_import}
 use Rattle.ob_scope.proofs.Names.{same_test}
 use Rattle.source_tree.specs.Trees.{file_of, files_of, rows, names, HasImport, IsNetOfTree, ModuleFile}
 use Rattle.source_tree.specs.TreeReading.{AreFilesRead}
@@ -44,7 +44,7 @@ WeightOfAliases = (bytes : List ℕ) (ts : List Token) (r : Rows) (s : ModuleSco
 abbrev pub OneWeight : Type 0
 OneWeight = (name : ℕ → List ℕ) (r : Rows) (imported : List ℕ) (n m : ℕ) → HasWeight name r imported n → HasWeight name r imported m → n ≡ m
 
--- ---- members by their places
+-- ---- members by their indices
 
 pub member_at : {X : Type 0} (xs : List X) (i : ℕ) (x : X) → slice_get xs i ≡ Some x → Contains xs x
 member_at xs i x e = (i, slice_get_within xs i x e, get_or_from_slice_get xs i x x e)
@@ -65,7 +65,7 @@ at_map f (z ∷ xs) (suc i) x e = at_map f xs i x e
 pub same_at : {X : Type 0} (xs : List X) (i : ℕ) (x y : X) → slice_get xs i ≡ Some x → slice_get xs i ≡ Some y → x ≡ y
 same_at xs i x y p q = let s : Some x ≡ Some y = sym p ∙ q in cc
 
--- files whose modules differ in name are told by the name
+-- files with distinct module names are determined by the name
 one_file : (fs : List File) (f h : File) → DifferInName fs → Contains fs f → Contains fs h → f.name ≡ h.name → f ≡ h
 one_file fs f h differ (i, li, is_f) (j, lj, is_h) e = elim (cases_lt i j) [
   | inl less ↦ absurd (twice i j f h less lj is_f is_h e)
@@ -101,7 +101,7 @@ module _ (sources : List Source) (files : List ModuleFile) (g : ImportGraph) (ke
   name_there v file at = subst (λ (ns : List (List ℕ)). slice_get ns v ≡ Some (names file 1)) (sym kept.is_graph.nodes.whole)
       (at_left (names_of (files_of files)) kept.is_graph.nodes.others v (names file 1) (at_map (λ (f : File). f.name) (files_of files) v (file_of file) (at_map file_of files v file at)))
 
-  -- all names are names
+  -- all module names are valid names
   module _ (ss : List ModuleScopes) (read : AreFilesRead sources files ss) where
     named_file : (file : ModuleFile) → Contains files file → (is_name (names file 1) ≡ true) × ((i : Item) → Contains (rows file).imports i → is_name (names file i.imported) ≡ true)
     named_file file has =
@@ -187,7 +187,7 @@ module _ (sources : List Source) (files : List ModuleFile) (g : ImportGraph) (ke
           let line : graph_import g ss (record { from = v; to = u }) ≡ Import m n w = λ k. Import (from k) (to k) (amount k) in
           subst (Contains (graph_lines g ss)) line (Contains-append_right (map Module g.names) (map (graph_import g ss) g.pairs) (graph_import g ss (record { from = v; to = u })) (in_map (graph_import g ss) g.pairs (record { from = v; to = u }) has))
 
-      -- what a line mentions is a node
+      -- a module that a line mentions is a node
       mentioned : (n : List ℕ) → AreMentioning (graph_lines g ss) n → Contains g.names n
       mentioned n (line, has, mentions) = elim (Contains-append_cases (map Module g.names) (map (graph_import g ss) g.pairs) line has) [
         | inl named ↦

@@ -1,4 +1,4 @@
--- Where the faults of a file stand in its text.
+-- The offsets of the errors of a file.
 use Rattle.std.proofs.Common.{◌≡◌, ℕ, ◌<◌, ◌≤◌, Bool, List, [], ◌∷◌, length, drop, true, length-drop, arith}
 use Rattle.std.proofs.lemmas.Bool.{false≢true}
 use Rattle.ob_scan.specs.Comments.{begins_comment}
@@ -8,10 +8,10 @@ use Rattle.ob_scan.proofs.InText.{found_in_text, start_in_text}
 use Rattle.ob_scan.specs.declared.fault.ScanFault.{ScanFault}
 use Rattle.ob_scan.specs.declared.fault.ScanFault.TheVariants as scans
 use Rattle.ob_scan.specs.declared.token.Token.{Token}
-use Rattle.ob_parse.proofs.OneFault.{syntax_place}
-use Rattle.ob_parse.proofs.OneTree.{place_in_text}
-use Rattle.ob_parse.specs.declared.fault.ParseFault.{ParseFault}
-use Rattle.ob_parse.specs.declared.fault.ParseFault.TheVariants as parses
+use Rattle.ob_grammar.proofs.OneFault.{syntax_place}
+use Rattle.ob_grammar.proofs.OneTree.{place_in_text}
+use Rattle.ob_grammar.specs.declared.fault.ParseFault.{ParseFault}
+use Rattle.ob_grammar.specs.declared.fault.ParseFault.TheVariants as parses
 use Rattle.ob_scope.specs.declared.fault.ScopeFault.{ScopeFault}
 use Rattle.ob_scope.specs.declared.fault.ScopeFault.TheVariants as scopes
 use Rattle.source_tree.specs.Trees.{parse_offset, scan_offset, scope_offset, HasParseFault, HasScanFault, HasScopeFault}
@@ -24,7 +24,7 @@ comment_there : (bs : List ℕ) → begins_comment bs ≡ true → 0 < length bs
 comment_there [] e = absurd (false≢true e)
 comment_there (b ∷ bs) e = omega arith
 
--- a place where something stands
+-- an offset at which a token begins
 before_end : (bytes : List ℕ) (at : ℕ) → 0 < length (drop at bytes) → at ≤ length bytes
 before_end bytes at some = let long = length-drop at bytes in omega arith
 
@@ -36,7 +36,7 @@ scan_in_text bytes (scans.OpenComment at) h = before_end bytes at (comment_there
 scan_in_text bytes scans.TooLong h = omega arith
 scan_in_text bytes scans.Memory h = omega arith
 
--- the tokens of a text stand in it
+-- the tokens of a text are in the bounds of the text
 abbrev pub StandIn : Type 0
 StandIn = (bytes : List ℕ) (ts : List Token) → Spells bytes ts → AreInText bytes ts
 

@@ -6,7 +6,7 @@ use Rattle.ob_scan.specs.Position.{IsPosition}
 use Rattle.ob_scan.specs.Texts.{token_at}
 use Rattle.ob_scope.specs.declared.crossing_uses.Crossing.{Crossing}
 use Rattle.ob_scope.specs.Crossings.{AreCrossings}
-use Rattle.ob_scope.specs.Scoped.{ModuleScopes}
+use Rattle.scopes.specs.Scoped.{ModuleScopes}
 use Rattle.ob_imports.specs.Files.{IsNode, names_of}
 use Rattle.source_tree.specs.Trees.{files_of, names, rows, IsAccepted, IsTree, ModuleFile}
 use Rattle.source_tree.specs.TreeReading.{AreScopesOf}
@@ -65,7 +65,7 @@ AreImportUses sources m n NoImported = IsNoNode sources m n
 
 -- ---- one file
 
--- the file's path, and the ranges in it at which its module uses one of this name
+-- the file's path, and the ranges in it at which its module uses the module of this name
 abbrev pub AreUsesInFile : Source → ModuleScopes → List ℕ → ImportUses → Type 0
 AreUsesInFile source s n (Places path spans) =
     (string_bytes path ≡ string_bytes source.path) × ((file : ModuleFile) → IsAccepted source file → AreScopesOf file s → AreUseSpans file n spans.items)

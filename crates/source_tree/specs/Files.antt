@@ -30,7 +30,7 @@ IsReading is_of sources (Ok all) = (files : List ModuleFile) × AreAllOf is_of s
 IsReading is_of sources (Err fault) = IsFaultOfFiles sources fault
 
 -- the results of consecutive chunks that together are the files
-abbrev pub AreOfPieces : {A : Type 0} → (List Source → A → Type 0) → List Source → List A → Type 0
-AreOfPieces IsOf sources [] = sources ≡ []
-AreOfPieces IsOf sources (answer ∷ answers) =
-    (piece : List Source) × (rest : List Source) × (sources ≡ piece ++ rest) × IsOf piece answer × AreOfPieces IsOf rest answers
+abbrev pub AreOfChunks : {A : Type 0} → (List Source → A → Type 0) → List Source → List A → Type 0
+AreOfChunks IsOf sources [] = sources ≡ []
+AreOfChunks IsOf sources (answer ∷ answers) =
+    (piece : List Source) × (rest : List Source) × (sources ≡ piece ++ rest) × IsOf piece answer × AreOfChunks IsOf rest answers

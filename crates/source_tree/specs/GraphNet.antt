@@ -7,8 +7,8 @@ use Rattle.std.specs.Str.{bytes_eq}
 use Rattle.indexmap.specs.IndexMap.{IndexMap, get_by}
 use Rattle.digraph.specs.declared.edge.Edge.{Edge}
 use Rattle.ob_imports.specs.Graphs.{ImportGraph, name_of}
-use Rattle.ob_scope.specs.Scoped.{ModuleScopes}
-use Rattle.ob_scope.specs.Weights.{uses_of_import}
+use Rattle.scopes.specs.Scoped.{ModuleScopes}
+use Rattle.scopes.specs.Weights.{uses_of_import}
 use Rattle.cut_net.specs.declared.priced.Priced.{Priced}
 use Rattle.cut_net.specs.NetText.{NetLine, Module, Import}
 

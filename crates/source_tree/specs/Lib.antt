@@ -6,6 +6,5 @@ pub mod TreeReading
 pub mod TreeFaults
 pub mod Crossings
 pub mod Parts
-pub mod Readings
-pub mod OwnFaults
+pub mod FileFaults
 pub mod Located

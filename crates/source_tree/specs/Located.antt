@@ -8,7 +8,7 @@ use Rattle.ob_scan.specs.Position.{IsPosition}
 use Rattle.ob_scan.specs.Texts.{token_at}
 use Rattle.ob_scan.specs.declared.place.Position.{Position}
 use Rattle.ob_scan.specs.declared.token.Token.{Token}
-use Rattle.ob_scope.specs.Scoped.{AliasUses, ModuleScopes}
+use Rattle.scopes.specs.Scoped.{AliasUses, ModuleScopes}
 use Rattle.source_tree.specs.Files.{AreAllOf, HasValue}
 use Rattle.source_tree.specs.TreeReading.{AreScopesOf}
 use Rattle.source_tree.specs.Trees.{ModuleFile, names, rows, AreAccepted}
@@ -33,7 +33,7 @@ pub record IsImportPosition (file : ModuleFile) (n : List ℕ) (at : Position) :
   pub first : (before : ℕ) (other : Import) → before < index → slice_get (rows file).imports before ≡ Some other → names file other.imported ≡ n → ⊥
   pub position : IsPosition file.bytes (token_at file.tokens item.imported).start at.line at.column
 
--- the files are accepted, and each import of the network has the index of the importer's file and its position there
+-- the files are accepted, and each import of the network has the index of the importer's file and the import's position in that file
 pub record AreSitesOf (sources : List Source) (net : Network) (sites : List ImportSite) : Type 0 where
   pub files : List ModuleFile
   pub accepted : AreAccepted sources files
@@ -81,7 +81,7 @@ pub record IsFirstFrom (low : ℕ) (aliases : List AliasUses) (items : List Posi
 abbrev pub IsNoneFrom : ℕ → List AliasUses → List ℕ → Type 0
 IsNoneFrom low aliases n = (j : ℕ) (alias : AliasUses) → low ≤ j → slice_get aliases j ≡ Some alias → alias.imported ≡ n → ⊥
 
--- the location is in this file, and an import item from this index on names the import
+-- the location is in this file, at the first import item from this index on that names the import
 abbrev pub IsSiteFrom : ℕ → Network → ℕ → ModuleScopes → List Position → Priced → ImportSite → Type 0
 IsSiteFrom low net f s items i site = (site.file ≡ f) × (name_of net i.from ≡ s.name) × IsFirstFrom low s.aliases items (name_of net i.to) site.position
 
@@ -93,7 +93,7 @@ IsNotFrom low net s i = name_of net i.from ≡ s.name → IsNoneFrom low s.alias
 abbrev pub IsSetFrom : ℕ → Network → ℕ → ModuleScopes → List Position → Priced → ImportSite → ImportSite → Type 0
 IsSetFrom low net f s items i old new = IsSiteFrom low net f s items i new ⊎ ((new ≡ old) × IsNotFrom low net s i)
 
--- one of the files gives the import's location, or none of the first files names the import
+-- one of the files gives the import's location, or none of the first `count` files names the import
 abbrev pub HasSite : Network → List ModuleScopes → List (Vec Position Global) → ℕ → Priced → ImportSite → Type 0
 HasSite net ss items count i site =
     ((s : ModuleScopes) × (v : Vec Position Global) × (slice_get ss site.file ≡ Some s) × (slice_get items site.file ≡ Some v) × IsSiteFrom 0 net site.file s v.items i site)

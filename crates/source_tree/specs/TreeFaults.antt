@@ -2,13 +2,13 @@
 use Rattle.std.specs.Prelude.{ℕ, Bool, true, false, List, ◌∷◌, ◌++◌, codes}
 use Rattle.std.specs.List.{flat_map}
 use Rattle.std.specs.String.{string_bytes}
-use Rattle.text_escape.specs.Places.{position_text, Style}
+use Rattle.texts.specs.Places.{position_text, Style}
 use Rattle.cut_net.specs.Network.{texts}
 use Rattle.ob_scan.specs.declared.fault.ScanFault.{ScanFault}
 use Rattle.ob_scan.specs.declared.fault.ScanFault.TheVariants as scan
 use Rattle.ob_scan.specs.declared.place.Position.{Position}
-use Rattle.ob_parse.specs.declared.fault.ParseFault.{ParseFault}
-use Rattle.ob_parse.specs.declared.fault.ParseFault.TheVariants as parse
+use Rattle.ob_grammar.specs.declared.fault.ParseFault.{ParseFault}
+use Rattle.ob_grammar.specs.declared.fault.ParseFault.TheVariants as parse
 use Rattle.ob_scope.specs.declared.fault.ScopeFault.{ScopeFault}
 use Rattle.ob_scope.specs.declared.fault.ScopeFault.TheVariants as scope
 use Rattle.ob_imports.specs.declared.fault.GraphFault.{GraphFault}

@@ -5,15 +5,15 @@ use Rattle.ob_imports.specs.declared.fault.GraphFault.TheVariants as graphs
 use Rattle.digraph.specs.Chains.{IsAcyclic}
 use Rattle.ob_imports.specs.Files.{Imports}
 use Rattle.ob_imports.specs.Outcomes.{AreFilesOfGraph}
-use Rattle.ob_scope.specs.Scoped.{AreScopes, ModuleScopes}
+use Rattle.scopes.specs.Scoped.{AreScopes, ModuleScopes}
 use Rattle.source_tree.specs.Files.{AreAllOf, HasValue}
 use Rattle.source_tree.specs.Trees.{ModuleFile, files_of, rows}
 use Rattle.source_tree.specs.declared.source.Source.{Source}
 use Rattle.source_tree.specs.declared.tree_fault.TreeFault.{TreeFault}
 use Rattle.source_tree.specs.declared.tree_fault.TreeFault.TheVariants.{Graph, Memory}
-use Rattle.source_tree.specs.declared.tree_reading.Tree.{Tree}
+use Rattle.source_tree.specs.declared.tree_reading.ScopedTree.{ScopedTree}
 
--- the error of the graph as one of the tree; a failed allocation is always `Memory`
+-- the error of the graph as an error of the tree; a failed allocation is always `Memory`
 abbrev pub of_graph : GraphFault → TreeFault
 of_graph (graphs.TwoModules name first second) = Graph (graphs.TwoModules name first second)
 of_graph (graphs.Cycle names) = Graph (graphs.Cycle names)
@@ -33,7 +33,7 @@ abbrev pub AreFilesRead : List Source → List ModuleFile → List ModuleScopes 
 AreFilesRead sources files ss = AreAllOf AreScopesOf sources files ss
 
 -- the graph is that of the files, and each has its scopes
-pub record IsTreeOf (sources : List Source) (tree : Tree) : Type 0 where
+pub record IsTreeOf (sources : List Source) (tree : ScopedTree) : Type 0 where
   pub files : List ModuleFile
   pub read : AreFilesRead sources files tree.scopes.items
   pub kept : AreFilesOfGraph (files_of files) tree.graph

@@ -10,17 +10,17 @@ use Rattle.ob_scan.specs.Position.{IsPosition}
 use Rattle.ob_scan.specs.Spelling.{IsOutcome}
 use Rattle.ob_scan.specs.Texts.{text_at}
 use Rattle.ob_tree.specs.declared.declaration.Module.{Module}
-use Rattle.ob_parse.specs.declared.fault.ParseFault.{ParseFault}
-use Rattle.ob_parse.specs.declared.fault.ParseFault.TheVariants as parses
-use Rattle.ob_parse.specs.Parsed.{IsTheTree, IsFaultOf}
+use Rattle.ob_grammar.specs.declared.fault.ParseFault.{ParseFault}
+use Rattle.ob_grammar.specs.declared.fault.ParseFault.TheVariants as parses
+use Rattle.ob_grammar.specs.Parsed.{IsTheTree, IsFaultOf}
 use Rattle.table_rules.specs.Declaring.{rows_of}
 use Rattle.module_table.specs.Parts.{Rows}
 use Rattle.ob_scope.specs.declared.fault.ScopeFault.{ScopeFault}
 use Rattle.ob_scope.specs.declared.fault.ScopeFault.TheVariants as scopes
-use Rattle.ob_scope.specs.Counted.{HasWeight}
-use Rattle.ob_scope.specs.Members.{members_of}
-use Rattle.ob_scope.specs.Scope.{HasNoDuplicates}
-use Rattle.ob_scope.specs.Scoped.{IsScopeFault}
+use Rattle.scopes.specs.QualifiedUses.{HasWeight}
+use Rattle.scopes.specs.Members.{members_of}
+use Rattle.scopes.specs.Scope.{HasNoDuplicates}
+use Rattle.ob_scope.specs.Faults.{IsScopeFault}
 use Rattle.ob_imports.specs.declared.fault.GraphFault.{GraphFault}
 use Rattle.digraph.specs.Chains.{IsAcyclic}
 use Rattle.ob_imports.specs.Files.{File, Imports, IsNode}

@@ -8,14 +8,14 @@ ghost use Rattle.ob_scan.specs.Spelling.{AreInText, IsOutcome};
 ghost use Rattle.ob_scan.specs.declared.token.Token.{Token};
 ghost use Rattle.ob_scan.specs.Texts.{text_at};
 ghost use Rattle.ob_scope.specs.Crossings.{AreCrossings};
-ghost use Rattle.ob_scope.specs.Scoped.{AreScopes};
+ghost use Rattle.scopes.specs.Scoped.{AreScopes};
 ghost use Rattle.ob_scope.specs.declared.crossing_uses.Crossing.{Crossing};
 ghost use Rattle.source_tree.specs.Crossings.{AreSpans, AreUseSpans, AreImportUses, AreUsesInFile, IsSpan};
 ghost use Rattle.source_tree.specs.TreeReading.{AreScopesOf, IsTreeOf};
 ghost use Rattle.source_tree.specs.Trees.{files_of, names, IsAccepted, IsFileFault, IsTreeFault, ModuleFile};
 
 use crate::front_end::{scan_fault, table_from_tokens};
-use crate::tree_reading::{Tree, scoped_tree};
+use crate::tree_reading::{ScopedTree, scoped_tree};
 use crate::{Source, TreeFault};
 use module_table::Table;
 use ob_imports::Graph;
@@ -44,7 +44,7 @@ pub enum ImportUses {
 }
 
 /// The range of a qualified use.
-fn span_of(lines: &Lines, text: &TokenTexts, crossing: Crossing) -> Span
+fn use_span(lines: &Lines, text: &TokenTexts, crossing: Crossing) -> Span
     requires lined { lines.now ≡ line_starts text.now.bytes.now }
     requires in_text { AreInText text.now.bytes.now text.now.tokens.now }
     ensures { IsSpan text.now.bytes.now text.now.tokens.now crossing result }
@@ -56,7 +56,7 @@ fn span_of(lines: &Lines, text: &TokenTexts, crossing: Crossing) -> Span
 }
 
 /// The ranges of qualified uses, in their order.
-fn spans_of(
+fn use_spans(
     alloc: Global,
     bytes: &[u8],
     tokens: &[Token],
@@ -69,13 +69,13 @@ fn spans_of(
     let text = TokenTexts { bytes, tokens };
     let mut spans = Vec::new(alloc);
     for crossing in crossings {
-        spans.push(span_of(&lines, &text, *crossing))?;
+        spans.push(use_span(&lines, &text, *crossing))?;
     }
     Ok(spans)
 }
 
-/// The ranges of the qualified uses of a module of this name, given the table and the scopes of the importer.
-fn spans_by(
+/// The ranges of the qualified uses of the module named `imported`, given the table and the scopes of the importer.
+fn uses_in_table(
     alloc: Global,
     bytes: &[u8],
     tokens: &[Token],
@@ -89,10 +89,10 @@ fn spans_by(
         × AreSpans bytes.now tokens.now found v.items) }
 {
     let found = crossings(alloc, table, scopes, imported)?;
-    spans_of(alloc, bytes, tokens, found.as_slice())
+    use_spans(alloc, bytes, tokens, found.as_slice())
 }
 
-/// The ranges in a file, which has these tokens, at which its module uses one of this name.
+/// The ranges in a file at which its module uses the module named `imported`. `tokens` are the file's tokens.
 fn spans_of_tokens(
     alloc: Global,
     source: &Source,
@@ -107,12 +107,12 @@ fn spans_of_tokens(
     tokens_in_text();
     let table = table_from_tokens(alloc, source, tokens)?;
     let bytes = source.bytes.as_slice();
-    let spans = spans_by(alloc, bytes, tokens.as_slice(), &table, scopes, imported);
+    let spans = uses_in_table(alloc, bytes, tokens.as_slice(), &table, scopes, imported);
     drop(table);
     Ok(spans?)
 }
 
-/// The ranges in a file at which its module uses one of this name.
+/// The ranges in a file at which its module uses the module named `imported`.
 fn spans_of_file(
     alloc: Global,
     source: &Source,
@@ -128,7 +128,7 @@ fn spans_of_file(
     }
 }
 
-/// The path of a file, and the ranges in it at which its module uses one of this name.
+/// The path of a file, and the ranges in it at which its module uses the module named `imported`.
 fn uses_in_file(
     alloc: Global,
     source: &Source,
@@ -143,8 +143,8 @@ fn uses_in_file(
     Ok(ImportUses::Places { path, spans })
 }
 
-/// The number of the tree's module with this name; none without one.
-fn importer_of(graph: &Graph, name: &str) -> Option<u32>
+/// The number of the tree's module with this name; `None` if the tree has none.
+fn find_importer(graph: &Graph, name: &str) -> Option<u32>
     ensures found { IfSome result (λ v. (files : List ModuleFile) → AreFilesOfGraph (files_of files) graph.now → (file : ModuleFile) × (slice_get files v ≡ Some file) × (names file 1 ≡ name.now)) }
     ensures none { IfNone result ((files : List ModuleFile) → AreFilesOfGraph (files_of files) graph.now → Contains (names_of (files_of files)) name.now → ⊥) }
 {
@@ -157,9 +157,9 @@ fn importer_of(graph: &Graph, name: &str) -> Option<u32>
 }
 
 /// The ranges in the tree at which the first module uses the second.
-fn uses_in(
+fn uses_in_tree(
     alloc: Global,
-    tree: &Tree,
+    tree: &ScopedTree,
     sources: &[Source],
     from: &str,
     to: &str,
@@ -168,7 +168,7 @@ fn uses_in(
     ensures crossed { IfOk result (AreImportUses sources.now from.now to.now) }
     ensures fault { IfErr result (IsTreeFault sources.now) }
 {
-    let Some(importer) = importer_of(&tree.graph, from) else {
+    let Some(importer) = find_importer(&tree.graph, from) else {
         return Ok(ImportUses::NoImporter);
     };
     if tree.graph.node_of(to).is_none() {
@@ -178,9 +178,9 @@ fn uses_in(
     uses_in_file(alloc, &sources[importer], &tree.scopes[importer], to)
 }
 
-/// The ranges at which the module `from` uses the module `to`: of the qualified uses whose alias denotes it, in their order, each from
-/// the alias to the end of the name after the dot. Their number is the weight of the import. `from` must be a module of the tree, `to`
-/// one of the tree or an imported one; without an import there are no ranges. Reads the files as `net_of` does.
+/// The ranges at which the module `from` uses the module `to`: the qualified uses whose alias denotes `to`, in order, each from the alias
+/// to the end of the name after the dot. Their number is the weight of the import; without an import there are none. Returns `NoImporter`
+/// if `from` isn't a module of the tree, else `NoImported` if `to` is neither one nor imported. Reads the files as `net_of` does.
 pub fn uses_of_import<R: Threads + Sync>(
     rt: &R,
     alloc: Global,
@@ -195,5 +195,5 @@ pub fn uses_of_import<R: Threads + Sync>(
     ensures fault { IfErr result (IsTreeFault sources.now) }
 {
     let tree = scoped_tree(rt, alloc, sources, workers)?;
-    uses_in(alloc, &tree, sources, from, to)
+    uses_in_tree(alloc, &tree, sources, from, to)
 }

@@ -3,19 +3,19 @@ ghost use Rattle.std.specs.Prelude.{◌≡◌, IfOk};
 ghost use Rattle.std.specs.List.{flat_map};
 ghost use Rattle.std.specs.String.{string_bytes};
 ghost use Rattle.cut_net.specs.Network.{texts};
-ghost use Rattle.text_escape.specs.Places.{style_of};
+ghost use Rattle.texts.specs.Places.{style_of};
 ghost use Rattle.source_tree.specs.TreeFaults.{after_space, graph_fault_text, graph_out_of_memory, parse_fault_text, parse_out_of_memory, located_text, scan_fault_text, scan_out_of_memory, scope_fault_text, scope_out_of_memory, tree_fault_text, two_modules_text, is_out_of_memory};
 
 use crate::TreeFault;
+use ob_grammar::ParseFault;
 use ob_imports::GraphFault;
-use ob_parse::ParseFault;
 use ob_scan::{Position, ScanFault};
 use ob_scope::ScopeFault;
 use std::alloc::{AllocError, Global};
-use text_escape::LocationStyle;
+use texts::LocationStyle;
 
 /// The names, each after a space.
-pub fn after_spaces(alloc: Global, names: &[String]) -> Result<String, AllocError>
+pub fn join_after_spaces(alloc: Global, names: &[String]) -> Result<String, AllocError>
     // Each name follows a space.
     ensures { IfOk result (λ t. string_bytes t ≡ flat_map after_space (texts names.now)) }
 {
@@ -39,7 +39,7 @@ fn located_message(
 {
     let mut text = style.full_path(alloc, path)?;
     text.push(':')?;
-    style.push_position(&mut text, at.line, at.column)?;
+    style.append_position(&mut text, at.line, at.column)?;
     text.push_str(": ")?;
     text.push_str(message)?;
     Ok(text)
@@ -113,7 +113,7 @@ fn graph_fault_text(
             second_path.as_str(),
         ),
         GraphFault::Cycle { names } => {
-            let names = after_spaces(alloc, names.as_slice())?;
+            let names = join_after_spaces(alloc, names.as_slice())?;
             format!(in alloc; "Cycle{names}")
         }
         GraphFault::TooMany => String::from_str(alloc, "TooMany"),
@@ -190,7 +190,7 @@ fn graph_out_of_memory(fault: &GraphFault) -> bool
 
 /// Whether the error is a failed allocation, in whichever step; otherwise the tree is rejected.
 pub fn is_out_of_memory(fault: &TreeFault) -> bool
-    // It is whether the error is a failed allocation.
+    // True exactly for a failed allocation.
     ensures { result ≡ is_out_of_memory fault.now }
 {
     match fault {

@@ -1,15 +1,15 @@
 //! The errors of individual files, each file inspected regardless of the others.
 ghost use Rattle.std.specs.Prelude.{◌≡◌, ◌∷◌, ◌<◌, [], false, IfOk, List, Vec, length};
 ghost use Rattle.std.specs.declared.alloc.Global.{Global};
-ghost use Rattle.source_tree.specs.Files.{AreOfPieces};
-ghost use Rattle.source_tree.specs.OwnFaults.{accepted_in, faults_in, scopes_in, AnswersVerdicts, ArePartitionedFiles, AreTreeFaults, AreVerdicts, IsVerdict};
+ghost use Rattle.source_tree.specs.Files.{AreOfChunks};
+ghost use Rattle.source_tree.specs.FileFaults.{accepted_in, faults_in, scopes_in, ReadsVerdicts, ArePartitionedFiles, AreTreeFaults, AreVerdicts, IsVerdict};
 ghost use Rattle.source_tree.specs.Sources.{ArePathsInOrder};
 ghost use Rattle.source_tree.specs.TreeFaults.{is_out_of_memory};
 ghost use Rattle.source_tree.specs.TreeReading.{AreFilesRead};
 ghost use Rattle.source_tree.specs.Trees.{ModuleFile};
 
-use crate::files::{FromSource, size_of_chunks};
-use crate::tree_reading::all_parsed;
+use crate::files::{FromSource, chunk_size};
+use crate::tree_reading::all_graph_inputs;
 use crate::{Source, TreeFault, is_out_of_memory};
 use ob_imports::graph;
 use ob_scope::Scopes;
@@ -27,7 +27,7 @@ pub struct PartitionedFiles {
 /// The scopes of an accepted file, or the file's error.
 type Verdict = Result<Scopes, TreeFault>;
 
-fn verdict_of(alloc: Global, source: &Source) -> Result<Verdict, AllocError>
+fn read_verdict(alloc: Global, source: &Source) -> Result<Verdict, AllocError>
     ensures { IfOk result (IsVerdict source.now) }
 {
     match Scopes::from_source(alloc, source) {
@@ -42,25 +42,25 @@ fn verdict_of(alloc: Global, source: &Source) -> Result<Verdict, AllocError>
     }
 }
 
-fn verdicts_sequentially(alloc: Global, sources: &[Source]) -> Result<Vec<Verdict>, AllocError>
-    ensures { AnswersVerdicts sources.now result }
+fn read_verdicts_sequentially(alloc: Global, sources: &[Source]) -> Result<Vec<Verdict>, AllocError>
+    ensures { ReadsVerdicts sources.now result }
 {
     let mut all = Vec::new(alloc);
     for source in sources {
-        all.push(verdict_of(alloc, source)?)?;
+        all.push(read_verdict(alloc, source)?)?;
     }
     Ok(all)
 }
 
-/// The verdicts of each chunk of this many files, by as many threads as there are chunks.
-fn verdicts_in_chunks<R: Threads + Sync>(
+/// The verdicts of the files in chunks of `size` files, each chunk in a thread of its own if one can be started.
+fn read_verdicts_in_chunks<R: Threads + Sync>(
     rt: &R,
     alloc: Global,
     sources: &[Source],
     size: usize,
 ) -> Result<Vec<Result<Vec<Verdict>, AllocError>>, AllocError>
     requires { 0 < size }
-    ensures { IfOk result (λ answers. AreOfPieces AnswersVerdicts sources.now answers.items) }
+    ensures { IfOk result (λ answers. AreOfChunks ReadsVerdicts sources.now answers.items) }
 {
     let answers = thread::map_chunks(
         rt,
@@ -68,14 +68,14 @@ fn verdicts_in_chunks<R: Threads + Sync>(
         sources,
         size,
         &|_: usize, chunk: &[Source]| -> Result<Vec<Verdict>, AllocError>
-            ensures { AnswersVerdicts chunk.entry.now result }
-        { verdicts_sequentially(alloc, chunk) },
+            ensures { ReadsVerdicts chunk.entry.now result }
+        { read_verdicts_sequentially(alloc, chunk) },
     )?;
     Ok(answers)
 }
 
 /// The verdict of each file, read in at most as many chunks as workers.
-fn verdicts_of<R: Threads + Sync>(
+fn read_verdicts<R: Threads + Sync>(
     rt: &R,
     alloc: Global,
     sources: &[Source],
@@ -83,8 +83,8 @@ fn verdicts_of<R: Threads + Sync>(
 ) -> Result<Vec<Verdict>, AllocError>
     ensures { IfOk result (λ v. AreVerdicts sources.now v.items) }
 {
-    let size = size_of_chunks(sources.len(), workers);
-    let answers = verdicts_in_chunks(rt, alloc, sources, size)?;
+    let size = chunk_size(sources.len(), workers);
+    let answers = read_verdicts_in_chunks(rt, alloc, sources, size)?;
     let mut all = Vec::new(alloc);
     for answer in answers {
         let mut more = answer?;
@@ -115,8 +115,8 @@ fn split_verdicts(alloc: Global, verdicts: Vec<Verdict>) -> Result<Verdicts, All
     Ok(Verdicts { scopes, faults })
 }
 
-/// The files whose verdict is that they are accepted.
-fn accepted_by(
+/// The accepted files, by the verdicts of all files.
+fn select_accepted(
     alloc: Global,
     sources: Vec<Source>,
     verdicts: &[Verdict],
@@ -148,7 +148,7 @@ fn single_fault(alloc: Global, fault: TreeFault) -> Result<Vec<TreeFault>, Alloc
 }
 
 /// The error of the imports of accepted files, if there is one.
-fn faults_of_imports(
+fn import_faults(
     alloc: Global,
     sources: &[Source],
     scopes: &[Scopes],
@@ -156,28 +156,28 @@ fn faults_of_imports(
     requires { (files : List ModuleFile) × AreFilesRead sources.now files scopes.now }
     ensures { IfOk result (λ v. AreTreeFaults sources.now v.items) }
 {
-    let parsed = all_parsed(alloc, sources, scopes)?;
+    let parsed = all_graph_inputs(alloc, sources, scopes)?;
     match graph(alloc, parsed.as_slice()) {
         Ok(_) => Ok(Vec::new(alloc)),
         Err(fault) => single_fault(alloc, TreeFault::Graph(fault)),
     }
 }
 
-/// All errors of a tree: those of its files, in their order; if no file has one, that of the imports; none if the tree is accepted. Reads
-/// the files as `net_of` does.
-pub fn faults_of<R: Threads + Sync>(
+/// All errors of a tree: the errors of its files, in the order of the files; if no file has an error, the error of the imports; none if the
+/// tree is accepted. Reads the files as `net_of` does.
+pub fn tree_faults<R: Threads + Sync>(
     rt: &R,
     alloc: Global,
     sources: &[Source],
     workers: u32,
 ) -> Result<Vec<TreeFault>, AllocError>
-    // They are exactly the errors of the tree.
+    // The result has exactly the errors of the tree.
     ensures { IfOk result (λ v. AreTreeFaults sources.now v.items) }
 {
-    let verdicts = verdicts_of(rt, alloc, sources, workers)?;
+    let verdicts = read_verdicts(rt, alloc, sources, workers)?;
     let Verdicts { scopes, faults } = split_verdicts(alloc, verdicts)?;
     if faults.is_empty() {
-        faults_of_imports(alloc, sources, scopes.as_slice())
+        import_faults(alloc, sources, scopes.as_slice())
     } else {
         Ok(faults)
     }
@@ -190,13 +190,13 @@ pub fn partition_files<R: Threads + Sync>(
     sources: Vec<Source>,
     workers: u32,
 ) -> Result<PartitionedFiles, AllocError>
-    // It is the partition into accepted files and errors of the others.
+    // The result is the partition into the accepted files and the errors of the others.
     ensures parted { IfOk result (λ parted. ArePartitionedFiles sources.items parted.accepted.items parted.faults.items) }
     // The accepted files are sorted if all files are.
     ensures order { IfOk result (λ parted. ArePathsInOrder sources.items → ArePathsInOrder parted.accepted.items) }
 {
-    let verdicts = verdicts_of(rt, alloc, sources.as_slice(), workers)?;
-    let accepted = accepted_by(alloc, sources, verdicts.as_slice())?;
+    let verdicts = read_verdicts(rt, alloc, sources.as_slice(), workers)?;
+    let accepted = select_accepted(alloc, sources, verdicts.as_slice())?;
     let Verdicts { faults, .. } = split_verdicts(alloc, verdicts)?;
     Ok(PartitionedFiles { accepted, faults })
 }

@@ -1,6 +1,6 @@
 //! Reading of the files of a tree, in chunks by many threads.
 ghost use Rattle.std.specs.Prelude.{◌<◌, IfErr, IfOk, List};
-ghost use Rattle.source_tree.specs.Files.{AreAllOf, AreOfPieces, IsReading};
+ghost use Rattle.source_tree.specs.Files.{AreAllOf, AreOfChunks, IsReading};
 ghost use Rattle.source_tree.specs.Trees.{IsTreeFault, ModuleFile};
 
 use crate::{Source, TreeFault};
@@ -34,7 +34,7 @@ fn read_sequentially<K: FromSource>(alloc: Global, sources: &[Source]) -> Result
     Ok(all)
 }
 
-/// As `read_sequentially`, for each chunk of this many files, by as many threads as there are chunks.
+/// What `read_sequentially` returns for each chunk of `size` files, each chunk in a thread of its own if one can be started.
 fn read_chunks<K: FromSource + Send, R: Threads + Sync>(
     rt: &R,
     alloc: Global,
@@ -42,7 +42,7 @@ fn read_chunks<K: FromSource + Send, R: Threads + Sync>(
     size: usize,
 ) -> Result<Vec<Result<Vec<K>, TreeFault>>, AllocError>
     requires { 0 < size }
-    ensures { IfOk result (λ answers. AreOfPieces (IsReading K.is_of) sources.now answers.items) }
+    ensures { IfOk result (λ answers. AreOfChunks (IsReading K.is_of) sources.now answers.items) }
 {
     let answers = thread::map_chunks(
         rt,
@@ -57,14 +57,14 @@ fn read_chunks<K: FromSource + Send, R: Threads + Sync>(
 }
 
 /// The size of a chunk, for at most as many chunks as workers.
-pub(crate) fn size_of_chunks(files: usize, workers: u32) -> usize
+pub(crate) fn chunk_size(files: usize, workers: u32) -> usize
     ensures { 0 < result }
 {
     files.div_ceil(workers.max(1) as usize).max(1)
 }
 
 /// The value of each file, or the error of the first file that has one. Reads the files in at most as many chunks as workers, each in a
-/// thread of its own if one can be started. The first chunk with an error has it.
+/// thread of its own if one can be started. The first chunk with an error contains the first file with an error.
 pub(crate) fn read_files<K: FromSource + Send, R: Threads + Sync>(
     rt: &R,
     alloc: Global,
@@ -74,7 +74,7 @@ pub(crate) fn read_files<K: FromSource + Send, R: Threads + Sync>(
     ensures kept { IfOk result (λ v. (files : List ModuleFile) × AreAllOf K.is_of sources.now files v.items) }
     ensures fault { IfErr result (IsTreeFault sources.now) }
 {
-    let answers = read_chunks::<K, R>(rt, alloc, sources, size_of_chunks(sources.len(), workers))?;
+    let answers = read_chunks::<K, R>(rt, alloc, sources, chunk_size(sources.len(), workers))?;
     let mut all = Vec::new(alloc);
     for answer in answers {
         let mut more = answer?;

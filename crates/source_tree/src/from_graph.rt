@@ -1,7 +1,7 @@
 //! The network of an import graph and of the scopes of its modules.
 ghost use Rattle.std.specs.Prelude.{◌≡◌, ◌<◌, ◌++◌, true, All, IfOk, List, OnOk, length, map, ℕ};
 ghost use Rattle.ob_imports.specs.Graphs.{imported, name_of};
-ghost use Rattle.ob_scope.specs.Weights.{uses_of_import};
+ghost use Rattle.scopes.specs.Weights.{uses_of_import};
 ghost use Rattle.texts.specs.Fields.{is_name};
 ghost use Rattle.cut_net.specs.Network.{texts};
 ghost use Rattle.cut_net.specs.NetText.{IsNetOf};
@@ -16,7 +16,7 @@ use std::alloc::{AllocError, Global};
 use text_hash::Seed;
 
 /// For each imported module the number of uses that all its aliases qualify, in a table with this seed.
-fn sums_of<'a>(
+fn sum_alias_uses<'a>(
     alloc: Global,
     scopes: &'a Scopes,
     seed: Seed,
@@ -33,14 +33,14 @@ fn sums_of<'a>(
     Ok(sums)
 }
 
-fn sum_of(sums: &IndexMap<&str, u64, Seed>, name: &str) -> u64
+fn alias_use_sum(sums: &IndexMap<&str, u64, Seed>, name: &str) -> u64
     ensures { result ≡ sum_in sums.now name.now }
 {
     sums.get(name).copied().unwrap_or(0)
 }
 
 /// Appends the imports of a module, by the ranks of their modules.
-fn add_imports(
+fn append_weighted_imports(
     alloc: Global,
     graph: &Graph,
     scopes: &Scopes,
@@ -53,9 +53,9 @@ fn add_imports(
     ensures last { OnOk result (imports.new.items ≡ imports.old.items ++ map (ranked ranks.now) (map (entry_to graph.now scopes.now from) (imported graph.now.pairs from))) }
 {
     graph.invariants();
-    let sums = sums_of(alloc, scopes, graph.seed())?;
+    let sums = sum_alias_uses(alloc, scopes, graph.seed())?;
     for to in graph.imports_of(from) {
-        let amount = sum_of(&sums, graph.name(*to));
+        let amount = alias_use_sum(&sums, graph.name(*to));
         imports.push(Priced {
             from: ranks[from as usize],
             to: ranks[*to as usize],
@@ -66,7 +66,7 @@ fn add_imports(
 }
 
 /// The imports of the graph with their weights, by the ranks of their modules.
-fn imports_with(
+fn weighted_imports(
     alloc: Global,
     graph: &Graph,
     scopes: &[Scopes],
@@ -82,7 +82,7 @@ fn imports_with(
     for from in 0..graph.modules() {
         let own = &scopes[from as usize];
         own.invariants();
-        add_imports(alloc, graph, own, from, ranks, &mut imports)?;
+        append_weighted_imports(alloc, graph, own, from, ranks, &mut imports)?;
     }
     Ok(imports)
 }
@@ -112,7 +112,7 @@ pub fn net_of_graph(alloc: Global, graph: &Graph, scopes: &[Scopes]) -> Result<N
     let order = graph.by_name();
     let ranks = ranks_of(alloc, order)?;
     let names = node_names(alloc, graph, order)?;
-    let mut imports = imports_with(alloc, graph, scopes, ranks.as_slice())?;
+    let mut imports = weighted_imports(alloc, graph, scopes, ranks.as_slice())?;
     sort_imports(&mut imports);
     Ok(Net::of(alloc, names, imports))
 }

@@ -2,7 +2,7 @@
 ghost use Rattle.std.specs.Prelude.{◌≡◌, IfErr, IfOk, Ok};
 ghost use Rattle.module_table.specs.Tables.{rows_in};
 ghost use Rattle.table_rules.specs.Declaring.{rows_of};
-ghost use Rattle.ob_parse.specs.Parsed.{IsTheTree};
+ghost use Rattle.ob_grammar.specs.Parsed.{IsTheTree};
 ghost use Rattle.ob_scan.specs.Spelling.{IsOutcome};
 ghost use Rattle.ob_tree.specs.declared.declaration.Module.{Module};
 ghost use Rattle.source_tree.specs.Trees.{parse_offset, scan_offset, scope_offset, HasParseFault, HasScanFault, HasScopeFault, IsFileFault};
@@ -11,13 +11,13 @@ ghost use Rattle.source_tree.specs.TreeReading.{HasScopes};
 use crate::files::FromSource;
 use crate::{Source, TreeFault};
 use module_table::Table;
-use ob_parse::ParseFault;
+use ob_grammar::ParseFault;
 use ob_scan::laws::tokens_in_text;
 use ob_scan::{ScanFault, Tokens, position, scan};
 use ob_scope::{ScopeFault, Scopes, scopes_from};
 use std::alloc::Global;
 use table_reader::read_table;
-use table_rules::laws::tree_rows;
+use table_rules::laws::tree_table_is_valid;
 
 fn scan_offset(fault: ScanFault) -> u32
     ensures { result ≡ scan_offset fault }
@@ -67,8 +67,10 @@ pub(crate) fn scan_fault(alloc: Global, source: &Source, fault: ScanFault) -> Tr
 }
 
 /// A parser error with its location in the file.
-pub(crate) fn parse_fault(alloc: Global, source: &Source, fault: ParseFault) -> TreeFault
+pub fn parse_fault(alloc: Global, source: &Source, fault: ParseFault) -> TreeFault
+    // The file has this error.
     requires { HasParseFault fault source.now.bytes.items }
+    // It is the error of the file, or Memory if an allocation fails.
     ensures { IsFileFault source.now result }
 {
     if fault == ParseFault::Memory {
@@ -115,7 +117,7 @@ pub(crate) fn table_from_tokens(
 }
 
 /// The scopes of a file's module, given its tokens and table; or the error of its names.
-pub(crate) fn scopes_in(
+pub(crate) fn scopes_from_table(
     alloc: Global,
     source: &Source,
     tokens: &Tokens,
@@ -127,7 +129,7 @@ pub(crate) fn scopes_in(
     ensures fault { IfErr result (IsFileFault source.now) }
 {
     tokens_in_text();
-    tree_rows();
+    tree_table_is_valid();
     match scopes_from(alloc, table, tokens.as_slice(), source.bytes.as_slice()) {
         Ok(scopes) => Ok(scopes),
         Err(fault) => Err(scope_fault(alloc, source, fault)),
@@ -141,7 +143,7 @@ fn scopes_from_tokens(alloc: Global, source: &Source, tokens: &Tokens) -> Result
     ensures fault { IfErr result (IsFileFault source.now) }
 {
     let table = table_from_tokens(alloc, source, tokens)?;
-    let scopes = scopes_in(alloc, source, tokens, &table);
+    let scopes = scopes_from_table(alloc, source, tokens, &table);
     drop(table);
     scopes
 }

@@ -4,27 +4,27 @@ ghost use Rattle.std.specs.declared.alloc.Global.{Global as StdGlobal};
 ghost use Rattle.cut_net.specs.Network.{missing_item};
 ghost use Rattle.module_table.specs.Tables.{rows_in};
 ghost use Rattle.table_rules.specs.Declaring.{rows_of};
-ghost use Rattle.ob_parse.specs.Parsed.{IsTheTree};
+ghost use Rattle.ob_grammar.specs.Parsed.{IsTheTree};
 ghost use Rattle.ob_scan.specs.Position.{line_starts};
 ghost use Rattle.ob_scan.specs.Spelling.{AreInText, IsOutcome};
 ghost use Rattle.ob_scan.specs.declared.place.Position.{Position as ItemPosition};
-ghost use Rattle.ob_scope.specs.Scoped.{ModuleScopes};
+ghost use Rattle.scopes.specs.Scoped.{ModuleScopes};
 ghost use Rattle.ob_tree.specs.declared.declaration.Module.{Module};
 ghost use Rattle.source_tree.specs.Located.{no_site, AreItemPositions, HasLocated, HasSite, IsSetFrom};
 ghost use Rattle.source_tree.specs.Trees.{IsFileFault};
 
 use crate::files::FromSource;
-use crate::front_end::{scan_fault, scopes_in, table_from_tokens};
+use crate::front_end::{scan_fault, scopes_from_table, table_from_tokens};
 use crate::{Source, TreeFault};
-use cut_net::{Net, import_named};
+use cut_net::{Net, find_import_number};
 use module_table::{Import, Table};
 use ob_scan::laws::tokens_in_text;
 use ob_scan::{Position, Token, TokenTexts, Tokens, lines, scan};
 use ob_scope::Scopes;
 use std::alloc::{AllocError, Global};
 
-/// The location of an import: in the importer's file the position of the identifier that names the imported module, in the first import
-/// item of it.
+/// The location of an import: the position in the importer's file of the identifier that names the imported module, in the first import
+/// item for that module.
 #[derive(Clone, Copy)]
 pub struct ImportSite {
     /// The index of the file among the tree's files.
@@ -71,7 +71,7 @@ fn located_from_table(
     ensures fault { IfErr result (IsFileFault source.now) }
 {
     tokens_in_text();
-    let scopes = scopes_in(alloc, source, tokens, table)?;
+    let scopes = scopes_from_table(alloc, source, tokens, table)?;
     let items = item_positions(
         alloc,
         source.bytes.as_slice(),
@@ -130,7 +130,7 @@ fn set_sites(
     for passed in 0..count {
         let item = count - 1 - passed;
         let imported = aliases[item].module.as_str();
-        if let Some(import) = import_named(net, scopes.name(), imported) {
+        if let Some(import) = find_import_number(net, scopes.name(), imported) {
             sites[import] = ImportSite {
                 file,
                 position: items[item],

@@ -2,9 +2,9 @@
 ghost use Rattle.std.specs.Prelude.{◌≡◌, ◌↔◌, ◌∷◌, [], ℕ, Contains, false, length, map, true, List};
 ghost use Rattle.cut_net.specs.declared.priced.Priced.{Priced};
 ghost use Rattle.cut_net.specs.Network.{Network, name_of};
-ghost use Rattle.text_escape.specs.Places.{Style};
+ghost use Rattle.texts.specs.Places.{Style};
 ghost use Rattle.source_tree.specs.Crossings.{AreUses};
-ghost use Rattle.source_tree.specs.OwnFaults.{ArePartitionedFiles, AreTreeFaults};
+ghost use Rattle.source_tree.specs.FileFaults.{ArePartitionedFiles, AreTreeFaults};
 ghost use Rattle.source_tree.specs.TreeFaults.{tree_fault_text, is_out_of_memory};
 ghost use Rattle.source_tree.specs.Trees.{IsNetOfTree, IsTree, IsTreeFault, ModuleFile};
 ghost use Rattle.source_tree.specs.declared.crossing.Span.{Span};

@@ -1,14 +1,14 @@
 //! The network of a tree, with the locations of its modules and imports.
 ghost use Rattle.std.specs.Prelude.{◌≡◌, ◌<◌, ℕ, All, Contains, IfErr, IfOk, List, length, map};
 ghost use Rattle.cut_net.specs.Network.{name_of};
-ghost use Rattle.ob_scope.specs.Scoped.{ModuleScopes};
+ghost use Rattle.scopes.specs.Scoped.{ModuleScopes};
 ghost use Rattle.source_tree.specs.Located.{AreModulesOf, AreSitesOf};
 ghost use Rattle.source_tree.specs.Trees.{IsNetOfTree, IsTreeFault};
 ghost use Rattle.source_tree.specs.declared.import_sites.LocatedScopes.{LocatedScopes as Located};
 
 use crate::files::read_files;
 use crate::import_sites::{ImportSite, LocatedScopes, import_sites};
-use crate::tree_reading::{net_in, tree_of};
+use crate::tree_reading::{build_tree, network_of_tree};
 use crate::{Source, TreeFault};
 use cut_net::Net;
 use ob_scan::Position;
@@ -20,14 +20,14 @@ use std::thread::Threads;
 #[derive(Drop)]
 pub struct LocatedNet {
     pub net: Net,
-    /// For each file, in their order.
+    /// The number in the network of each file's module, in the order of the files.
     pub modules: Vec<u32>,
-    /// For each import of the network, in their order.
+    /// The location of each import of the network, in the order of the imports.
     pub imports: Vec<ImportSite>,
 }
 
 /// The numbers of the modules with these scopes in a network.
-fn modules_in(alloc: Global, net: &Net, scopes: &[Scopes]) -> Result<Vec<u32>, AllocError>
+fn network_numbers(alloc: Global, net: &Net, scopes: &[Scopes]) -> Result<Vec<u32>, AllocError>
     requires { All (λ s. Contains net.now.names s.name) scopes.now }
     ensures low { IfOk result (λ v. All (λ m. m < length net.now.names) v.items) }
     ensures named { IfOk result (λ v. map (name_of net.now) v.items ≡ map (λ (s : ModuleScopes). s.name) scopes.now) }
@@ -43,7 +43,7 @@ fn modules_in(alloc: Global, net: &Net, scopes: &[Scopes]) -> Result<Vec<u32>, A
 }
 
 /// Splits scopes from the positions of import items.
-fn split(
+fn split_located(
     alloc: Global,
     files: Vec<LocatedScopes>,
 ) -> Result<(Vec<Scopes>, Vec<Vec<Position>>), AllocError>
@@ -68,7 +68,7 @@ pub fn located_net_of<R: Threads + Sync>(
 ) -> Result<LocatedNet, TreeFault>
     // The network is the tree's.
     ensures net { IfOk result (λ located. IsNetOfTree sources.now located.net) }
-    // Each file has the number of its module there.
+    // Each file has the number of its module in the network.
     ensures modules { IfOk result (λ located. AreModulesOf sources.now located.net located.modules.items) }
     // Each import has the location of its first import item.
     ensures imports { IfOk result (λ located. AreSitesOf sources.now located.net located.imports.items) }
@@ -76,11 +76,11 @@ pub fn located_net_of<R: Threads + Sync>(
     ensures fault { IfErr result (IsTreeFault sources.now) }
 {
     let files: Vec<LocatedScopes> = read_files(rt, alloc, sources, workers)?;
-    let (scopes, items) = split(alloc, files)?;
-    let tree = tree_of(alloc, sources, scopes)?;
-    let net = net_in(alloc, &tree)?;
+    let (scopes, items) = split_located(alloc, files)?;
+    let tree = build_tree(alloc, sources, scopes)?;
+    let net = network_of_tree(alloc, &tree)?;
     let scopes = tree.scopes.as_slice();
-    let modules = modules_in(alloc, &net, scopes)?;
+    let modules = network_numbers(alloc, &net, scopes)?;
     let imports = import_sites(alloc, &net, scopes, items.as_slice())?;
     Ok(LocatedNet {
         net,

@@ -2,11 +2,12 @@
 ghost use Rattle.std.specs.Prelude.{IfErr, IfOk, Ok};
 ghost use Rattle.ob_scan.specs.Spelling.{IsOutcome};
 ghost use Rattle.table_rules.specs.Declaring.{rows_of};
-ghost use Rattle.ob_parse.specs.Parsed.{IsTheTree};
-ghost use Rattle.ob_scope.specs.Scoped.{AreScopes, IsScopeFault};
+ghost use Rattle.ob_grammar.specs.Parsed.{IsTheTree};
+ghost use Rattle.scopes.specs.Scoped.{AreScopes};
+ghost use Rattle.ob_scope.specs.Faults.{IsScopeFault};
 
-use ob_parse::ParseFault;
-use ob_parse::laws::no_fault_of_a_tree;
+use ob_grammar::ParseFault;
+use ob_grammar::laws::no_fault_of_a_tree;
 use ob_scan::Tokens;
 use ob_scope::{ScopeFault, Scopes, scopes_from};
 use ob_tree::declaration::Module;
@@ -14,10 +15,9 @@ use std::alloc::Global;
 use table_reader::read_table;
 use table_rules::laws::one_table;
 
-/// The scopes of a module, whose syntax tree is that of the tokens of these bytes: the declaration of each used name by the scope rule,
-/// and the number of uses that each alias qualifies (Oberon-07 report, sections 4 and 11). Of the pairs of one name in one block or
-/// record that with the first second identifier is reported: `Twice` in a block, `TwiceField` in a record. Fails with `Memory` if an
-/// allocation fails.
+/// The scopes of the module with these bytes and tokens: the declaration that each use means by the scope rule, and the number of uses that
+/// each alias qualifies (Oberon-07 report, sections 4 and 11). If two identifiers in one block or record have equal names, returns `Twice`
+/// or `TwiceField` with the first pair, the one whose second identifier comes first. Returns `Memory` if an allocation fails.
 ///
 /// The syntax tree isn't traversed: its table comes from a pass over the tokens. The recursion is a few calls for each level, at most 200
 /// levels deep; a stack of 2 MiB is enough.

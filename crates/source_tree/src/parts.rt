@@ -5,16 +5,16 @@ ghost use Rattle.module_table.specs.Tables.{rows_in};
 ghost use Rattle.table_rules.specs.Declaring.{rows_of};
 ghost use Rattle.ob_imports.specs.Files.{files_of as parsed_files};
 ghost use Rattle.ob_interface.specs.Interfaces.{interface_of};
-ghost use Rattle.ob_parse.specs.Parsed.{IsTheTree};
+ghost use Rattle.ob_grammar.specs.Parsed.{IsTheTree};
 ghost use Rattle.ob_scan.specs.Spelling.{AreInText, IsOutcome};
-ghost use Rattle.ob_scope.specs.Scoped.{AreScopes};
+ghost use Rattle.scopes.specs.Scoped.{AreScopes};
 ghost use Rattle.ob_tree.specs.declared.declaration.Module.{Module};
 ghost use Rattle.source_tree.specs.Parts.{AreAllParts, ArePartsOfTree, HasParts};
 ghost use Rattle.source_tree.specs.Trees.{files_of, IsFileFault, IsTreeFault, ModuleFile};
 
 use crate::files::{FromSource, read_files};
 use crate::front_end::{scan_fault, scope_fault, table_from_tokens};
-use crate::tree_reading::parsed_of;
+use crate::tree_reading::graph_input;
 use crate::{Source, TreeFault};
 use module_table::Table;
 use ob_imports::{Graph, Parsed, graph};
@@ -25,7 +25,7 @@ use ob_scope::{Scopes, scopes_from};
 use std::alloc::{AllocError, Global};
 use std::sync::Arc;
 use std::thread::Threads;
-use table_rules::laws::tree_rows;
+use table_rules::laws::tree_table_is_valid;
 
 /// The parts of a file's module: its tokens, its table of declarations and uses, its scopes, and its interface for other modules, which
 /// is shared.
@@ -37,7 +37,7 @@ pub struct ModuleParts {
     pub interface: Arc<Interface>,
 }
 
-/// The import graph of a tree, and the parts of its modules by their numbers there.
+/// The import graph of a tree, and the parts of its modules by their numbers in the graph.
 #[derive(Drop)]
 pub struct TreeParts {
     pub graph: Graph,
@@ -98,7 +98,7 @@ fn parts_from_table(
     ensures fault { IfErr result (IsFileFault source.now) }
 {
     tokens_in_text();
-    tree_rows();
+    tree_table_is_valid();
     match scopes_from(alloc, &table, tokens.as_slice(), source.bytes.as_slice()) {
         Ok(scopes) => Ok(parts_from_scopes(alloc, source, tokens, table, scopes)?),
         Err(fault) => Err(scope_fault(alloc, source, fault)),
@@ -143,7 +143,7 @@ fn parsed_modules(
 {
     let mut all = Vec::new(alloc);
     for i in 0..sources.len() {
-        all.push(parsed_of(alloc, &sources[i], &modules[i].scopes)?)?;
+        all.push(graph_input(alloc, &sources[i], &modules[i].scopes)?)?;
     }
     Ok(all)
 }
@@ -162,7 +162,7 @@ pub fn tree_parts<R: Threads + Sync>(
     ensures fault { IfErr result (IsTreeFault sources.now) }
 {
     let modules: Vec<Box<ModuleParts>> = read_files(rt, alloc, sources, workers)?;
-    let message = parsed_modules(alloc, sources, modules.as_slice())?;
-    let graph = graph(alloc, message.as_slice())?;
+    let graph_inputs = parsed_modules(alloc, sources, modules.as_slice())?;
+    let graph = graph(alloc, graph_inputs.as_slice())?;
     Ok(TreeParts { graph, modules })
 }

@@ -5,15 +5,15 @@ ghost use Rattle.source_tree.specs.Sources.{ArePathsInOrder};
 /// A source file of a tree.
 #[derive(Drop)]
 pub struct Source {
-    /// Its path below the tree's folder, with `/` between names.
+    /// The file's path below the tree's folder, with `/` between names.
     pub path: String,
-    /// Its bytes.
+    /// The file's bytes.
     pub bytes: Vec<u8>,
 }
 
 /// Whether the files are strictly sorted by path, compared by bytes.
 pub fn in_order(sources: &[Source]) -> bool
-    // It is whether the paths are strictly sorted.
+    // True exactly if the paths are strictly sorted.
     ensures { IsTrue result ↔ ArePathsInOrder sources.now }
 {
     sources.is_sorted_by(|first, second| first.path < second.path)

@@ -1,7 +1,7 @@
 //! Errors of trees.
 
+use ob_grammar::ParseFault;
 use ob_imports::GraphFault;
-use ob_parse::ParseFault;
 use ob_scan::{Position, ScanFault};
 use ob_scope::ScopeFault;
 use std::alloc::{AllocError, AllocFailed};

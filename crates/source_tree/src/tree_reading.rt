@@ -15,15 +15,15 @@ use ob_scope::laws::{one_weight, weight_of_aliases};
 use std::alloc::{AllocError, Global};
 use std::thread::Threads;
 
-/// The import graph of a tree, and the scopes of its modules by their numbers there.
+/// The import graph of a tree, and the scopes of its modules by their numbers in the graph.
 #[derive(Drop)]
-pub(crate) struct Tree {
+pub(crate) struct ScopedTree {
     pub(crate) graph: Graph,
     pub(crate) scopes: Vec<Scopes>,
 }
 
 /// The imported names of a module, in the order of its import items.
-fn imports_of(alloc: Global, scopes: &Scopes) -> Result<Vec<String>, AllocError>
+fn imported_names(alloc: Global, scopes: &Scopes) -> Result<Vec<String>, AllocError>
     ensures { IfOk result (λ v. texts v.items ≡ map (λ a. a.imported) scopes.now.aliases) }
 {
     let mut names = Vec::new(alloc);
@@ -34,7 +34,7 @@ fn imports_of(alloc: Global, scopes: &Scopes) -> Result<Vec<String>, AllocError>
 }
 
 /// The file as the import graph needs it.
-pub(crate) fn parsed_of(
+pub(crate) fn graph_input(
     alloc: Global,
     source: &Source,
     scopes: &Scopes,
@@ -43,7 +43,7 @@ pub(crate) fn parsed_of(
 {
     let path = String::from_str(alloc, source.path.as_str())?;
     let name = String::from_str(alloc, scopes.name())?;
-    let imports = imports_of(alloc, scopes)?;
+    let imports = imported_names(alloc, scopes)?;
     Ok(Parsed {
         path,
         name,
@@ -51,7 +51,7 @@ pub(crate) fn parsed_of(
     })
 }
 
-pub(crate) fn all_parsed(
+pub(crate) fn all_graph_inputs(
     alloc: Global,
     sources: &[Source],
     scopes: &[Scopes],
@@ -61,25 +61,25 @@ pub(crate) fn all_parsed(
 {
     let mut all = Vec::new(alloc);
     for i in 0..sources.len() {
-        all.push(parsed_of(alloc, &sources[i], &scopes[i])?)?;
+        all.push(graph_input(alloc, &sources[i], &scopes[i])?)?;
     }
     Ok(all)
 }
 
 /// The tree of files with these scopes, or the error of its imports.
-pub(crate) fn tree_of(
+pub(crate) fn build_tree(
     alloc: Global,
     sources: &[Source],
     scopes: Vec<Scopes>,
-) -> Result<Box<Tree>, TreeFault>
+) -> Result<Box<ScopedTree>, TreeFault>
     requires { (files : List ModuleFile) × AreFilesRead sources.now files scopes.items }
     ensures tree { IfOk result (λ tree. IsTreeOf sources.now tree.value) }
     ensures scopes { IfOk result (λ tree. tree.value.scopes ≡ scopes) }
     ensures fault { IfErr result (IsTreeFault sources.now) }
 {
-    let parsed = all_parsed(alloc, sources, scopes.as_slice())?;
+    let parsed = all_graph_inputs(alloc, sources, scopes.as_slice())?;
     let graph = graph(alloc, parsed.as_slice())?;
-    Ok(Box::new(alloc, Tree { graph, scopes })?)
+    Ok(Box::new(alloc, ScopedTree { graph, scopes })?)
 }
 
 /// The import graph of the files and the scopes of each; or the error of the first file that has one, or else that of the imports.
@@ -88,16 +88,16 @@ pub(crate) fn scoped_tree<R: Threads + Sync>(
     alloc: Global,
     sources: &[Source],
     workers: u32,
-) -> Result<Box<Tree>, TreeFault>
+) -> Result<Box<ScopedTree>, TreeFault>
     ensures tree { IfOk result (λ tree. IsTreeOf sources.now tree.value) }
     ensures fault { IfErr result (IsTreeFault sources.now) }
 {
     let scopes: Vec<Scopes> = read_files(rt, alloc, sources, workers)?;
-    tree_of(alloc, sources, scopes)
+    build_tree(alloc, sources, scopes)
 }
 
 /// The network of a tree's imports.
-pub(crate) fn net_in(alloc: Global, tree: &Tree) -> Result<Net, AllocError>
+pub(crate) fn network_of_tree(alloc: Global, tree: &ScopedTree) -> Result<Net, AllocError>
     requires { (sources : List Source) × IsTreeOf sources tree.now }
     ensures net { (sources : List Source) → IsTreeOf sources tree.now → IfOk result (IsNetOfTree sources) }
     ensures named { (sources : List Source) → (of : IsTreeOf sources tree.now) → IfOk result (λ net. (n : List ℕ) → Contains net.names n ↔ IsNode (files_of of.files) n) }
@@ -122,5 +122,5 @@ pub fn net_of<R: Threads + Sync>(
     ensures fault { IfErr result (IsTreeFault sources.now) }
 {
     let tree = scoped_tree(rt, alloc, sources, workers)?;
-    Ok(net_in(alloc, &tree)?)
+    Ok(network_of_tree(alloc, &tree)?)
 }

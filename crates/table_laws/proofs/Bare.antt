@@ -1,4 +1,4 @@
--- Parts of a tree in which no record is there.
+-- Fragments of a tree that contain no record.
 use Rattle.std.proofs.Common.{◌≡◌, ℕ, ◌+◌, Bool, true, false, List, [], ◌∷◌, ◌++◌, map, Option, Some, None, refl, sym, ap, ap₂, subst}
 use Rattle.ob_tree.specs.declared.name.OneOrMore.{OneOrMore}
 use Rattle.module_table.specs.declared.rows.Record.{Record}
@@ -11,7 +11,7 @@ use Rattle.table_rules.proofs.Quiet.{Quiet, Told}
 abbrev domain : {A B : Type 0} → (A → B) → Type 0
 domain {A} f = A
 
--- what is around a part
+-- the context of a fragment
 abbrev pub Context : Type 0
 Context = domain token.rows
 
@@ -73,10 +73,10 @@ b-use member = b-with_rows _ (λ c k. refl) b-token
 pub b-declared : (starred : Bool) → Bare (with_rows (declared_row starred) token)
 b-declared starred = b-with_rows _ (λ c k. refl) b-token
 
--- a first token with entries of its own
+-- a first token with entries
 pub b-first : (own : Context → ℕ → Rows) {p : Fragment} → ((c : Context) (k : ℕ) → (own c k).records ≡ []) → Bare p → Bare (with_rows own (both token p))
 b-first own n f = b-with_rows own n (b-both b-token f)
 
--- no record is where names are only used
+-- a fragment that only looks names up contains no record
 pub bare : {p : Fragment} → Quiet p → Bare p
 bare f = record { none = λ c k. ap (λ (t : Told). t.records) (f.none c k) }

@@ -1,4 +1,4 @@
--- No record is in an expression.
+-- Expressions contain no record.
 use Rattle.ob_tree.specs.declared.expression.Expr.{Expr}
 use Rattle.table_rules.specs.Expressions.{expr_rows}
 use Rattle.table_rules.proofs.QuietExpressions.{q-expr}

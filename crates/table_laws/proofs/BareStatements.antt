@@ -1,4 +1,4 @@
--- No record is in a statement.
+-- Statements contain no record.
 use Rattle.ob_tree.specs.declared.name.Qualident.{Qualident}
 use Rattle.ob_tree.specs.declared.statement.StatementSequence.{StatementSequence}
 use Rattle.table_rules.specs.Statements.{block_rows, qualident_rows}

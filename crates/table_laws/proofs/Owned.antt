@@ -1,4 +1,4 @@
--- Whose types the records in a part of a tree are: those of the declaration around it, one at most, or of declarations in it, each one's.
+-- The owners of the records in a fragment: the declaration around it owns at most one, and each declaration in it owns at most one.
 use Rattle.std.proofs.Common.{◌≡◌, ℕ, zero, suc, ◌+◌, ◌<◌, ◌≤◌, ◌⊎◌, inl, inr, List, [], ◌∷◌, ◌++◌, map, Option, Some, None, refl, sym, ap, ◌∙◌, subst, arith}
 use Rattle.std.specs.Prelude.{slice_get}
 use Rattle.module_table.specs.declared.rows.Record.{Record}
@@ -8,7 +8,7 @@ use Rattle.table_laws.proofs.Bare.{Bare, Context, b-nothing}
 
 -- ---- owners
 
--- all owners are such
+-- all owners have the property
 pub Each : (ℕ → Type 0) → List Record → Type 0
 Each P [] = Unit {0}
 Each P (r ∷ rs) = P r.owner × Each P rs
@@ -18,7 +18,7 @@ pub Apart : ℕ → List Record → Type 0
 Apart o [] = Unit {0}
 Apart o (r ∷ rs) = (o ≡ r.owner → ⊥) × Apart o rs
 
--- no two have one owner
+-- no two records have one owner
 pub Once : List Record → Type 0
 Once [] = Unit {0}
 Once (r ∷ rs) = Apart r.owner rs × Once rs
@@ -62,7 +62,7 @@ one_record (x ∷ rs) zero (suc j) r s o a b e = absurd (apart_get x.owner rs j 
 one_record (x ∷ rs) (suc i) zero r s o a b e = absurd (apart_get x.owner rs i r o.0 a (let same : x ≡ s = (let f : Some x ≡ Some s = b in cc) in ap (λ (y : Record). y.owner) same ∙ sym e))
 one_record (x ∷ rs) (suc i) (suc j) r s o a b e = one_record rs i j r s o.1 a b e
 
--- ---- parts
+-- ---- fragments
 
 abbrev pub Within : ℕ → ℕ → ℕ → Type 0
 Within low high o = (low ≤ o) × (o < high)
@@ -70,17 +70,17 @@ Within low high o = (low ≤ o) × (o < high)
 abbrev pub OwnOr : ℕ → ℕ → ℕ → ℕ → Type 0
 OwnOr d low high o = (o ≡ d) ⊎ Within low high o
 
--- the records' owners are in it
+-- the owners of the records are in the fragment
 pub record Free (p : Fragment) : Type 0 where
   pub each : (c : Context) (k : ℕ) → c.decl_group < k → Each (Within k (k + p.width)) (p.rows c k).records
   pub once : (c : Context) (k : ℕ) → c.decl_group < k → Once (p.rows c k).records
 
--- or are the declaration around it
+-- or the owner is the declaration around it
 pub record Held (p : Fragment) : Type 0 where
   pub each : (c : Context) (k : ℕ) → c.decl_group < k → Each (OwnOr c.decl_group k (k + p.width)) (p.rows c k).records
   pub once : (c : Context) (k : ℕ) → c.decl_group < k → Once (p.rows c k).records
 
--- or are the declaration that begins where it begins
+-- or the owner is the declaration that begins where the fragment begins
 pub record Declares (p : Fragment) : Type 0 where
   pub some : 0 < p.width
   pub each : (c : Context) (k : ℕ) → c.decl_group ≡ k → Each (Within k (k + p.width)) (p.rows c k).records
@@ -138,7 +138,7 @@ h-bare {p} f = record {
   once = λ c k l. subst Once (sym (f.none c k)) tt;
 }
 
--- a part without records before it
+-- a fragment without records before it
 pub h-behind : {p q : Fragment} → Bare p → Held q → Held (both p q)
 unfolding both joined
 h-behind {p} {q} f g = record {
@@ -162,7 +162,7 @@ h-with_rows own {p} n f = record {
 pub h-is : {p q : Fragment} → p ≡ q → Held q → Held p
 h-is e m = subst Held (sym e) m
 
--- the record itself, whose owner is before it
+-- the record itself, whose owner begins before it
 pub h-record : (row : Context → ℕ → Record) (around : Context → ℕ → Context) {p : Fragment} (own : Context → ℕ → Rows) → ((c : Context) (k : ℕ) → (own c k).records ≡ row c k ∷ [])
     → ((c : Context) (k : ℕ) → (row c k).owner ≡ c.decl_group) → ((c : Context) (k : ℕ) → (around c k).decl_group ≡ c.decl_group) → Free p → Held (with_rows own (within around p))
 unfolding with_rows within joined Each Once
@@ -188,7 +188,7 @@ h-within around {p} d f = record {
 
 -- ---- declarations
 
--- what declares begins with an identifier or a word
+-- a declaration begins with an identifier or a word
 pub d-held : {p q : Fragment} → Bare p → 0 < p.width → Held q → Declares (both p q)
 unfolding both joined
 d-held {p} {q} f w g = record {

@@ -57,7 +57,7 @@ pub identdef_some : (i : Identdef) → 0 < (identdef_rows i).width
 unfolding identdef_rows with_rows both token
 identdef_some i = omega arith
 
--- ---- whose types the records in each part are
+-- ---- the owners of the records in each fragment
 
 abbrev predicates : TypePredicates
 predicates = record {

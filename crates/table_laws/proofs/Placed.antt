@@ -1,5 +1,5 @@
--- What is around each entry in the entries of a whole: a declared identifier has its construct, a field its record and that record's
--- owner, the name after an END its procedure.
+-- The context of each entry: a declared identifier has its declaration group, a field its record and the owner of that record, a name
+-- after END its procedure.
 use Rattle.std.proofs.Common.{◌≡◌, ℕ, zero, suc, ◌+◌, ◌-◌, ◌<◌, ◌≤◌, ◌⊎◌, inl, inr, Bool, false, List, [], ◌∷◌, map, Option, Some, None, refl, sym, ap, ◌∙◌, subst, arith}
 use Rattle.std.specs.Prelude.{Contains}
 use Rattle.std.proofs.lemmas.List.Elements.{Contains-append_left, Contains-append_right, Contains-append_cases}
@@ -46,7 +46,7 @@ module _ (R : Rows) where
     pub among : Contains R.imports item
     pub alias : item.alias ≡ k
 
-  -- an identifier has the construct that declares it, which is an import item only where the identifier is its alias
+  -- an identifier has its declaration group, which is an import item only if the identifier is its alias
   pub record HasConstruct (x : Declared) : Type 0 where
     pub by : DeclGroup
     pub among : Contains R.decl_groups by
@@ -54,7 +54,7 @@ module _ (R : Rows) where
     pub before : by.first ≤ x.number
     pub decl_kind : IsNoImport by.decl_kind ⊎ IsAlias x.number
 
-  -- a declaration that is no import item, in this block, by its first identifier
+  -- a declaration in this block that is no import item, by its first identifier
   pub record IsOwner (block k : ℕ) : Type 0 where
     pub row : Declared
     pub declared : Contains R.declared row
@@ -73,7 +73,7 @@ module _ (R : Rows) where
     pub before : row.owner < k
     pub owner : IsOwner block row.owner
 
-  -- if a construct declares fields, they have their record
+  -- if a declaration group declares fields, the fields have their record
   pub record IsField (by : DeclGroup) (r : ℕ) : Type 0 where
     pub its : HasRecord by.block r by.first
     pub decl_kind : IsNoImport by.decl_kind
@@ -81,7 +81,7 @@ module _ (R : Rows) where
   unfoldable pub AreFields : DeclGroup → Type 0
   AreFields by = (r : ℕ) → by.of_record ≡ Some r → IsField by r
 
-  -- a name after END is its procedure's
+  -- a name after END has its procedure
   pub record IsNamed (k : ℕ) : Type 0 where
     pub row : Declared
     pub declared : Contains R.declared row
@@ -99,7 +99,7 @@ module _ (R : Rows) where
     pub decl_groups : (x : DeclGroup) → Contains r.decl_groups x → AreFields x
     pub ends : (x : End) → Contains r.ends x → EndsOne x
 
-  -- entries of the whole
+  -- entries of the whole table
   pub record AreIn (r : Rows) : Type 0 where
     pub declared : (x : Declared) → Contains r.declared x → Contains R.declared x
     pub decl_groups : (x : DeclGroup) → Contains r.decl_groups x → Contains R.decl_groups x
@@ -139,7 +139,7 @@ module _ (R : Rows) where
     ends = λ x h. absurd (in_none x (subst (λ (xs : List End). Contains xs x) c h));
   }
 
-  -- ---- what is known around a part
+  -- ---- what is known about the context of a fragment
 
   pub Free : Context → ℕ → Type 0
   Free c k = Unit {0}
@@ -148,7 +148,7 @@ module _ (R : Rows) where
   unfolding Free
   free c k = tt
 
-  -- the construct that declares
+  -- the declaration group around the fragment
   pub record Named (c : Context) (k : ℕ) : Type 0 where
     pub by : DeclGroup
     pub among : Contains R.decl_groups by
@@ -156,7 +156,7 @@ module _ (R : Rows) where
     pub before : c.decl_group ≤ k
     pub decl_kind : IsNoImport by.decl_kind
 
-  -- the same, if it begins here, and in this block
+  -- the declaration group around the fragment, if it begins here and is in this block
   pub record Begun (c : Context) (k : ℕ) : Type 0 where
     pub by : DeclGroup
     pub among : Contains R.decl_groups by
@@ -200,7 +200,7 @@ module _ (R : Rows) where
   unfolding Ended
   ended_later c k n p = p
 
-  -- ---- parts
+  -- ---- fragments
 
   pub record Good (Pre : Context → ℕ → Type 0) (p : Fragment) : Type 0 where
     pub holds : (c : Context) (k : ℕ) → Pre c k → AreIn (p.rows c k) → Holds (p.rows c k)
@@ -235,7 +235,7 @@ module _ (R : Rows) where
     holds = λ c k s i. holds_both (own c k) (p.rows c k) (h c k s) (f.holds c k s (in_second (own c k) (p.rows c k) i));
   }
 
-  -- entries that contribute of nothing declared
+  -- entries that contribute nothing to the declared identifiers
   pub g-silent : {Pre : Context → ℕ → Type 0} (own : Context → ℕ → Rows) {p : Fragment} → ((c : Context) (k : ℕ) → ((own c k).declared ≡ []) × ((own c k).decl_groups ≡ []) × ((own c k).ends ≡ []))
       → Good Pre p → Good Pre (with_rows own p)
   g-silent own n f = g-with_rows own (λ c k s. let e = n c k in holds_none (own c k) e.0 e.1 e.2) f
@@ -256,7 +256,7 @@ module _ (R : Rows) where
   g-map f h [] later w = g-quiet q-nothing
   g-map f h (x ∷ xs) later w = g-both later (w x) (g-map f h xs later w)
 
-  -- ---- what is declared
+  -- ---- declared identifiers
 
   holds_name : (starred : Bool) (c : Context) (k : ℕ) → Named c k → Holds (declared_row starred c k)
   holds_name starred c k s = record {
@@ -274,7 +274,7 @@ module _ (R : Rows) where
   unfolding identdef_rows
   g-identdef i = g-name i.starred (q-both q-token (q-so i.starred q-token))
 
-  -- an identifier that is declared here is among the whole's
+  -- an identifier that is declared here is in the whole table
   name_in : (i : Identdef) (c : Context) (k : ℕ) → AreIn ((identdef_rows i).rows c k) → Contains R.declared (record { number = k; exported = i.starred; declared_by = c.decl_group })
   unfolding identdef_rows with_rows joined
   name_in i c k h = h.declared _ (at_front _ _)
@@ -298,7 +298,7 @@ module _ (R : Rows) where
     before = (let e = s.here in omega (arith, e, some));
   }
 
-  -- a first identifier, and what is in its declaration
+  -- a first identifier, and the inside of its declaration
   pub g-owner : (i : Identdef) {q : Fragment} → 0 < (identdef_rows i).width → Good Typed q → Good Begun (both (identdef_rows i) q)
   unfolding both
   g-owner i {q} some g = record {
@@ -327,7 +327,7 @@ module _ (R : Rows) where
         (g.holds (declaring_at c k) k (record { by = row; among = own.decl_groups row (at_front row []); first = refl; here = refl; block = refl; decl_kind = other }) (in_second (one_decl_group row) (p.rows (declaring_at c k) k) h));
   }
 
-  -- what is in no record
+  -- fragments outside of records
   no_fields : (by : DeclGroup) → by.of_record ≡ None → AreFields by
   unfolding AreFields
   no_fields by none r e = absurd (let f : None ≡ Some r = sym none ∙ e in cc)
@@ -358,7 +358,7 @@ module _ (R : Rows) where
   unfolding IsNoImport
   g-field g = g-declaring decl_kinds.Field tt its_field g
 
-  -- a record, and what is in it
+  -- a record, and its inside
   pub g-record : (base : Option Qualident) {p : Fragment} → Good Recorded p → Good Typed (with_rows (record_row base) (within in_record p))
   unfolding with_rows within Recorded
   g-record base {p} g = record {
@@ -369,7 +369,7 @@ module _ (R : Rows) where
         (g.holds (in_record c k) k (record { row = _; among = own.records _ (at_front _ []); number = refl; before = s.before; owner = s.owner }) (in_second (record_row base c k) (p.rows (in_record c k) k) h));
   }
 
-  -- a procedure's name, and what is after it
+  -- the name of a procedure, and what follows it
   procedure_named : (i : Identdef) (c : Context) (k : ℕ) → Begun c k → AreIn ((identdef_rows i).rows (in_block c k) (k + 1)) → IsNamed (c.decl_group + 1)
   procedure_named i c k s h = record {
     row = _;
@@ -440,7 +440,7 @@ module _ (R : Rows) where
         (holds_rest i d k)));
   }
 
-  -- the name after a procedure's END, and that after the module's
+  -- the name after the END of a procedure, and the name after the END of the module
   holds_end : (e : End) → EndsOne e → Holds (one_end e)
   holds_end e f = record {
     declared = λ x h. absurd (in_none x h);

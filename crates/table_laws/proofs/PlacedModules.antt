@@ -1,4 +1,4 @@
--- What is around each entry of a module.
+-- The context of each entry of a module.
 use Rattle.std.proofs.Common.{List}
 use Rattle.ob_tree.specs.declared.name.OneOrMore.{OneOrMore}
 use Rattle.ob_tree.specs.declared.declaration.ConstDecl.{ConstDecl}
@@ -88,6 +88,6 @@ module _ (R : Rows) where
       (g-both R (free_later R) (g-declarations m.declarations) (g-both R (free_later R) (g-quiet R (q-there (λ b. both token (block_rows b)) m.body (λ b. q-both q-token (q-block b))))
       (g-both R (free_later R) g-token (g-both R (free_later R) (g-finishes R) g-token)))))))
 
--- of a tree
+-- for the entries of a tree
 pub module_holds : (m : Module) → Holds (rows_of m) (rows_of m)
 module_holds m = (g-module (rows_of m) m).holds outermost 0 (free (rows_of m) outermost 0) (record { declared = λ x h. h; decl_groups = λ x h. h; records = λ x h. h; imports = λ x h. h })

@@ -1,4 +1,4 @@
--- What is around each entry of a type.
+-- The context of each entry of a type expression.
 use Rattle.std.proofs.Common.{ℕ, zero, suc, false, Option, refl}
 use Rattle.ob_tree.specs.declared.declaration.Parameters.{Parameters}
 use Rattle.ob_tree.specs.declared.declaration.TypeForm.TheOpen as layers

@@ -1,4 +1,4 @@
--- Parts of a tree in which nothing is declared.
+-- Fragments of a tree that declare nothing.
 use Rattle.std.proofs.Common.{◌≡◌, ℕ, ◌+◌, Bool, true, false, List, [], ◌∷◌, ◌++◌, map, Option, Some, None, refl, sym, ap, ap₂, subst}
 use Rattle.module_table.specs.declared.rows.Record.{Record}
 use Rattle.module_table.specs.declared.rows.Declared.{Declared}
@@ -10,7 +10,7 @@ use Rattle.table_laws.proofs.Bare.{Context}
 use Rattle.table_rules.proofs.Quiet as quiet
 use Rattle.table_rules.proofs.Quiet.{Quiet}
 
--- the records, the parts of forms, the constructs that declare and what they declare
+-- the records, the type components, the declaration groups and the declared identifiers
 pub record Told : Type 0 where
   pub records : List Record
   pub parts : List TypePart
@@ -29,7 +29,7 @@ and a b = record { records = a.records ++ b.records; parts = a.parts ++ b.parts;
 pub record Plain (p : Fragment) : Type 0 where
   pub none : (c : Context) (k : ℕ) → told (p.rows c k) ≡ none
 
--- nothing is declared where names are only used
+-- a fragment that only looks names up declares nothing
 pub plain : {p : Fragment} → Quiet p → Plain p
 plain f = record { none = λ c k. ap (λ (t : quiet.Told). record { records = t.records; parts = t.parts; decl_groups = t.decl_groups; declared = t.declared }) (f.none c k) }
 
@@ -71,6 +71,6 @@ b-is {p} {q} e m = subst Plain (sym e) m
 pub b-use : (member : Option ℕ) → Plain (used member)
 b-use member = b-with_rows _ (λ c k. refl) b-token
 
--- a first token with entries of its own
+-- a first token with entries
 pub b-first : (own : Context → ℕ → Rows) {p : Fragment} → ((c : Context) (k : ℕ) → told (own c k) ≡ none) → Plain p → Plain (with_rows own (both token p))
 b-first own n f = b-with_rows own n (b-both b-token f)

@@ -1,4 +1,4 @@
--- Nothing is declared in an expression.
+-- Expressions declare nothing.
 use Rattle.ob_tree.specs.declared.expression.Expr.{Expr}
 use Rattle.table_rules.specs.Expressions.{expr_rows}
 use Rattle.table_rules.proofs.QuietExpressions.{q-expr}

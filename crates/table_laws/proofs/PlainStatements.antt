@@ -1,4 +1,4 @@
--- Nothing is declared in a statement.
+-- Statements declare nothing.
 use Rattle.ob_tree.specs.declared.name.Qualident.{Qualident}
 use Rattle.ob_tree.specs.declared.statement.StatementSequence.{StatementSequence}
 use Rattle.table_rules.specs.Statements.{block_rows, qualident_rows}

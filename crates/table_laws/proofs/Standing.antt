@@ -1,4 +1,4 @@
--- The owners of the types in a part of a tree: the declaration around it, or declarations in it. A record ends the type of its owner.
+-- The owners of the records in a fragment of a tree: the declaration around it, or declarations in it. A record ends its owner's type.
 use Rattle.std.proofs.Common.{◌≡◌, ℕ, ◌<◌, ◌≤◌, ◌⊎◌, inl, inr, List, [], ◌∷◌, ◌++◌, Some, true, arith}
 use Rattle.module_table.specs.declared.rows.Declared.{Declared}
 use Rattle.module_table.specs.declared.rows.DeclGroup.{DeclGroup}
@@ -8,7 +8,7 @@ use Rattle.module_table.specs.declared.rows.Record.{Record}
 use Rattle.module_table.specs.Parts.{Rows}
 use Rattle.table_laws.specs.Owners.{has_type}
 
--- ---- what is in a list
+-- ---- elements of a list
 
 unfoldable pub In : {X : Type 0} → X → List X → Type 0
 In x [] = ⊥
@@ -32,7 +32,7 @@ split x (y ∷ xs) ys h = elim h [
   | inr t ↦ (elim (split x xs ys t) [ inl a ↦ inl (inr a) | inr b ↦ inr b ])
 ]
 
--- ---- what parts contribute
+-- ---- what fragments contribute
 
 pub record Core : Type 0 where
   pub records : List Record
@@ -58,7 +58,7 @@ pub record Typed (x : Core) (o b : ℕ) : Type 0 where
   pub number : row.number ≡ o
   pub declared_by : row.declared_by ≡ o
 
--- the record of a field, whose owner is the declaration around all, or one of these
+-- the record of a field, whose owner is the declaration around the fragment, or a declaration in it
 pub record FieldOf (R : Type 0) (d b : ℕ) (x : Core) (f : DeclGroup) (r : ℕ) : Type 0 where
   pub row : Record
   pub among : In row x.records
@@ -83,12 +83,12 @@ pub record Ends (ps : List TypePart) (r : Record) : Type 0 where
 abbrev pub Within : ℕ → ℕ → ℕ → Type 0
 Within low high o = (low ≤ o) × (o < high)
 
--- the declaration around, if so, or one in these tokens
+-- the declaration around the fragment, if it may own records, or a declaration in these tokens
 abbrev pub OwnOr : Type 0 → ℕ → ℕ → ℕ → ℕ → Type 0
 OwnOr A d low high o = (A × (o ≡ d)) ⊎ Within low high o
 
--- What tokens contribute after the one that begins the declaration around them, in this block and record: whether that declaration may own
--- records in them, may have parts of its form in them, and whether fields of the record may be in them.
+-- What tokens contribute after the first token of the declaration around them, in this block and record: whether the declaration may own
+-- records in the tokens, may have components there, and whether fields of the record may be declared there.
 pub record Holds (R P F : Type 0) (d b e low high : ℕ) (x : Core) : Type 0 where
   pub records : (r : Record) → In r x.records → (low ≤ r.number) × OwnOr R d low high r.owner
   pub parts : (q : TypePart) → In q x.parts → (q.number < high) × OwnOr P d low high q.declared_by
@@ -146,7 +146,7 @@ field_right R d b x y f r h = record {
 pub own_or_wider : (A : Type 0) (d low high l h o : ℕ) → l ≤ low → high ≤ h → OwnOr A d low high o → OwnOr A d l h o
 own_or_wider A d low high l h o m n w = elim w [ inl s ↦ inl s | inr i ↦ inr ((let u = i.0 in omega arith), (let u = i.1 in omega arith)) ]
 
--- ---- one after the other
+-- ---- fragments one after the other
 
 module _ (R P F : Type 0) (d b e low mid high : ℕ) (x y : Core) (u : d < low) (v : low ≤ mid) (w : mid ≤ high) (f : Holds ⊥ P F d b e low mid x) (g : Holds R P F d b e mid high y) where
   and_records : (r : Record) → In r (x.records ++ y.records) → (low ≤ r.number) × OwnOr R d low high r.owner

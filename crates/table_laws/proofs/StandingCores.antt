@@ -1,4 +1,4 @@
--- What a record, a declaration with a type and another declaration contribute, by what is in them.
+-- What a record, a declaration with a type and any other declaration contribute, by their insides.
 use Rattle.std.proofs.Common.{◌≡◌, ℕ, suc, ◌<◌, ◌≤◌, ◌⊎◌, inl, inr, List, [], ◌∷◌, Some, None, true, refl, sym, ap, ◌∙◌, subst, arith}
 use Rattle.module_table.specs.declared.rows.Declared.{Declared}
 use Rattle.module_table.specs.declared.rows.DeclGroup.{DeclGroup}
@@ -8,7 +8,7 @@ use Rattle.module_table.specs.declared.rows.Record.{Record}
 use Rattle.table_laws.specs.Owners.{has_type}
 use Rattle.table_laws.proofs.Standing.{Core, Ends, FieldOf, Holds, In, OfRecord, OwnOr, Typed, Within}
 
--- what has no records and declares nothing
+-- a fragment that has no records and declares nothing
 pub holds_loose : (R P F : Type 0) (d b e low high : ℕ) (x : Core) → x.records ≡ [] → x.decl_groups ≡ []
     → ((q : TypePart) → In q x.parts → P × (q.declared_by ≡ d) × (q.number < high) × (q.part ≡ kinds.Record → ⊥)) → ((t : Declared) → In t x.declared → t.declared_by ≤ t.number) → Holds R P F d b e low high x
 unfolding In
@@ -21,7 +21,7 @@ holds_loose R P F d b e low high x none undeclared loose marks = record {
   fields = λ f r h t. absurd (let i : In f [] = subst (λ (fs : List DeclGroup). In f fs) undeclared h in i);
 }
 
--- what has none of the declaration around it
+-- a fragment that contributes nothing to the declaration around it
 pub holds_free : (R P F : Type 0) (d b e a c g low high : ℕ) (x : Core) → Holds ⊥ ⊥ ⊥ d b e low high x → Holds R P F a c g low high x
 holds_free R P F d b e a c g low high x f = record {
   marks = f.marks;

@@ -1,4 +1,4 @@
--- Declarations by what they contribute of records and forms.
+-- The records and type components that declarations contribute.
 use Rattle.std.proofs.Common.{◌≡◌, ℕ, suc, ◌+◌, ◌-◌, ◌<◌, ◌≤◌, inl, inr, List, ◌++◌, Some, None, true, refl, sym, subst, arith}
 use Rattle.ob_tree.specs.declared.name.Identdef.{Identdef}
 use Rattle.module_table.specs.declared.rows.Declared.{Declared}
@@ -24,7 +24,7 @@ pub identdef_some : (i : Identdef) → 0 < (identdef_rows i).width
 unfolding identdef_rows with_rows both token
 identdef_some i = omega arith
 
--- what is after the word that begins a procedure
+-- what follows the word PROCEDURE
 pub o-procedure : {q : Fragment} → Free q → Opens (opens_block (both token q))
 unfolding with_rows within both token joined no_rows
 o-procedure {q} g = record {
@@ -48,7 +48,7 @@ o-procedure {q} g = record {
       fields = λ f r i t. elim (h.fields f r i t) [ inl n ↦ absurd n.0 | inr o ↦ inr o ];
     }
 
--- a declaration's inner part begins with an identifier that it declares, and may own records
+-- the inside of a declaration begins with an identifier that it declares, and may own records
 pub record Types (p : Fragment) : Type 0 where
   pub some : 0 < p.width
   pub row : Context → ℕ → Declared
@@ -61,7 +61,7 @@ begins : (i : Identdef) (c : Context) (k : ℕ) (ds : List Declared) → In (rec
 unfolding identdef_rows with_rows joined In
 begins i c k ds = inl refl
 
--- named, as the name is opaque in what follows
+-- a definition of its own, since the name is opaque in what follows
 pub t-held : (i : Identdef) {q : Fragment} → Held q → Types (both (identdef_rows i) q)
 unfolding both joined
 t-held i {q} g = record {

@@ -1,4 +1,4 @@
--- The records and the forms in a module.
+-- The records and the type components in a module.
 use Rattle.std.proofs.Common.{◌≡◌, ◌+◌, ◌<◌, ◌≤◌, ℕ, zero, suc, false, inl, inr, List, [], ◌∷◌, Some, refl, arith}
 use Rattle.std.specs.Prelude.{Contains}
 use Rattle.ob_tree.specs.declared.name.OneOrMore.{OneOrMore}
@@ -96,7 +96,7 @@ steps = record {
 s-declarations : (d : Declarations) → Free (declarations_rows d)
 s-declarations = declarations_induction predicates steps
 
--- what is after MODULE
+-- what follows the word MODULE
 abbrev module_inner : Module → Fragment
 module_inner m =
     both token (both token (

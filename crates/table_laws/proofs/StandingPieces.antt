@@ -1,4 +1,4 @@
--- Parts of a tree by what they contribute of records and forms.
+-- The records and type components that fragments of a tree contribute.
 use Rattle.std.proofs.Common.{◌≡◌, ℕ, suc, ◌+◌, ◌-◌, ◌<◌, ◌≤◌, inl, inr, List, [], ◌∷◌, ◌++◌, map, Bool, Option, Some, None, refl, sym, ap, ap₂, ◌∙◌, subst, arith}
 use Rattle.ob_tree.specs.declared.name.Qualident.{Qualident}
 use Rattle.module_table.specs.declared.rows.Declared.{Declared}
@@ -21,7 +21,7 @@ no_in x xs e h = let i : In x [] = subst (λ (ys : List _). In x ys) e h in i
 
 -- ---- names, lengths and parameters
 
--- no record, no construct that declares, and parts of the declaration around
+-- no record, no declaration group, and components of the declaration around the fragment
 pub record Loose (p : Fragment) : Type 0 where
   pub records : (c : Context) (k : ℕ) → (p.rows c k).records ≡ []
   pub decl_groups : (c : Context) (k : ℕ) → (p.rows c k).decl_groups ≡ []
@@ -83,7 +83,7 @@ l-with_rows own {p} is f = record {
   marks = λ c k l t h. f.marks c k l t (subst (λ (xs : List Declared). In t (xs ++ (p.rows c k).declared)) (ap (λ (z : Told). z.declared) (is c k)) h);
 }
 
--- a part that declares an identifier, and has no part of a form
+-- a fragment that declares an identifier, and has no component of a type expression
 pub record Mute (p : Fragment) : Type 0 where
   pub loose : Loose p
   pub parts : (c : Context) (k : ℕ) → (p.rows c k).parts ≡ []
@@ -107,9 +107,9 @@ m-declared starred {p} f = record {
 pub l-is : {p q : Fragment} → p ≡ q → Loose q → Loose p
 l-is e m = subst Loose (sym e) m
 
--- ---- all parts
+-- ---- all fragments
 
--- whether the declaration around may own records here, may have parts of its form here, and whether fields may be here
+-- whether the surrounding declaration may own records here and have components here, and whether fields may be declared here
 pub record Stands (R P F : Type 0) (p : Fragment) : Type 0 where
   pub holds : (c : Context) (k : ℕ) → c.decl_group < k → Holds R P F c.decl_group c.block c.of_record k (k + p.width) (core (p.rows c k))
 
@@ -176,7 +176,7 @@ pub s-in_array : {R P F : Type 0} {p : Fragment} → Stands R P F p → Stands R
 unfolding within
 s-in_array f = record { holds = λ c k l. f.holds (in_array c k) k l }
 
--- a part that doesn't end the form, and what is after it
+-- a fragment that doesn't end the type expression, and what follows it
 part_holds : {R F : Type 0} (d b e k high : ℕ) (part : TypePart) (y : Core) → d < k → suc k ≤ high → part.declared_by ≡ d → part.number ≡ k → (part.part ≡ kinds.Record → ⊥) → Holds R Unit F d b e (suc k) high y
     → Holds R Unit F d b e k high (and (record { records = []; parts = part ∷ []; decl_groups = []; declared = [] }) y)
 unfolding In
@@ -225,7 +225,7 @@ s-record base {p} some g = record {
 
 -- ---- declarations
 
--- a declaration's inner part, if it owns nothing
+-- the inside of a declaration that owns nothing
 pub record Opens (p : Fragment) : Type 0 where
   pub some : 0 < p.width
   pub holds : (c : Context) (k : ℕ) → c.decl_group ≡ k → Holds ⊥ Unit ⊥ k c.block c.of_record k (k + p.width) (core (p.rows c k))

@@ -1,4 +1,4 @@
--- The records and the forms in types.
+-- The records and the components in type expressions.
 use Rattle.std.proofs.Common.{◌<◌, ℕ, zero, suc, false, refl, ap, arith}
 use Rattle.ob_tree.specs.declared.declaration.Parameters.{Parameters}
 use Rattle.ob_tree.specs.declared.declaration.TypeForm.TheOpen as layers

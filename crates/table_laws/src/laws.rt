@@ -17,7 +17,7 @@ pub fn one_record()
 
 /// The type of the owner of a record ends with that record. Conversely each record in the type of a declaration is a record of the table
 /// that this declaration owns.
-pub fn type_exprs_end()
+pub fn record_ends_owner_type()
     ensures here { (m : Module) (r : Record) → Contains (rows_of m).records r → EndsTypeExpr (rows_of m) r }
     ensures unique { (m : Module) (q : TypePart) → Contains (rows_of m).parts q → q.part ≡ part_kinds.Record → IsOfRecord (rows_of m) q }
 {}
@@ -29,6 +29,6 @@ pub fn fields_have_owners()
 {}
 
 /// An identifier does not precede the first token of the construct that declares it.
-pub fn identifiers_in_construct()
+pub fn identifiers_follow_group_start()
     ensures { (m : Module) (d : Declared) → Contains (rows_of m).declared d → d.declared_by ≤ d.number }
 {}

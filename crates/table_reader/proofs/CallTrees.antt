@@ -1,4 +1,4 @@
--- Lists of expressions, and what is in the parentheses of a call, of parts that were contributed.
+-- Lists of expressions, and the arguments of a call, from their tabulated parts.
 use Rattle.std.proofs.Common.{◌≡◌, ℕ, suc, ◌+◌, ◌<◌, false, List, [], ◌∷◌, ◌++◌, length, Option, Some, None, Ok, Err, refl, sym, ap, ◌∙◌, arith, length-append, ◌≤◌, ◌-◌, ◌^◌, min}
 use Rattle.std.specs.Global.{Box, Vec}
 use Rattle.std.specs.Prelude.{Result}
@@ -25,15 +25,15 @@ use Rattle.module_table.specs.Parts.{each as pieces}
 use Rattle.table_rules.specs.Expressions.{SelectorPhrase, between, list_phrase, expr_rows, expr_list_rows}
 use Rattle.table_rules.proofs.ExpressionLayers as effect
 use Rattle.module_table.proofs.Steps.{after_each, after_nothing, number_of}
-use Rattle.ob_parse.specs.declared.cursor.Cursor.{Cursor}
-use Rattle.ob_parse.specs.declared.stop.Stop.{Stop}
-use Rattle.ob_parse.specs.Combinators.{Read, Reader, seq, node, prefixed, optional, unless, many, several, accept_at, expect_at}
-use Rattle.ob_parse.specs.AgreesWith.{remaining}
-use Rattle.ob_parse.specs.ReadExpressions.{expr_at}
-use Rattle.ob_parse.proofs.Loops.{Advances, shortens_expect}
-use Rattle.ob_parse.proofs.Compatible.{optional_held, several_held, unless_starts}
-use Rattle.ob_parse.proofs.Sound.{Sound, Takes, sound, expr_at_sound}
-use Rattle.ob_parse.proofs.Taking.{given}
+use Rattle.ob_grammar.specs.declared.cursor.Cursor.{Cursor}
+use Rattle.ob_grammar.specs.declared.stop.Stop.{Stop}
+use Rattle.ob_grammar.specs.Combinators.{Read, Reader, seq, node, prefixed, optional, unless, many, several, accept_at, expect_at}
+use Rattle.ob_grammar.specs.AgreesWith.{remaining}
+use Rattle.ob_grammar.specs.ReadExpressions.{expr_at}
+use Rattle.ob_grammar.proofs.Loops.{Advances, shortens_expect}
+use Rattle.ob_grammar.proofs.Compatible.{optional_held, several_held, unless_starts}
+use Rattle.ob_grammar.proofs.Sound.{Sound, Takes, sound, expr_at_sound}
+use Rattle.ob_grammar.proofs.Taking.{given}
 use Rattle.table_reader.specs.SelectorShapes.{is_present, SelectorShape, selector_shape_events, selector_stage, Counted, counted_events, Counts, MoreExprs, more_events, CountsMore}
 use Rattle.table_reader.specs.SoleNames.{sole_name_of}
 use Rattle.table_reader.specs.Shapes.{exprs_events, exprs_rows, arguments_events, arguments_rows}
@@ -68,7 +68,7 @@ list_told ts c r old mid new input here (Ok y) a b =
 list_told ts c r old mid new input here (Err e) a b =
     told_then ts expr_events (λ x. after (expr_rows x) c) (λ (x : Unit {0}). []) (λ x s. s) r (many (accept_at kinds.Comma) r) old mid new here (Err e) (remaining ts input) a b
 
--- each has a token of its own at the start
+-- each expression begins with a token
 each_long : {X : Type 0} (f : X → Fragment) (xs : List X) → length xs ≤ (pieces (λ x. both token (f x)) xs).width
 unfolding both token
 each_long f [] = omega arith
@@ -78,7 +78,7 @@ after_number : (p : Fragment) (c : Context) (s : Stage) → (after p c s).number
 unfolding after
 after_number p c s = refl
 
--- what a loop over the expressions after the first one keeps
+-- the invariant of the loop over the expressions after the first one
 abbrev pub FurtherListing : List Token → Reader → Context → ℕ → TableBuilder → TableBuilder → Cursor → Cursor → Type 0
 FurtherListing ts r c count old now input here =
     Listing {X = Expr} ts (accept_at kinds.Comma) r (λ e. word kinds.Comma ++ expr_events e) (λ xs. after (pieces (λ e. both token (expr_rows e)) xs) c) (λ xs. suc (length xs) ≡ count) old now input here
@@ -87,7 +87,7 @@ pub further_begun : (ts : List Token) (r : Reader) (c : Context) (d : TableBuild
 further_begun ts r c d input =
     listing_begun ts (accept_at kinds.Comma) r (λ e. word kinds.Comma ++ expr_events e) (λ xs. after (pieces (λ e. both token (expr_rows e)) xs) c) (λ xs. suc (length xs) ≡ 1) d input (λ s. after_nothing c s) refl
 
--- a comma more than there are turns yet
+-- after a comma more tokens have been read than expressions are counted
 turns_few : (ts : List Token) (r : Reader) (c : Context) (count : ℕ) (old now : TableBuilder) (input here : Cursor) → (old.failed ≡ false → 0 < old.number) →
     FurtherListing ts r c count old now input here → now.failed ≡ false → count ≤ now.number
 turns_few ts r c count old now input here begun l e =
@@ -95,7 +95,7 @@ turns_few ts r c count old now input here begun l e =
     let p : Fragment = pieces (λ (x : Expr). both token (expr_rows x)) a.1.list in
     omega (arith, begun a.0, a.1.so, each_long (λ (x : Expr). expr_rows x) a.1.list, ap (λ (s : Stage). s.number) a.1.comes, number_of now, after_number p c (stage_of old), number_of old)
 
--- a first expression doesn't undo that there was a token before it
+-- after a first expression there is still a token before the cursor
 pub still_begun : (ts : List Token) (c : Context) (old new : TableBuilder) (rest : Cursor) (read : Read) → (old.failed ≡ false → 0 < old.number) →
     IsTabulated ts expr_events (λ x. after (expr_rows x) c) old new rest read → new.failed ≡ false → 0 < new.number
 still_begun ts c old new rest read begun t e =
@@ -131,7 +131,7 @@ some_arguments_told ts c r count old new input rest found t =
     (λ x. Some (boxed old.uses.alloc x.list)) (λ x. refl) (λ x s. refl) old new (Ok rest) (optional (unless kinds.RightParen) r (remaining ts input))
     (told_there ts (counted_events {n = count}) (λ x. after (expr_list_rows x.list) c) (unless kinds.RightParen) r [] old new input (Ok rest) (remaining ts input) found t)
 
--- a tree whose tokens are from here to there
+-- a tree whose tokens are those between two cursors
 record Spelt {A : Type 0} (ts : List Token) (f : A → Events) (input here : Cursor) : Type 0 where
   tree : A
   spelt : remaining ts input ≡ tokens_of (f tree) ++ remaining ts here
@@ -144,8 +144,8 @@ told_spelt ts f p d r old new input rest h t = record {
   tabulates = λ e. let k = t.tabulates e in (
     k.0,
     record {
-      tree = record { tree = k.1.tree; spelt = (given Takes h (remaining ts input) (t.out, remaining ts rest) t.is_read).parts ∙ ap (λ (o : Events). tokens_of o ++ remaining ts rest) (sym k.1.is_outline) };
-      is_outline = k.1.is_outline;
+      tree = record { tree = k.1.tree; spelt = (given Takes h (remaining ts input) (t.out, remaining ts rest) t.is_read).parts ∙ ap (λ (o : Events). tokens_of o ++ remaining ts rest) (sym k.1.has_events) };
+      has_events = k.1.has_events;
       comes = k.1.comes;
     },
   );
@@ -158,11 +158,11 @@ told_left : (ts : List Token) (k : Kind) (old new : TableBuilder) (here : Cursor
 told_left ts k old new here (Ok rest) t = record {
   out = t.out;
   is_read = t.is_read;
-  tabulates = λ e. let z = t.tabulates e in let less = shortens_expect k (remaining ts here) (t.out, remaining ts rest) t.is_read in (z.0, record { tree = omega (arith, less); is_outline = z.1.is_outline; comes = z.1.comes });
+  tabulates = λ e. let z = t.tabulates e in let less = shortens_expect k (remaining ts here) (t.out, remaining ts rest) t.is_read in (z.0, record { tree = omega (arith, less); has_events = z.1.has_events; comes = z.1.comes });
 }
 told_left ts k old new here (Err e) t = t
 
--- the name that was seen between two tokens
+-- the name that the tokens between two cursors form
 abbrev LoneSeen : List Token → Cursor → Cursor → Option TypeName → Type 0
 LoneSeen ts input here name = (ls : List Leaf) → remaining ts input ≡ ls ++ remaining ts here → 0 < length (remaining ts here) → name ≡ sole_name_of ls input.at
 

@@ -1,4 +1,4 @@
--- Designators and selectors of parts that were contributed.
+-- Designators and selectors from their tabulated parts.
 use Rattle.std.proofs.Common.{◌≡◌, ℕ, zero, suc, ◌+◌, ◌-◌, ◌<◌, ◌≤◌, ◌⊎◌, inl, inr, Bool, true, false, List, [], ◌∷◌, ◌++◌, length, map, set, Option, Some, None, Ok, refl, sym, ap, subst, ◌∙◌, arith, length-append}
 use Rattle.std.proofs.lemmas.List.{append-nil}
 use Rattle.std.specs.Global.{Global}
@@ -31,15 +31,15 @@ use Rattle.table_rules.proofs.ExpressionLayers as effect
 use Rattle.table_rules.proofs.ExpressionLayers.{length_map}
 use Rattle.table_rules.proofs.Settled.{map_more, settling_more, settling_none, designator_after}
 use Rattle.module_table.proofs.Steps.{after_both, after_token, number_of, selectors_of}
-use Rattle.ob_parse.specs.declared.cursor.Cursor.{Cursor}
-use Rattle.ob_parse.specs.declared.stop.Stop.{Stop}
-use Rattle.ob_parse.specs.declared.stop.Stop.TheVariants as stops
-use Rattle.ob_parse.proofs.Loops.{Advances}
-use Rattle.ob_parse.specs.Lookahead.{uncons, head_is, is_word}
-use Rattle.ob_parse.specs.Combinators.{Reader, seq, node, prefixed, many, begins, expect_at, identifier_at, name_at}
-use Rattle.ob_parse.specs.AgreesWith.{remaining, Fails}
-use Rattle.ob_parse.specs.ReadExpressions.{selector_first, selector_from, selector_with, designator_with, expr_at}
-use Rattle.ob_parse.proofs.Sound.{done}
+use Rattle.ob_grammar.specs.declared.cursor.Cursor.{Cursor}
+use Rattle.ob_grammar.specs.declared.stop.Stop.{Stop}
+use Rattle.ob_grammar.specs.declared.stop.Stop.TheVariants as stops
+use Rattle.ob_grammar.proofs.Loops.{Advances}
+use Rattle.ob_grammar.specs.Lookahead.{uncons, head_is, is_word}
+use Rattle.ob_grammar.specs.Combinators.{Reader, seq, node, prefixed, many, begins, expect_at, identifier_at, name_at}
+use Rattle.ob_grammar.specs.AgreesWith.{remaining, Fails}
+use Rattle.ob_grammar.specs.ReadExpressions.{selector_first, selector_from, selector_with, designator_with, expr_at}
+use Rattle.ob_grammar.proofs.Sound.{done}
 use Rattle.table_reader.specs.SelectorShapes.{dot_at, is_present, SelectorShape, selector_shape_events, selector_stage, SelectorsShape, selectors_shape_events, selectors_stage, Counted, counted_events}
 use Rattle.table_reader.specs.SelectorSlots.{placeholder, slots, inserted, removed, EnsuresSlot}
 use Rattle.table_reader.specs.Tabulating.{IsTabulated, Tabulates, TabulatesBy}
@@ -57,7 +57,7 @@ set_front [] ys at row h = absurd (omega (arith, h))
 set_front (x ∷ xs) ys zero row h = refl
 set_front (x ∷ xs) ys (suc n) row h = ap (λ (zs : List SelectorRow). x ∷ zs) (set_front xs ys n row (omega (arith, h)))
 
--- an entry that has its place already may get its step later
+-- the entry of a selector may be set after it is reserved
 settled_late : (p : Fragment) (c : Context) (s : Stage) (at : ℕ) (row : SelectorRow) → at < length s.rows.selectors → with_selector at row (after p c s) ≡ after p c (with_selector at row s)
 unfolding with_selector after joined
 settled_late p c s at row h =
@@ -68,7 +68,7 @@ settled_passed : (s : Stage) (at : ℕ) (row : SelectorRow) → with_selector at
 unfolding with_selector advanced
 settled_passed s at row = refl
 
--- what a selector contributes, by its layer
+-- the entries of a selector, by its fields
 pub picking_shown : {dot : Bool} (head at : ℕ) (c : Context) (x : SelectorShape dot) (y : SelectorPhrase) (s : Stage) → selected x.selector ≡ y →
     selector_stage head at c x s ≡ after y.piece c (with_selector at (row_at head y s) s)
 picking_shown head at c x y s e = ap (λ (z : SelectorPhrase). after z.piece c (with_selector at (row_at head z s) s)) e
@@ -91,7 +91,7 @@ target_told ts c head at old mid new input rest same h k = record {
         a.0,
         record {
           tree = target_picked;
-          is_outline = events.target_made;
+          has_events = events.target_made;
           comes = b.1 ∙ ap advanced a.1 ∙ sym (after_token c _) ∙ sym (picking_shown head at c target_picked (effect.selector_shown layers.Target) (stage_of old) effect.target_made);
         },
       );
@@ -118,7 +118,7 @@ field_told ts c head at number m old mid late new input following rest equal in_
         a.0,
         record {
           tree = field_picked m;
-          is_outline = events.field_made m;
+          has_events = events.field_made m;
           comes = z.1 ∙ ap advanced (b.1 ∙ ap advanced (a.1 ∙ ap (λ (n : ℕ). with_selector at (record { of = head; step = steps.Field n }) (stage_of old)) same))
               ∙ sym (after_both token token c _ ∙ after_token c _ ∙ ap advanced (after_token c _))
               ∙ sym (picking_shown head at c (field_picked m) (effect.selector_shown (layers.Field m)) (stage_of old) (effect.field_made m));
@@ -126,7 +126,7 @@ field_told ts c head at number m old mid late new input following rest equal in_
       );
 }
 
--- ---- between two words, with an entry that is settled before the second
+---- between two words, with an entry that is set before the second word
 
 settled_bracket : (p : Fragment) (c : Context) (s : Stage) (at : ℕ) (row : SelectorRow) → at < length s.rows.selectors →
     after (both token (both p token)) c (with_selector at row s) ≡ advanced (with_selector at row (after p c (advanced s)))
@@ -134,7 +134,7 @@ unfolding advanced
 settled_bracket p c s at row h =
     bracket_after p c (with_selector at row s) ∙ ap (λ (t : Stage). advanced (after p c t)) (sym (settled_passed s at row)) ∙ ap advanced (sym (settled_late p c (advanced s) at row h))
 
--- what is contributed between two words, of which the first was passed, with an entry that is settled before the second
+-- the part between two words, the first of which the builder has passed, with an entry that is set before the second word
 pub told_settled : {A : Type 0} (B : Type 0) (ts : List Token) (f : A → Events) (q : A → Fragment) (c : Context) (begin end : Kind) (r : Reader) (at : ℕ) (row : SelectorRow) (old mid list late new : TableBuilder) (input here : Cursor) (result : Result Cursor Stop) →
     (old.failed ≡ false → at < length old.selectors.items) → PerformsStep advanced old mid →
     IsTabulated ts f (λ x. after (q x) c) mid list here (r (remaining ts input)) → PerformsStep (with_selector at row) list late →
@@ -175,7 +175,7 @@ index_told ts c r head at count old mid list late new input here result in_range
 
 -- ---- the selectors of a designator
 
--- the first selector selects a name where a dot is there
+-- the first selector selects a name if a dot is next
 abbrev pub FirstNamed : List Token → Cursor → Cursor → List Selector → Type 0
 FirstNamed ts input here [] = here ≡ input
 FirstNamed ts input here (x ∷ xs) = is_present (selected x).name ≡ dot_at ts input
@@ -184,15 +184,15 @@ first_more : (ts : List Token) (input here next : Cursor) (xs : List Selector) (
 first_more ts input here next [] x e h = e ∙ ap (dot_at ts) h
 first_more ts input here next (y ∷ ys) x e h = h
 
--- where the next selector has its entry, where the places end now, and what is known of the first selector
+-- the slot of the next selector, the end of the reserved entries, and the first selector if there is one
 abbrev pub Placed : List Token → ℕ → ℕ → ℕ → Cursor → Cursor → List Selector → Type 0
 Placed ts at slot end input here xs = (slot ≡ at + length xs) × (at + (end - at) ≡ end) × (slot ≤ end) × FirstNamed ts input here xs
 
--- and it has its place already
+-- the same, if the slot of the next selector is reserved
 abbrev pub HasPlace : List Token → ℕ → ℕ → ℕ → Cursor → Cursor → List Selector → Type 0
 HasPlace ts at slot end input here xs = (slot < end) × Placed ts at slot end input here xs
 
--- after these selectors, if there are places up to this end
+-- the stage after these selectors, if entries are reserved up to this end
 abbrev pub choosing_to : ℕ → ℕ → ℕ → Context → List Selector → Stage → Stage
 choosing_to head at end c xs s = after_selectors head at (map selected xs) c (added (these_selectors (slots head (end - at))) s)
 
@@ -220,17 +220,17 @@ first_known : (ts : List Token) (input here : Cursor) (xs : List Selector) → h
 first_known ts input here [] e h = sym (no_dot (uncons (remaining ts input)) (ap (λ (i : Cursor). head_is selector_first (uncons (remaining ts i))) (sym h) ∙ e))
 first_known ts input here (x ∷ xs) e h = h
 
--- what a loop over the selectors keeps
+-- the invariant of the loop over the selectors
 abbrev pub ChosenListing : List Token → Reader → Context → ℕ → ℕ → ℕ → ℕ → TableBuilder → TableBuilder → Cursor → Cursor → Type 0
 ChosenListing ts r c head at slot end old now input here =
     Listing {X = Selector} ts (begins selector_first) r selector_events (choosing_to head at end c) (Placed ts at slot end input here) old now input here
 
--- the same, where the next selector has its place
+-- the same, if the slot of the next selector is reserved
 abbrev pub ReadyListing : List Token → Reader → Context → ℕ → ℕ → ℕ → ℕ → TableBuilder → TableBuilder → Cursor → Cursor → Type 0
 ReadyListing ts r c head at slot end old now input here =
     Listing {X = Selector} ts (begins selector_first) r selector_events (choosing_to head at end c) (HasPlace ts at slot end input here) old now input here
 
--- before there are places
+-- before entries are reserved
 abbrev NoListing : List Token → Reader → TableBuilder → Cursor → Type 0
 NoListing ts r d input = Listing {X = Selector} ts (begins selector_first) r selector_events (λ xs s. s) (λ xs. xs ≡ []) d d input input
 
@@ -291,7 +291,7 @@ chosen_next ts r c head at slot later end adv old now new input here next found 
     (selector_shape_events {dot = dot_at ts here}) (selector_stage head slot c) (λ x. x.selector) [] adv (λ x. refl) old now new input here here next
     (λ e xs x so. chosen_more ts c head at slot later end input here next xs x (in_range (t.tabulates e).0) so) found l t
 
--- the places are there
+-- the entries are reserved
 pub chosen_room : (ts : List Token) (r : Reader) (c : Context) (head at slot end : ℕ) (old now : TableBuilder) (input here : Cursor) → at ≡ length old.selectors.items →
     ChosenListing ts r c head at slot end old now input here → now.failed ≡ false → (slot ≤ end) × (end ≤ length now.selectors.items)
 chosen_room ts r c head at slot end old now input here h l =
@@ -330,7 +330,7 @@ none_settled : (head at : ℕ) (c : Context) (xs : List Selector) (s : Stage) �
 none_settled head at c [] s none = settling_none head at c _ ∙ no_places head s
 none_settled head at c (x ∷ xs) s none = absurd cc
 
--- if no selector is there
+-- if there is no selector
 pub none_chosen : (ts : List Token) (r : Reader) (c : Context) (head : ℕ) → Advances (begins selector_first) r → (d : TableBuilder) (input : Cursor) →
     head_is selector_first (uncons (remaining ts input)) ≡ false → begins selector_first (remaining ts input) ≡ None →
     IsTabulated ts (selectors_shape_events {dot = dot_at ts input}) (selectors_stage head c) d d input (many (begins selector_first) r (remaining ts input))
@@ -345,13 +345,13 @@ failed_name ts role stops.Memory ls h = tt
 failed_name ts role (stops.Unexpected i) ls h = rw h refl
 failed_name ts role (stops.TooDeep i) ls h = rw h refl
 
--- a selector that begins so
+-- a selector with this first token
 pub told_selector : {A : Type 0} (ts : List Token) (f : A → Events) (p : A → Stage → Stage) (r : Reader) (old new : TableBuilder) (result : Result Cursor Stop) (ls : List Leaf) (o : Option (Leaf × List Leaf)) → uncons ls ≡ o →
     TabulatesBy ts f p old new result (node constructs.Selector (λ z. selector_from r o) ls) → TabulatesBy ts f p old new result (selector_with r ls)
 unfolding selector_with
 told_selector ts f p r old new result ls o e t = rw e t
 
--- a selector after this token, which is a dot or not
+-- a selector after this token, which may be a dot
 pub selector_so : (ts : List Token) (c : Context) (head at : ℕ) (r : Reader) (old new : TableBuilder) (result : Result Cursor Stop) (input : Cursor) (dot : Bool) (o : Option (Leaf × List Leaf)) →
     uncons (remaining ts input) ≡ o → head_is (is_word kinds.Dot) o ≡ dot →
     TabulatesBy {T = SelectorShape dot} ts selector_shape_events (selector_stage head at c) old new result (node constructs.Selector (λ z. selector_from r o) (remaining ts input)) →

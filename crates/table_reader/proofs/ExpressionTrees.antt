@@ -1,4 +1,4 @@
--- Expressions of parts that were contributed: their event sequences and what they contribute.
+-- Expressions from their tabulated parts: their event sequences and their entries.
 use Rattle.std.proofs.Common.{◌≡◌, ℕ, zero, suc, ◌-◌, List, ◌++◌, Option, Some, None, Ok, Err, refl, sym, ap, ◌∙◌, arith}
 use Rattle.std.specs.Global.{Vec}
 use Rattle.std.specs.Prelude.{Result}
@@ -22,18 +22,18 @@ use Rattle.module_table.specs.Parts.{Fragment, both}
 use Rattle.table_rules.specs.Expressions.{expr_rows, sum_rows, term_rows, factor_rows}
 use Rattle.module_table.proofs.Steps.{after_both, after_token, after_nothing}
 use Rattle.table_rules.proofs.ExpressionLayers as effect
-use Rattle.ob_parse.specs.declared.cursor.Cursor.{Cursor}
-use Rattle.ob_parse.specs.declared.stop.Stop.{Stop}
-use Rattle.ob_parse.specs.Combinators.{Read, seq, optional, nothing, many}
-use Rattle.ob_parse.specs.AgreesWith.{remaining, Fails}
-use Rattle.ob_parse.specs.ReadExpressions.{relation_start, sign_start, add_start, mul_start, expr_with, sum_with, term_with, expr_at, sum_at, term_at, factor_at}
+use Rattle.ob_grammar.specs.declared.cursor.Cursor.{Cursor}
+use Rattle.ob_grammar.specs.declared.stop.Stop.{Stop}
+use Rattle.ob_grammar.specs.Combinators.{Read, seq, optional, nothing, many}
+use Rattle.ob_grammar.specs.AgreesWith.{remaining, Fails}
+use Rattle.ob_grammar.specs.ReadExpressions.{relation_start, sign_start, add_start, mul_start, expr_with, sum_with, term_with, expr_at, sum_at, term_at, factor_at}
 use Rattle.table_reader.specs.Shapes.{Compared, compared_events, compared_rows, sign_events, sign_rows, terms_events, terms_rows, factors_events, factors_rows}
 use Rattle.table_reader.specs.Tabulating.{IsTabulated, Tabulates}
 use Rattle.table_reader.proofs.Combine.{told_as, told_node, told_then, told_there, told_behind, failed_node, failed_then}
 use Rattle.table_reader.proofs.Lists.{word_after}
 use Rattle.table_reader.proofs.Made.{boxed}
 
--- what two parts contribute, one after the other
+-- the entries of two parts, one after the other
 pub both_after : (all_tokens p q : Fragment) (c : Context) (s : Stage) → all_tokens ≡ both p q → after all_tokens c s ≡ after q c (after p c s)
 both_after all_tokens p q c s e = ap (λ (x : Fragment). after x c s) e ∙ after_both p q c s
 
@@ -124,7 +124,7 @@ pub sign_none : (ts : List Token) (c : Context) (d : TableBuilder) (o : Option S
 sign_none ts c d o rest read h e = record {
   out = sign_events o;
   is_read = sym e;
-  tabulates = λ q. (q, record { tree = o; is_outline = refl; comes = sym (ap (λ (z : Option Sign). after (sign_rows z) c (stage_of d)) h ∙ after_nothing c (stage_of d)) });
+  tabulates = λ q. (q, record { tree = o; has_events = refl; comes = sym (ap (λ (z : Option Sign). after (sign_rows z) c (stage_of d)) h ∙ after_nothing c (stage_of d)) });
 }
 
 pub sign_some : (ts : List Token) (c : Context) (old new : TableBuilder) (o : Option Sign) (x : Sign) (rest : Cursor) (read : Read) → o ≡ Some x → Ok (sign_events o, remaining ts rest) ≡ read →
@@ -132,7 +132,7 @@ pub sign_some : (ts : List Token) (c : Context) (old new : TableBuilder) (o : Op
 sign_some ts c old new o x rest read h e k = record {
   out = sign_events o;
   is_read = sym e;
-  tabulates = λ q. let b = k q in (b.0, record { tree = o; is_outline = refl; comes = b.1 ∙ sym (ap (λ (z : Option Sign). after (sign_rows z) c (stage_of old)) h ∙ after_token c (stage_of old)) });
+  tabulates = λ q. let b = k q in (b.0, record { tree = o; has_events = refl; comes = b.1 ∙ sym (ap (λ (z : Option Sign). after (sign_rows z) c (stage_of old)) h ∙ after_token c (stage_of old)) });
 }
 
 -- a relation and its right side

@@ -1,4 +1,4 @@
--- Factors, sets and elements of parts that were contributed.
+-- Factors, sets and elements from their tabulated parts.
 use Rattle.std.proofs.Common.{◌≡◌, ℕ, zero, suc, ◌-◌, false, true, List, [], ◌++◌, Option, Some, None, Ok, refl, sym, ap, subst, ◌∙◌, arith}
 use Rattle.std.specs.Global.{Box, Vec}
 use Rattle.std.specs.Prelude.{Result}
@@ -24,12 +24,12 @@ use Rattle.module_table.specs.Parts.{Fragment, token, both}
 use Rattle.table_rules.specs.Expressions.{expr_rows, factor_rows, element_rows, element_list_rows, designator_rows}
 use Rattle.module_table.proofs.Steps.{after_both, after_token}
 use Rattle.table_rules.proofs.ExpressionLayers as effect
-use Rattle.ob_parse.specs.declared.cursor.Cursor.{Cursor}
-use Rattle.ob_parse.specs.declared.stop.Stop.{Stop}
-use Rattle.ob_parse.specs.Lookahead.{uncons, head_is, is_word}
-use Rattle.ob_parse.specs.Combinators.{Reader, seq, node, prefixed, optional, unless, several, many, accept_at, expect_at}
-use Rattle.ob_parse.specs.AgreesWith.{remaining, Fails}
-use Rattle.ob_parse.specs.ReadExpressions.{factor_from, factor_with, element_with, expr_at, negated_at, factor_at}
+use Rattle.ob_grammar.specs.declared.cursor.Cursor.{Cursor}
+use Rattle.ob_grammar.specs.declared.stop.Stop.{Stop}
+use Rattle.ob_grammar.specs.Lookahead.{uncons, head_is, is_word}
+use Rattle.ob_grammar.specs.Combinators.{Reader, seq, node, prefixed, optional, unless, several, many, accept_at, expect_at}
+use Rattle.ob_grammar.specs.AgreesWith.{remaining, Fails}
+use Rattle.ob_grammar.specs.ReadExpressions.{factor_from, factor_with, element_with, expr_at, negated_at, factor_at}
 use Rattle.table_reader.specs.Shapes.{set_events, set_rows, elements_events, elements_rows, high_events, high_rows}
 use Rattle.table_reader.specs.Tabulating.{Tabulates, TabulatesBy}
 use Rattle.table_reader.proofs.Made.{boxed}
@@ -43,7 +43,7 @@ pub bracket_after : (p : Fragment) (c : Context) (s : Stage) → after (both tok
 bracket_after p c s =
     after_both token (both p token) c s ∙ after_both p token c (after token c s) ∙ after_token c (after p c (after token c s)) ∙ ap (λ (t : Stage). advanced (after p c t)) (after_token c s)
 
--- what is between two words, of which the first was passed already
+-- the part between two words, the first of which the builder has passed
 pub told_between : {A : Type 0} (ts : List Token) (f : A → Events) (q : A → Fragment) (c : Context) (begin end : Kind) (r : Reader) (old mid last new : TableBuilder) (input here : Cursor) (result : Result Cursor Stop) →
     PerformsStep advanced old mid → Tabulates ts f q c mid last (Ok here) (r (remaining ts input)) →
     TabulatesBy ts (λ (x : Unit {0}). word end) (λ x s. advanced s) last new result (expect_at end (remaining ts here)) →
@@ -56,7 +56,7 @@ told_between {A} ts f q c begin end r old mid last new input here result h a b =
 
 -- ---- factors
 
--- a factor that begins so
+-- a factor with this first token
 pub told_factor : {A : Type 0} (ts : List Token) (f : A → Events) (p : A → Stage → Stage) (d : ℕ) (old new : TableBuilder) (result : Result Cursor Stop) (ls : List Leaf) (o : Option (Leaf × List Leaf)) → uncons ls ≡ o →
     TabulatesBy ts f p old new result (node constructs.Factor (λ z. factor_from (expr_at d) (negated_at d) o) ls) → TabulatesBy ts f p old new result (factor_at d ls)
 unfolding factor_with
@@ -69,7 +69,7 @@ pub leaf_told : (ts : List Token) (c : Context) (old new : TableBuilder) (rest :
 leaf_told ts c old new rest r ls ms tree e events effect h = record {
   out = construct constructs.Factor ms;
   is_read = rw e refl;
-  tabulates = λ q. let k = h q in (k.0, record { tree = tree; is_outline = events; comes = k.1 ∙ sym (after_token c (stage_of old)) ∙ ap (λ (p : Fragment). after p c (stage_of old)) (sym effect) });
+  tabulates = λ q. let k = h q in (k.0, record { tree = tree; has_events = events; comes = k.1 ∙ sym (after_token c (stage_of old)) ∙ ap (λ (p : Fragment). after p c (stage_of old)) (sym effect) });
 }
 
 -- a designator
@@ -100,7 +100,7 @@ group_told ts c r old mid last new input here result h a b =
     factor_events (λ x. after (factor_rows x) c) (λ x. factors.Group (boxed old.uses.alloc x)) (λ x. group_made (boxed old.uses.alloc x)) (λ x s. ap (λ (p : Fragment). after p c s) (effect.group_made (boxed old.uses.alloc x))) old new result _
     (told_node ts _ _ constructs.Factor (prefixed (word kinds.LeftParen) (seq r (expect_at kinds.RightParen))) old new result (remaining ts input) (told_between ts expr_events expr_rows c kinds.LeftParen kinds.RightParen r old mid last new input here result h a b))
 
--- if what is between two words fails
+-- if the part between two words fails
 pub between_failed : (ts : List Token) (c : Construct) (ms : Events) (r s : Reader) (e : Stop) (ls : List Leaf) → Fails ts e (r ls) → Fails ts e (node c (prefixed ms (seq r s)) ls)
 between_failed ts c ms r s e ls h = failed_node ts c (prefixed ms (seq r s)) e ls (failed_prefixed ts ms (seq r s) e ls (failed_then ts r s e ls h))
 
@@ -164,9 +164,9 @@ pub several_failed : (ts : List Token) (k : Kind) (r : Reader) (e : Stop) (ls : 
 unfolding several
 several_failed ts k r e ls h = failed_then ts r (many (accept_at k) r) e ls h
 
--- ---- what may be absent
+---- optional parts
 
--- a token of this kind closes what is empty
+-- a token of this kind closes an empty part
 pub closed : (k : Kind) (ls : List Leaf) → head_is (is_word k) (uncons ls) ≡ true → unless k ls ≡ None
 unfolding unless
 closed k ls e = rw e refl

@@ -1,4 +1,4 @@
--- Names and labels of parts that were contributed.
+-- Names and labels from their tabulated parts.
 use Rattle.std.proofs.Common.{◌≡◌, ℕ, List, [], ◌++◌, Option, Some, None, Ok, refl, sym, ap, ◌∙◌}
 use Rattle.std.specs.Prelude.{Result}
 use Rattle.ob_scan.specs.declared.kind.Kind.TheVariants as kinds
@@ -20,14 +20,14 @@ use Rattle.table_rules.specs.Expressions.{used as uses}
 use Rattle.table_rules.specs.Statements.{qualident_rows, label_rows, label_range_rows}
 use Rattle.table_rules.proofs.StatementLayers as effect
 use Rattle.module_table.proofs.Steps.{after_both, after_token, after_nothing}
-use Rattle.ob_parse.specs.declared.cursor.Cursor.{Cursor}
-use Rattle.ob_parse.specs.declared.stop.Stop.{Stop}
-use Rattle.ob_parse.specs.declared.stop.Stop.TheVariants as stops
-use Rattle.ob_parse.specs.Combinators.{Read, several, optional, many, accept_at, name_at, identifier_at}
-use Rattle.ob_parse.specs.AgreesWith.{remaining, Fails}
-use Rattle.ob_parse.specs.ReadNames.{qualident_after}
-use Rattle.ob_parse.specs.Lookahead.{uncons}
-use Rattle.ob_parse.specs.ReadStatements.{case_label_at, label_from, label_range_at}
+use Rattle.ob_grammar.specs.declared.cursor.Cursor.{Cursor}
+use Rattle.ob_grammar.specs.declared.stop.Stop.{Stop}
+use Rattle.ob_grammar.specs.declared.stop.Stop.TheVariants as stops
+use Rattle.ob_grammar.specs.Combinators.{Read, several, optional, many, accept_at, name_at, identifier_at}
+use Rattle.ob_grammar.specs.AgreesWith.{remaining, Fails}
+use Rattle.ob_grammar.specs.ReadNames.{qualident_after}
+use Rattle.ob_grammar.specs.Lookahead.{uncons}
+use Rattle.ob_grammar.specs.ReadStatements.{case_label_at, label_from, label_range_at}
 use Rattle.table_reader.specs.StatementShapes.{high_label_events, high_label_rows, ranges_events, ranges_rows, labels_events, labels_rows, then_events, then_rows}
 use Rattle.table_reader.specs.Tabulating.{IsTabulated, Tabulates}
 use Rattle.table_reader.proofs.Combine.{failed_then}
@@ -44,7 +44,7 @@ dotted n m = record { head = n; member = Some m }
 lone_after : (n : ℕ) (c : Context) (s : Stage) → after (qualident_rows (sole n)) c s ≡ after (uses None) c s
 lone_after n c s = ap (λ (p : Fragment). after p c s) (effect.qualident_out (sole n)) ∙ after_both (uses None) nothing c s ∙ after_nothing c (after (uses None) c s)
 
--- which name is after the dot doesn't matter
+-- the index of the name after the dot doesn't matter
 dotted_after : (n m : ℕ) (c : Context) (s : Stage) → after (qualident_rows (dotted n m)) c s ≡ advanced (advanced (after (uses (Some 0)) c s))
 dotted_after n m c s =
     ap (λ (p : Fragment). after p c s) (effect.qualident_out (dotted n m)) ∙ after_both (uses (Some m)) (both token token) c s ∙ after_both token token c (after (uses (Some m)) c s)
@@ -56,7 +56,7 @@ unfolding qualident_after
 lone_told ts c n old new input e h = record {
   out = used n ++ [];
   is_read = rw e refl;
-  tabulates = λ q. let b = h q in (b.0, record { tree = sole n; is_outline = shown_names.qualident_out (sole n); comes = b.1 ∙ sym (lone_after n c (stage_of old)) });
+  tabulates = λ q. let b = h q in (b.0, record { tree = sole n; has_events = shown_names.qualident_out (sole n); comes = b.1 ∙ sym (lone_after n c (stage_of old)) });
 }
 
 pub dotted_told : (ts : List Token) (c : Context) (n m : ℕ) (old first mid new : TableBuilder) (input here rest : Cursor) → accept_at kinds.Dot (remaining ts input) ≡ Some (word kinds.Dot, remaining ts here) →
@@ -70,7 +70,7 @@ dotted_told ts c n m old first mid new input here rest e f h k l = record {
       let z = l q in
       let y = k z.0 in
       let x = h y.0 in
-      (x.0, record { tree = dotted n m; is_outline = shown_names.qualident_out (dotted n m); comes = z.1 ∙ ap advanced (y.1 ∙ ap advanced x.1) ∙ sym (dotted_after n m c (stage_of old)) });
+      (x.0, record { tree = dotted n m; has_events = shown_names.qualident_out (dotted n m); comes = z.1 ∙ ap advanced (y.1 ∙ ap advanced x.1) ∙ sym (dotted_after n m c (stage_of old)) });
 }
 
 pub dotted_failed : (ts : List Token) (n : ℕ) (e : Stop) (input here : Cursor) → accept_at kinds.Dot (remaining ts input) ≡ Some (word kinds.Dot, remaining ts here) →
@@ -82,7 +82,7 @@ dotted_failed ts n (stops.TooDeep i) input here f h = rw (f, h) refl
 
 -- ---- label = integer | string | qualident
 
--- by the token that is here
+-- by the next token
 pub label_seen : (ls : List Leaf) (o : Option (Leaf × List Leaf)) → uncons ls ≡ o → case_label_at ls ≡ label_from o
 unfolding case_label_at
 label_seen ls o e = ap label_from e
@@ -94,7 +94,7 @@ pub value_told : (ts : List Token) (c : Context) (old new : TableBuilder) (rest 
 value_told ts c old new rest read ms tree e events effect h = record {
   out = ms;
   is_read = e;
-  tabulates = λ q. let k = h q in (k.0, record { tree = tree; is_outline = events; comes = k.1 ∙ sym (after_token c (stage_of old)) ∙ ap (λ (p : Fragment). after p c (stage_of old)) (sym effect) });
+  tabulates = λ q. let k = h q in (k.0, record { tree = tree; has_events = events; comes = k.1 ∙ sym (after_token c (stage_of old)) ∙ ap (λ (p : Fragment). after p c (stage_of old)) (sym effect) });
 }
 
 pub name_told : (ts : List Token) (c : Context) (old new : TableBuilder) (result : Result Cursor Stop) (read all_tokens : Read) → all_tokens ≡ read →

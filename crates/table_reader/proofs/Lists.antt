@@ -1,17 +1,17 @@
--- Lists that a loop reads and contributes, one thing after the other.
+-- Lists whose items a loop reads and tabulates, one after the other.
 use Rattle.std.proofs.Common.{◌≡◌, ℕ, ◌≤◌, ◌<◌, ◌+◌, false, List, [], ◌∷◌, ◌++◌, length, Ok, Err, Some, None, refl, sym, ap, ◌∙◌, arith, length-append}
 use Rattle.std.specs.Global.{Vec}
 use Rattle.ob_scan.specs.declared.token.Token.{Token}
 use Rattle.ob_tree.specs.TreeEvents.{Events, each, word}
 use Rattle.ob_tree.proofs.Eaches.{each_push}
-use Rattle.ob_parse.specs.declared.cursor.Cursor.{Cursor}
-use Rattle.ob_parse.specs.declared.stop.Stop.{Stop}
-use Rattle.ob_parse.specs.Combinators.{Read, Reader, Start, many}
-use Rattle.ob_parse.specs.AgreesWith.{Fails, remaining}
-use Rattle.ob_parse.proofs.Arrays.{few_ahead}
-use Rattle.ob_parse.proofs.Loops.{Advances, with_front, goes_on, is_done, marked_some, marked_none}
-use Rattle.ob_parse.proofs.LoopEnds.{ends}
-use Rattle.ob_parse.proofs.Turns.{Operation, Repetition, operation_shown, operation_start}
+use Rattle.ob_grammar.specs.declared.cursor.Cursor.{Cursor}
+use Rattle.ob_grammar.specs.declared.stop.Stop.{Stop}
+use Rattle.ob_grammar.specs.Combinators.{Read, Reader, Start, many}
+use Rattle.ob_grammar.specs.AgreesWith.{Fails, remaining}
+use Rattle.ob_grammar.proofs.Arrays.{few_ahead}
+use Rattle.ob_grammar.proofs.Loops.{Advances, with_front, goes_on, is_done, marked_some, marked_none}
+use Rattle.ob_grammar.proofs.LoopEnds.{ends}
+use Rattle.ob_grammar.proofs.Turns.{Operation, Repetition, operation_shown, operation_start}
 use Rattle.module_table.specs.declared.builder.TableBuilder.{TableBuilder}
 use Rattle.module_table.specs.declared.builder.Context.{Context}
 use Rattle.module_table.specs.Parts.{Fragment, token, both}
@@ -26,23 +26,23 @@ use Rattle.table_reader.proofs.Made.{list_phrase}
 pub word_after : (p : Fragment) (c : Context) (s : Stage) → after (both token p) c s ≡ after p c (advanced s)
 word_after p c s = after_both token p c s ∙ ap (after p c) (after_token c s)
 
--- ---- what a loop keeps
+---- the invariant of a loop
 
--- a list that is never made: its event sequence was read, the draft came by it, and this is so of it
+-- a list that the program doesn't build: its events were read, its entries were appended, and a property holds of it
 pub record IsListed {X : Type 0} (f : X → Events) (step : List X → Stage → Stage) (So : List X → Type 0) (head_is : Events) (left : ℕ) (old now : TableBuilder) : Type 0 where
   pub list : List X
-  pub is_outline : each f list ≡ head_is
+  pub has_events : each f list ≡ head_is
   pub comes : stage_of now ≡ step list (stage_of old)
   pub so : So list
   pub few : length list + left ≤ 4294967295
 
--- that much of a list was read up to here
+-- this part of a list has been read
 pub record Listing {X : Type 0} (ts : List Token) (start : Start) (r : Reader) (f : X → Events) (step : List X → Stage → Stage) (So : List X → Type 0) (old now : TableBuilder) (input here : Cursor) : Type 0 where
   pub head_is : Events
   pub is_read : with_front head_is (many start r (remaining ts here)) ≡ many start r (remaining ts input)
   pub tabulates : now.failed ≡ false → (old.failed ≡ false) × IsListed f step So head_is (length (remaining ts here)) old now
 
--- a list, and this is so of it
+-- a list with this property
 pub record Gathered {X : Type 0} (So : List X → Type 0) : Type 0 where
   pub list : Vec X
   pub so : So list.items
@@ -52,15 +52,15 @@ no_front (Ok x) = refl
 no_front (Err e) = refl
 
 module _ {X : Type 0} (ts : List Token) (start : Start) (r : Reader) (f : X → Events) (step : List X → Stage → Stage) where
-  -- before the first turn
+  -- before the first iteration
   pub listing_begun : (So : List X → Type 0) (d : TableBuilder) (input : Cursor) → ((s : Stage) → step [] s ≡ s) → So [] → Listing ts start r f step So d d input input
   listing_begun So d input h k = record {
     head_is = [];
     is_read = no_front (many start r (remaining ts input));
-    tabulates = λ e. (e, record { list = []; is_outline = refl; comes = sym (h (stage_of d)); so = k; few = let few = few_ahead ts input in omega (arith, few) });
+    tabulates = λ e. (e, record { list = []; has_events = refl; comes = sym (h (stage_of d)); so = k; few = let few = few_ahead ts input in omega (arith, few) });
   }
 
-  -- one turn: these marks are first, and after them an item was read and contributed
+  -- one iteration: these events come first, and then an item is read and tabulated
   pub listing_more : {A : Type 0} (So Still : List X → Type 0) (g : A → Events) (q : A → Stage → Stage) (make : A → X) (ms : Events) → Advances start r → ((a : A) → f (make a) ≡ ms ++ g a) →
       (old now new : TableBuilder) (input here following next : Cursor) → (new.failed ≡ false → (xs : List X) (a : A) → So xs → Still (xs ++ make a ∷ []) × ((s : Stage) → step (xs ++ make a ∷ []) s ≡ q a (step xs s))) →
       start (remaining ts here) ≡ Some (ms, remaining ts following) → Listing ts start r f step So old now input here →
@@ -77,7 +77,7 @@ module _ {X : Type 0} (ts : List Token) (start : Start) (r : Reader) (f : X → 
           a.0,
           record {
             list = a.1.list ++ x ∷ [];
-            is_outline = each_push f a.1.list x ∙ ap (λ (o : Events). each f a.1.list ++ o) (events b.1.tree) ∙ ap (λ (o : Events). o ++ (ms ++ g b.1.tree)) a.1.is_outline ∙ ap (λ (o : Events). l.head_is ++ (ms ++ o)) b.1.is_outline;
+            has_events = each_push f a.1.list x ∙ ap (λ (o : Events). each f a.1.list ++ o) (events b.1.tree) ∙ ap (λ (o : Events). o ++ (ms ++ g b.1.tree)) a.1.has_events ∙ ap (λ (o : Events). l.head_is ++ (ms ++ o)) b.1.has_events;
             comes = b.1.comes ∙ ap (q b.1.tree) a.1.comes ∙ sym (grown.1 (stage_of old));
             so = grown.0;
             few = let h = a.1.few in omega (arith, h, less, length-append a.1.list (x ∷ []));
@@ -85,7 +85,7 @@ module _ {X : Type 0} (ts : List Token) (start : Start) (r : Reader) (f : X → 
         );
   }
 
-  -- what was contributed is written right between two turns, by what is known then
+  -- between two iterations the entries are corrected, by what is known then
   pub listing_mended : (mended : List X → Stage → Stage) (So Still : List X → Type 0) (old now new : TableBuilder) (input here : Cursor) →
       (new.failed ≡ false → (now.failed ≡ false) × ((xs : List X) → So xs → stage_of now ≡ step xs (stage_of old) → Still xs × (stage_of new ≡ mended xs (stage_of old)))) →
       Listing ts start r f step So old now input here → Listing ts start r f mended Still old new input here
@@ -95,21 +95,21 @@ module _ {X : Type 0} (ts : List Token) (start : Start) (r : Reader) (f : X → 
     tabulates = λ e.
         let k = h e in
         let a = l.tabulates k.0 in
-        let m = k.1 a.1.list a.1.so a.1.comes in (a.0, record { list = a.1.list; is_outline = a.1.is_outline; comes = m.1; so = m.0; few = a.1.few });
+        let m = k.1 a.1.list a.1.so a.1.comes in (a.0, record { list = a.1.list; has_events = a.1.has_events; comes = m.1; so = m.0; few = a.1.few });
   }
 
-  -- what is so of the list, if the draft was refused nothing
+  -- the property of the list, if no allocation of the builder failed
   pub listing_known : {Fact : Type 0} (So : List X → Type 0) (old now : TableBuilder) (input here : Cursor) → ((xs : List X) → So xs → stage_of now ≡ step xs (stage_of old) → Fact) →
       Listing ts start r f step So old now input here → now.failed ≡ false → Fact
   listing_known So old now input here h l e = let a = l.tabulates e in h a.1.list a.1.so a.1.comes
 
-  -- a turn that fails
+  -- an iteration that fails
   pub listing_failed : (So : List X → Type 0) (e : Stop) (ms : Events) → Advances start r → (old now : TableBuilder) (input here following : Cursor) → start (remaining ts here) ≡ Some (ms, remaining ts following) →
       Listing ts start r f step So old now input here → Fails ts e (r (remaining ts following)) → Fails ts e (many start r (remaining ts input))
   listing_failed So e ms adv old now input here following found l h =
       ends start r adv ts e l.head_is (remaining ts here) (ms, remaining ts following) (many start r (remaining ts input)) found h l.is_read
 
-  -- after the last turn
+  -- after the last iteration
   pub listing_done : (So : List X → Type 0) → Advances start r → (old now : TableBuilder) (input here : Cursor) → start (remaining ts here) ≡ None → Listing ts start r f step So old now input here →
       TabulatesBy ts (λ (v : Gathered So). each f v.list.items) (λ v. step v.list.items) old now (Ok here) (many start r (remaining ts input))
   listing_done So adv old now input here none l = record {
@@ -119,18 +119,18 @@ module _ {X : Type 0} (ts : List Token) (start : Start) (r : Reader) (f : X → 
       a.0,
       record {
         tree = record { list = list_phrase old.uses.alloc a.1.list (let h = a.1.few in omega (arith, h)); so = a.1.so };
-        is_outline = a.1.is_outline;
+        has_events = a.1.has_events;
         comes = a.1.comes;
       },
     );
   }
 
--- a turn takes tokens
+-- an iteration takes tokens
 pub listing_smaller : {A : Type 0} (ts : List Token) (start : Start) (r : Reader) (g : A → Events) (q : A → Stage → Stage) (ms : Events) → Advances start r → (now new : TableBuilder) (here following next : Cursor) →
     start (remaining ts here) ≡ Some (ms, remaining ts following) → TabulatesBy ts g q now new (Ok next) (r (remaining ts following)) → length (remaining ts next) < length (remaining ts here)
 listing_smaller ts start r g q ms adv now new here following next found t = adv.shorter (remaining ts here) (ms, remaining ts following) (t.out, remaining ts next) found t.is_read
 
--- ---- lists of which nothing else is kept
+---- lists without a further property
 
 abbrev pub Any : {X : Type 0} → List X → Type 0
 Any xs = Unit {0}
@@ -150,7 +150,7 @@ module _ {X : Type 0} (ts : List Token) (start : Start) (r : Reader) (f : X → 
       listing_more ts start r f (λ xs. after (pieces p xs) c) Any Any g q make ms adv events old now new input here following next
       (λ e xs a so. (tt, λ s. after_each p xs (make a) c s ∙ stepped a (after (pieces p xs) c s))) found l t
 
-  -- the same after a token, which is passed
+  -- the same after a token, by which the builder advances
   pub pieces_behind : {A : Type 0} (g : A → Events) (q : A → Fragment) (make : A → X) (ms : Events) → Advances start r →
       ((a : A) → f (make a) ≡ ms ++ g a) → ((a : A) → p (make a) ≡ both token (q a)) →
       (old now mid new : TableBuilder) (input here following next : Cursor) → start (remaining ts here) ≡ Some (ms, remaining ts following) → PieceListing ts start r f p c old now input here →
@@ -165,7 +165,7 @@ module _ {X : Type 0} (ts : List Token) (start : Start) (r : Reader) (f : X → 
       told_as ts (λ (v : Gathered {X = X} Any). each f v.list.items) (λ v. after (pieces p v.list.items) c) (λ v. each f v.items) (λ v. after (pieces p v.items) c) (λ v. v.list) (λ v. refl) (λ v s. refl)
       old now (Ok here) _ (listing_done ts start r f (λ xs. after (pieces p xs) c) Any adv old now input here none l)
 
--- ---- what the grammar repeats
+---- repetitions in the grammar
 
 -- after a token
 abbrev pub behind_token : {X : Type 0} → (X → Fragment) → X → Fragment
@@ -178,7 +178,7 @@ module _ {X : Type 0} (ts : List Token) (r : Repetition X) (p : X → Fragment) 
   pub repeat_begun : (d : TableBuilder) (input : Cursor) → RepeatListing ts r p c d d input input
   repeat_begun d input = pieces_begun ts r.start r.read (λ x. r.marks ++ r.shown x) p c d input
 
-  -- a turn takes tokens
+  -- an iteration takes tokens
   pub repeat_shorter : (now new : TableBuilder) (here following next : Cursor) → r.start (remaining ts here) ≡ Some (r.marks, remaining ts following) → Tabulates ts r.shown p c now new (Ok next) (r.read (remaining ts following)) →
       length (remaining ts next) < length (remaining ts here)
   repeat_shorter now new here following next found t = listing_smaller ts r.start r.read r.shown (λ x. after (p x) c) r.marks r.advances now new here following next found t
@@ -193,7 +193,7 @@ module _ {X : Type 0} (ts : List Token) (r : Repetition X) (p : X → Fragment) 
   repeat_behind old now mid new input here following next found l h t =
       pieces_behind ts r.start r.read (λ x. r.marks ++ r.shown x) (behind_token p) c r.shown p (λ x. x) r.marks r.advances (λ x. refl) (λ x. refl) old now mid new input here following next found l h t
 
-  -- a turn that fails
+  -- an iteration that fails
   pub repeat_failed : (e : Stop) (old now : TableBuilder) (input here following : Cursor) → r.start (remaining ts here) ≡ Some (r.marks, remaining ts following) → RepeatListing ts r p c old now input here →
       Fails ts e (r.read (remaining ts following)) → Fails ts e (many r.start r.read (remaining ts input))
   repeat_failed e old now input here following found l h = listing_failed ts r.start r.read (λ x. r.marks ++ r.shown x) (λ xs. after (pieces p xs) c) Any e r.marks r.advances old now input here following found l h
@@ -202,7 +202,7 @@ module _ {X : Type 0} (ts : List Token) (r : Repetition X) (p : X → Fragment) 
       TabulatesBy ts (λ (v : Vec X). each (λ x. r.marks ++ r.shown x) v.items) (λ v. after (pieces p v.items) c) old now (Ok here) (many r.start r.read (remaining ts input))
   repeat_done old now input here none l = pieces_done ts r.start r.read (λ x. r.marks ++ r.shown x) p c r.advances old now input here none l
 
--- ---- operators, and what is after each
+---- operators, and the operand after each
 
 abbrev pub OperationListing : {Op X : Type 0} → List Token → Operation Op X → (X → Fragment) → Context → TableBuilder → TableBuilder → Cursor → Cursor → Type 0
 OperationListing ts o p c old now input here = PieceListing ts (operation_start o) o.read (operation_shown o) (λ x. both token (p x.1)) c old now input here

@@ -1,4 +1,4 @@
--- Entries that were guessed and are written right come to what was right from the start.
+-- Reserved entries that are corrected later equal the entries that are appended at once.
 use Rattle.std.proofs.Common.{◌≡◌, ℕ, zero, suc, ◌+◌, ◌≤◌, ◌<◌, List, [], ◌∷◌, ◌++◌, length, map, set, take, drop, refl, sym, ap, ◌∙◌, arith, append_assoc, length-append, length-set, true, false}
 use Rattle.std.specs.List.{splice, remove_range}
 use Rattle.std.proofs.lemmas.List.{append-nil, set_at, take_at, drop_at, length-take-le, take-append-le, drop-append-le, take-append-drop, take_all, drop_all}
@@ -17,7 +17,7 @@ use Rattle.table_rules.proofs.ExpressionLayers.{designator_out}
 use Rattle.table_reader.specs.SelectorSlots.{placeholder, slots, inserted, removed, written}
 use Rattle.table_reader.proofs.Room.{places_more, length_places}
 
--- ---- how many entries of selectors there are
+---- the number of selector entries
 
 settled_length : (at : ℕ) (row : SelectorRow) (s : Stage) → length (with_selector at row s).rows.selectors ≡ length s.rows.selectors
 unfolding with_selector
@@ -38,9 +38,9 @@ pub opened_length : (head n : ℕ) (s : Stage) → length (added (these_selector
 unfolding added joined
 opened_length head n s = omega (arith, length-append s.rows.selectors (slots head n), length_places head n)
 
--- ---- entries that are written in after those of some selectors
+---- entries that are inserted after those of some selectors
 
--- with these entries put in
+-- with these entries inserted
 abbrev spliced : ℕ → List SelectorRow → Stage → Stage
 spliced at rows s = record { number = s.number; rows = record (s.rows) { selectors = splice s.rows.selectors at at rows } }
 
@@ -90,7 +90,7 @@ spliced_places head n m s =
     ∙ sym (append_assoc ss (slots head n) (slots head m))
     ∙ sym (splice_end zs (slots head m) (length ss + n) size))
 
--- more places than some selectors want
+-- more slots than the selectors need
 more_settled : (head at : ℕ) (xs : List SelectorPhrase) (c : Context) (n m : ℕ) (s : Stage) → at ≡ length s.rows.selectors → length xs ≤ n →
     after_selectors head at xs c (added (these_selectors (slots head (n + m))) s) ≡ spliced (at + n) (slots head m) (after_selectors head at xs c (added (these_selectors (slots head n)) s))
 more_settled head at xs c n m s e h =
@@ -103,13 +103,13 @@ pub inserted_length : (at : ℕ) (row : SelectorRow) (s : Stage) → at ≤ leng
 unfolding inserted
 inserted_length at row s h = length-insert s.rows.selectors at row h
 
--- one more place
+-- one more slot
 pub place_inserted : (head at : ℕ) (xs : List SelectorPhrase) (c : Context) (n : ℕ) (s : Stage) → at ≡ length s.rows.selectors → length xs ≤ n →
     inserted (at + n) (placeholder head) (after_selectors head at xs c (added (these_selectors (slots head n)) s)) ≡ after_selectors head at xs c (added (these_selectors (slots head (n + 1))) s)
 unfolding inserted
 place_inserted head at xs c n s e h = sym (more_settled head at xs c n 1 s e h)
 
--- ---- entries that are taken out again
+---- entries that are removed
 
 range_removed : (xs rows : List SelectorRow) (at end : ℕ) → at ≤ length xs → end ≡ at + length rows → remove_range (splice xs at at rows) at end ≡ xs
 range_removed xs rows at end h e =
@@ -127,7 +127,7 @@ none_removed at end s e =
     ap (λ (n : ℕ). removed at n s) (sym e)
     ∙ ap (λ (zs : List SelectorRow). let t : Stage = record { number = s.number; rows = record (s.rows) { selectors = zs } } in t) (take-append-drop at s.rows.selectors)
 
--- places that are too many
+-- slots that no selector needs
 pub places_removed : (head at : ℕ) (xs : List SelectorPhrase) (c : Context) (n m slot end : ℕ) (s : Stage) → at ≡ length s.rows.selectors → length xs ≤ n → slot ≡ at + n → end ≡ slot + m →
     removed slot end (after_selectors head at xs c (added (these_selectors (slots head (n + m))) s)) ≡ after_selectors head at xs c (added (these_selectors (slots head n)) s)
 unfolding removed

@@ -1,4 +1,4 @@
--- Modules of parts that were contributed.
+-- Modules from their tabulated parts.
 use Rattle.std.proofs.Common.{◌≡◌, ℕ, List, ◌++◌, Option, Some, None, Result, Ok, Err, refl, sym, ap, ◌∙◌}
 use Rattle.ob_scan.specs.declared.kind.Kind.TheVariants as kinds
 use Rattle.ob_scan.specs.declared.token.Token.{Token}
@@ -20,14 +20,14 @@ use Rattle.module_table.specs.Parts.{token, both, with_rows, if_present}
 use Rattle.table_rules.specs.Declaring.{declarations_rows, import_rows, imports_rows, module_end, module_rows}
 use Rattle.table_rules.specs.Expressions.{each_after}
 use Rattle.table_rules.proofs.DeclarationLayers as effect
-use Rattle.ob_parse.specs.declared.cursor.Cursor.{Cursor}
-use Rattle.ob_parse.specs.declared.stop.Stop.{Stop}
-use Rattle.ob_parse.specs.declared.stop.Stop.TheVariants as stops
-use Rattle.ob_parse.specs.Lookahead.{uncons}
-use Rattle.ob_parse.specs.Combinators.{Unexpected, Read, Reader, ◌>>=◌, seq, several, prefixed, accept_at, expect_at, identifier_at, name_at}
-use Rattle.ob_parse.specs.AgreesWith.{Fails, remaining}
-use Rattle.ob_parse.specs.ReadStatements.{block_at}
-use Rattle.ob_parse.specs.ReadModules.{import_item_at, imports_at, with_semicolon, declarations_at, body_with, module_after_name, name_then, module_at, nothing_left, read_all}
+use Rattle.ob_grammar.specs.declared.cursor.Cursor.{Cursor}
+use Rattle.ob_grammar.specs.declared.stop.Stop.{Stop}
+use Rattle.ob_grammar.specs.declared.stop.Stop.TheVariants as stops
+use Rattle.ob_grammar.specs.Lookahead.{uncons}
+use Rattle.ob_grammar.specs.Combinators.{Unexpected, Read, Reader, ◌>>=◌, seq, several, prefixed, accept_at, expect_at, identifier_at, name_at}
+use Rattle.ob_grammar.specs.AgreesWith.{Fails, remaining}
+use Rattle.ob_grammar.specs.ReadStatements.{block_at}
+use Rattle.ob_grammar.specs.ReadModules.{import_item_at, imports_at, with_semicolon, declarations_at, body_with, module_after_name, name_then, module_at, nothing_left, read_all}
 use Rattle.table_reader.specs.DeclarationShapes.{body_events, body_rows, ModuleParts, module_parts_events, parts_step, ModuleEnd, module_end_events, end_step, ModuleRest, imports_events, module_rest_events, module_rest_step, ended_events, ended_rows}
 use Rattle.table_reader.specs.TypeShapes.{list_rows}
 use Rattle.table_reader.specs.Tabulating.{IsTabulated, Tabulates, TabulatesBy, IsTabulatedModule}
@@ -121,7 +121,7 @@ module_told ts n d c old first second new input here rest result t e h u =
     (rw e (told_prefixed ts (module_rest_events n) (λ x s. module_rest_step c x (advanced s)) (named n) (module_after_name d n) first new result (remaining ts rest)
     (told_behind ts (module_rest_events n) (module_rest_step c) advanced first second new result (module_after_name d n (remaining ts rest)) h u)))))
 
--- ---- all of the tokens
+---- all tokens
 
 left_none : (o : Events) (left : Option (Leaf × List Leaf)) → left ≡ None → nothing_left o left ≡ Ok o
 left_none o left e = rw e refl
@@ -140,7 +140,7 @@ whole_failed ts d stops.Memory ls f = tt
 whole_failed ts d (stops.Unexpected i) ls f = ap (λ (z : Read). z >>= λ a. nothing_left a.0 (uncons a.1)) f
 whole_failed ts d (stops.TooDeep i) ls f = ap (λ (z : Read). z >>= λ a. nothing_left a.0 (uncons a.1)) f
 
--- something is left
+-- a token is left
 left_some : (ts : List Token) (rest : Cursor) (o : Events) (x : Leaf × List Leaf) (left : Option (Leaf × List Leaf)) → left ≡ Some x → nothing_left o left ≡ Err (Unexpected left)
 left_some ts rest o x left e = rw e refl
 

@@ -17,14 +17,14 @@ use Rattle.module_table.specs.TableStages.{after}
 use Rattle.module_table.specs.Parts.{token, both}
 use Rattle.table_rules.specs.Expressions.{expr_rows, term_rows, factor_rows}
 use Rattle.module_table.proofs.Steps.{after_nothing}
-use Rattle.ob_parse.specs.declared.cursor.Cursor.{Cursor}
-use Rattle.ob_parse.specs.declared.stop.Stop.{Stop}
-use Rattle.ob_parse.specs.Lookahead.{uncons, head_is}
-use Rattle.ob_parse.specs.Combinators.{many, optional, nothing}
-use Rattle.ob_parse.specs.AgreesWith.{remaining, Fails}
-use Rattle.ob_parse.specs.ReadExpressions.{after_mul, after_add, after_relation, mul_at, add_at, relation_at, mul_start, add_start, relation_start, sign_start, expr_with, sum_at, term_at, factor_at}
-use Rattle.ob_parse.proofs.Loops.{mul_advances, add_advances}
-use Rattle.ob_parse.proofs.SoundExpressions.{factor_at_sound, term_at_sound}
+use Rattle.ob_grammar.specs.declared.cursor.Cursor.{Cursor}
+use Rattle.ob_grammar.specs.declared.stop.Stop.{Stop}
+use Rattle.ob_grammar.specs.Lookahead.{uncons, head_is}
+use Rattle.ob_grammar.specs.Combinators.{many, optional, nothing}
+use Rattle.ob_grammar.specs.AgreesWith.{remaining, Fails}
+use Rattle.ob_grammar.specs.ReadExpressions.{after_mul, after_add, after_relation, mul_at, add_at, relation_at, mul_start, add_start, relation_start, sign_start, expr_with, sum_at, term_at, factor_at}
+use Rattle.ob_grammar.proofs.Loops.{mul_advances, add_advances}
+use Rattle.ob_grammar.proofs.SoundExpressions.{factor_at_sound, term_at_sound}
 use Rattle.table_reader.specs.Operators.{operator_first}
 use Rattle.table_reader.specs.Shapes.{compared_events, compared_rows, sign_events, sign_rows, terms_events, terms_rows, factors_events, factors_rows}
 use Rattle.table_reader.specs.Tabulating.{Tabulates}
@@ -32,7 +32,7 @@ use Rattle.table_reader.proofs.Combine.{told_absent}
 use Rattle.table_reader.proofs.Lists.{pieces_begun, pieces_done}
 use Rattle.table_reader.proofs.ExpressionTrees.{expr_told, expr_failed, sum_told, sum_failed, term_told, term_failed}
 
--- ---- where no operator is there
+---- no operator is next
 
 no_mul : (o : Option (Leaf × List Leaf)) → head_is operator_first o ≡ false → after_mul o ≡ None
 no_mul None e = refl
@@ -117,7 +117,7 @@ module _ (ts : List Token) (c : Context) (d : ℕ) where
   operated_told old first one two three new input following here next last result a b f t r =
       expr_told ts c d old three new input last result (sum_told ts c d old first two three input following next (Ok last) a (term_told ts c d first one two following here (Ok next) b f) t) r
 
-  -- if one of these fails
+  -- if one of these parts fails
   pub factor_fails : (e : Stop) (old first : TableBuilder) (input following : Cursor) →
       Tabulates ts sign_events sign_rows c old first (Ok following) (optional sign_start nothing (remaining ts input)) →
       Fails ts e (factor_at d (remaining ts following)) → Fails ts e (expr_with (sum_at d) (remaining ts input))

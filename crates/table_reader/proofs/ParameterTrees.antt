@@ -1,4 +1,4 @@
--- Formal parameters of parts that were contributed: their event sequences and what they contribute.
+-- Formal parameters from their tabulated parts: their event sequences and their entries.
 use Rattle.std.proofs.Common.{◌≡◌, ℕ, Bool, false, List, [], ◌∷◌, ◌++◌, length, Option, Ok, refl, sym, ap, ◌∙◌}
 use Rattle.std.specs.Prelude.{Result}
 use Rattle.std.specs.Global.{Vec}
@@ -24,11 +24,11 @@ use Rattle.table_rules.specs.Statements.{qualident_rows}
 use Rattle.table_rules.specs.Types.{part_row, name_part, open_arrays, parameter_rows, parameters_rows, section_inner, section_rows}
 use Rattle.module_table.proofs.Steps.{after_both, after_token, after_tells}
 use Rattle.table_rules.proofs.TypeLayers as effect
-use Rattle.ob_parse.specs.declared.cursor.Cursor.{Cursor}
-use Rattle.ob_parse.specs.declared.stop.Stop.{Stop}
-use Rattle.ob_parse.specs.Combinators.{Read, Reader, accept_at, expect_at, nothing, optional, seq}
-use Rattle.ob_parse.specs.AgreesWith.{Fails, remaining}
-use Rattle.ob_parse.specs.ReadTypes.{section_at, parameters_at}
+use Rattle.ob_grammar.specs.declared.cursor.Cursor.{Cursor}
+use Rattle.ob_grammar.specs.declared.stop.Stop.{Stop}
+use Rattle.ob_grammar.specs.Combinators.{Read, Reader, accept_at, expect_at, nothing, optional, seq}
+use Rattle.ob_grammar.specs.AgreesWith.{Fails, remaining}
+use Rattle.ob_grammar.specs.ReadTypes.{section_at, parameters_at}
 use Rattle.table_reader.specs.TypeShapes.{arrays_events, formal_name_rows, formal_events, formal_rows, inner_at, inner_events, list_rows, opened_at, opened_events, opened_rows, optional_word_events, optional_word_rows}
 use Rattle.table_reader.specs.Tabulating.{Tabulates, TabulatesBy}
 use Rattle.table_reader.proofs.Combine.{told_as, told_node, told_behind, failed_node, failed_then}

@@ -1,4 +1,4 @@
--- Parts that were contributed one after the other, by what they contribute.
+-- Parts that are tabulated one after the other, by their entries.
 use Rattle.std.proofs.Common.{◌≡◌, ◌++◌, List, Some, None, Ok, refl, ap, ◌∙◌}
 use Rattle.std.specs.Prelude.{Result}
 use Rattle.ob_scan.specs.declared.kind.Kind.{Kind}
@@ -15,16 +15,16 @@ use Rattle.module_table.specs.TableStages.{after, advanced, PerformsStep}
 use Rattle.module_table.specs.Parts.{Fragment, token, both, if_present}
 use Rattle.table_rules.specs.Statements.{stmt_rows}
 use Rattle.module_table.proofs.Steps.{after_both, after_token, after_nothing}
-use Rattle.ob_parse.specs.declared.cursor.Cursor.{Cursor}
-use Rattle.ob_parse.specs.declared.stop.Stop.{Stop}
-use Rattle.ob_parse.specs.Combinators.{Read, Reader, Start, expect_at, seq, prefixed, node, optional}
-use Rattle.ob_parse.specs.AgreesWith.{Fails, remaining}
+use Rattle.ob_grammar.specs.declared.cursor.Cursor.{Cursor}
+use Rattle.ob_grammar.specs.declared.stop.Stop.{Stop}
+use Rattle.ob_grammar.specs.Combinators.{Read, Reader, Start, expect_at, seq, prefixed, node, optional}
+use Rattle.ob_grammar.specs.AgreesWith.{Fails, remaining}
 use Rattle.table_reader.specs.StatementShapes.{then_events, then_rows, word_events, word_rows}
 use Rattle.table_reader.specs.Tabulating.{Tabulates, TabulatesBy}
 use Rattle.table_reader.proofs.Combine.{told_as, told_node, told_then, told_prefixed, told_behind, told_there, told_absent, failed_then}
 use Rattle.table_reader.proofs.Lists.{word_after}
 
--- a part of the grammar: its event sequence, what it contributes, and how it is read
+-- a part of the grammar: its event sequence, its entries, and its reader
 pub record Part (A : Type 0) : Type 0 where
   pub events : A → Events
   pub piece : A → Fragment
@@ -37,12 +37,12 @@ word_part k = record { events = word_events k; piece = word_rows; read = expect_
 abbrev pub then_part : {A B : Type 0} → Part A → Part B → Part (A × B)
 then_part p q = record { events = then_events p.events q.events; piece = then_rows p.piece q.piece; read = seq p.read q.read }
 
--- if the first fails, both do
+-- if the first part fails, both do
 pub part_failed : {A B : Type 0} (ts : List Token) (p : Part A) (q : Part B) (e : Stop) (ls : List Leaf) → Fails ts e (p.read ls) → Fails ts e (seq p.read q.read ls)
 part_failed ts p q e ls h = failed_then ts p.read q.read e ls h
 
 module _ (ts : List Token) (c : Context) where
-  -- a tree of what was contributed
+  -- a tree of the appended entries
   pub made_told : {A B : Type 0} (f : A → Events) (p : A → Fragment) (g : B → Events) (q : B → Fragment) (make : A → B) (old new : TableBuilder) (result : Result Cursor Stop) (read : Read) →
       ((x : A) → g (make x) ≡ f x) → ((x : A) → q (make x) ≡ p x) → Tabulates ts f p c old new result read → Tabulates ts g q c old new result read
   made_told f p g q make old new result read events effect t =
@@ -62,7 +62,7 @@ module _ (ts : List Token) (c : Context) where
   told_word k old new result read t =
       told_as ts (λ (x : Unit {0}). word k) (λ x s. advanced s) (word_events k) (λ x. after (word_rows x) c) (λ x. x) (λ x. refl) (λ x s. after_token c s) old new result read t
 
-  -- a part after a word that may be there and does
+  -- a part after an optional word that is present
   pub told_some : {A X : Type 0} (f : A → Events) (p : A → Fragment) (g : X → Events) (q : X → Fragment) (make : A → X) (k : Kind) (start : Start) (r : Reader) (old mid new : TableBuilder) (rest : Cursor) (result : Result Cursor Stop) (ls : List Leaf) →
       ((x : A) → g (make x) ≡ f x) → ((x : A) → q (make x) ≡ p x) → start ls ≡ Some (word k, remaining ts rest) → PerformsStep advanced old mid → Tabulates ts f p c mid new result (r (remaining ts rest)) →
       Tabulates ts (shown_there (λ x. word k ++ g x)) (if_present (λ x. both token (q x))) c old new result (optional start r ls)
@@ -72,7 +72,7 @@ module _ (ts : List Token) (c : Context) where
       (told_there ts f (λ x s. after (p x) c (advanced s)) start r (word k) old new rest result ls found
       (told_behind ts f (λ x. after (p x) c) advanced old mid new result (r (remaining ts rest)) h t))
 
-  -- the same where it doesn't
+  -- a part after an optional word that is absent
   pub told_none : {X : Type 0} (g : X → Events) (q : X → Fragment) (k : Kind) (start : Start) (r : Reader) (d : TableBuilder) (here : Cursor) → start (remaining ts here) ≡ None →
       Tabulates ts (shown_there (λ x. word k ++ g x)) (if_present (λ x. both token (q x))) c d d (Ok here) (optional start r (remaining ts here))
   told_none {X} g q k start r d here e =
@@ -89,7 +89,7 @@ module _ (ts : List Token) (c : Context) where
       (told_prefixed ts f (λ x s. after (p x) c (advanced s)) (word k) r old new result ls
       (told_behind ts f (λ x. after (p x) c) advanced old mid new result (r ls) h t)))
 
-  -- the same of parts
+  -- the same for parts
   pub part_then : {A B : Type 0} (p : Part A) (q : Part B) (old mid new : TableBuilder) (here : Cursor) (result : Result Cursor Stop) (ls : List Leaf) →
       Tabulates ts p.events p.piece c old mid (Ok here) (p.read ls) → Tabulates ts q.events q.piece c mid new result (q.read (remaining ts here)) →
       Tabulates ts (then_events p.events q.events) (then_rows p.piece q.piece) c old new result (seq p.read q.read ls)

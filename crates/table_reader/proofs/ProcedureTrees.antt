@@ -1,4 +1,4 @@
--- Procedures of parts that were contributed, and lists of them.
+-- Procedures from their tabulated parts, and lists of procedures.
 use Rattle.std.proofs.Common.{◌≡◌, ℕ, zero, suc, ◌-◌, Bool, List, ◌++◌, Option, Some, None, Result, Ok, length, refl, sym, ap, ◌∙◌, arith}
 use Rattle.std.specs.Global.{Box, Vec, Global}
 use Rattle.ob_scan.specs.declared.kind.Kind.TheVariants as kinds
@@ -34,16 +34,16 @@ use Rattle.table_rules.specs.Types.{identdef_rows, parameters_rows}
 use Rattle.table_rules.specs.Declaring.{const_rows, type_decl_rows, variable_rows, part, procedure_end, declarations_rows, procedure_rows}
 use Rattle.module_table.proofs.Steps.{after_both, after_token}
 use Rattle.table_rules.proofs.DeclarationLayers as effect
-use Rattle.ob_parse.specs.declared.cursor.Cursor.{Cursor}
-use Rattle.ob_parse.specs.declared.stop.Stop.{Stop}
-use Rattle.ob_parse.specs.Combinators.{Reader, seq, optional, nothing, accept_at, expect_at, identifier_at, name_at, after_name}
-use Rattle.ob_parse.specs.AgreesWith.{Fails, remaining}
-use Rattle.ob_parse.specs.ReadExpressions.{expr_at}
-use Rattle.ob_parse.specs.ReadNames.{identdef_after}
-use Rattle.ob_parse.specs.ReadStatements.{block_at}
-use Rattle.ob_parse.specs.ReadTypes.{some_parameters_at}
-use Rattle.ob_parse.specs.ReadModules.{const_with, type_decl_with, variable_with, part_with, procedures_with, declarations_with, declarations_at, body_with, procedure_named, procedure_with, procedure_at}
-use Rattle.ob_parse.proofs.Stars.{star_read}
+use Rattle.ob_grammar.specs.declared.cursor.Cursor.{Cursor}
+use Rattle.ob_grammar.specs.declared.stop.Stop.{Stop}
+use Rattle.ob_grammar.specs.Combinators.{Reader, seq, optional, nothing, accept_at, expect_at, identifier_at, name_at, after_name}
+use Rattle.ob_grammar.specs.AgreesWith.{Fails, remaining}
+use Rattle.ob_grammar.specs.ReadExpressions.{expr_at}
+use Rattle.ob_grammar.specs.ReadNames.{identdef_after}
+use Rattle.ob_grammar.specs.ReadStatements.{block_at}
+use Rattle.ob_grammar.specs.ReadTypes.{optional_parameters_at}
+use Rattle.ob_grammar.specs.ReadModules.{const_with, type_decl_with, variable_with, section_with, procedures_with, declarations_with, declarations_at, body_with, procedure_named, procedure_with, procedure_at}
+use Rattle.ob_grammar.proofs.Stars.{star_read}
 use Rattle.table_reader.specs.DeclarationShapes.{ended_rows, procedures_events, body_events, body_rows, returned_events, returned_rows, procedure_rest_events, procedure_rest_rows, ending_events, ending_step, Block, procedure_block_events, block_step}
 use Rattle.table_reader.specs.Tabulating.{IsTabulated, Tabulates, TabulatesBy}
 use Rattle.table_reader.proofs.Combine.{told_as, told_node, told_then, failed_node, failed_then, told_walked}
@@ -51,7 +51,7 @@ use Rattle.table_reader.proofs.Lists.{word_after}
 use Rattle.table_reader.proofs.Made.{boxed}
 use Rattle.table_reader.proofs.SectionTrees.{block_told, failed_behind}
 
--- ---- what may be absent, in a box
+---- an optional part, in a box
 
 abbrev pub box_there : {X : Type 0} → Global → Option X → Option (Box X)
 box_there g None = None
@@ -65,7 +65,7 @@ piece_boxed : {X : Type 0} (g : Global) (p : X → Fragment) (o : Option X) → 
 piece_boxed g p None = refl
 piece_boxed g p (Some x) = refl
 
--- ---- what is after the declarations, and after the heading
+---- the part after the declarations, and the part after the heading
 
 pub ending_told : (ts : List Token) (name d : ℕ) (c : Context) (old first second third new : TableBuilder) (input a b e : Cursor) (result : Result Cursor Stop) →
     Tabulates ts body_events body_rows c old first (Ok a) (body_with (block_at d) (remaining ts input)) →
@@ -102,7 +102,7 @@ pub star_told : (ts : List Token) (n : ℕ) (b : Bool) (c : Context) (old new : 
 unfolding identdef_after identdef_events
 star_told ts n b c old new input here e h = told_walked ts (λ x. identdef_events (name_with n x)) (λ x. after (identdef_rows (name_with n x)) c) b old new here (identdef_after n (remaining ts input)) (rw (sym e, star_read b) refl) h
 
--- a procedure after PROCEDURE, with no name in the tree
+-- a procedure after PROCEDURE
 abbrev Heading : Type 0
 Heading = Bool × (Option Parameters × (Unit {0} × Block))
 
@@ -119,7 +119,7 @@ layer_of n g x = record {
 abbrev procedure_of : (n : ℕ) → Global → Heading → ProcDecl
 procedure_of n g x = roll-ProcDecl (layer_of n g x)
 
--- what is after PROCEDURE, by its layer
+-- the part after PROCEDURE, by its fields
 abbrev behind_layer : ProcDecl-F Declarations ProcDecl → Events
 behind_layer p =
     identdef_events p.name ++ (shown_there parameters_events p.parameters ++ (word kinds.Semicolon ++
@@ -163,7 +163,7 @@ heading_after n g x c s =
 
 pub named_told : (ts : List Token) (n : ℕ) (expr block decls : Reader) (c : Context) (old first second third new : TableBuilder) (input a b e : Cursor) (result : Result Cursor Stop) →
     IsTabulated {T = Bool} ts (λ x. identdef_events (name_with n x)) (λ x. after (identdef_rows (name_with n x)) c) old first a (identdef_after n (remaining ts input)) →
-    Tabulates ts (shown_there parameters_events) (if_present parameters_rows) c first second (Ok b) (some_parameters_at (remaining ts a)) →
+    Tabulates ts (shown_there parameters_events) (if_present parameters_rows) c first second (Ok b) (optional_parameters_at (remaining ts a)) →
     TabulatesBy ts (λ (u : Unit {0}). word kinds.Semicolon) (λ u s. advanced s) second third (Ok e) (expect_at kinds.Semicolon (remaining ts b)) →
     TabulatesBy ts (procedure_block_events n) (block_step c) third new result
     (seq decls (seq (body_with block) (seq (optional (accept_at kinds.Return) expr) (seq (expect_at kinds.End) (name_at (repeated n))))) (remaining ts e)) →
@@ -176,28 +176,28 @@ named_told ts n expr block decls c old first second third new input a b e result
     (told_then ts (λ x. identdef_events (name_with n x)) (λ x. after (identdef_rows (name_with n x)) c)
     (λ (x : Option Parameters × (Unit {0} × Block)). shown_there parameters_events x.0 ++ (word kinds.Semicolon ++ procedure_block_events n x.1.1))
     (λ x s. block_step c x.1.1 (advanced (after (if_present parameters_rows x.0) c s)))
-    (identdef_after n) (seq some_parameters_at (seq (expect_at kinds.Semicolon) inner)) old first new a result (remaining ts input) t
+    (identdef_after n) (seq optional_parameters_at (seq (expect_at kinds.Semicolon) inner)) old first new a result (remaining ts input) t
     (told_then ts (shown_there parameters_events) (λ x. after (if_present parameters_rows x) c)
     (λ (x : Unit {0} × Block). word kinds.Semicolon ++ procedure_block_events n x.1) (λ x s. block_step c x.1 (advanced s))
-    some_parameters_at (seq (expect_at kinds.Semicolon) inner) first second new b result (remaining ts a) u
+    optional_parameters_at (seq (expect_at kinds.Semicolon) inner) first second new b result (remaining ts a) u
     (told_then ts (λ (u : Unit {0}). word kinds.Semicolon) (λ u s. advanced s) (procedure_block_events n) (block_step c)
     (expect_at kinds.Semicolon) inner second third new e result (remaining ts b) v w)))
 
 pub named_failed : (ts : List Token) (n : ℕ) (expr block decls : Reader) (c : Context) (old first : TableBuilder) (input a : Cursor) (e : Stop) →
     IsTabulated {T = Bool} ts (λ x. identdef_events (name_with n x)) (λ x. after (identdef_rows (name_with n x)) c) old first a (identdef_after n (remaining ts input)) →
-    Fails ts e (some_parameters_at (remaining ts a)) → Fails ts e (procedure_named expr block decls n (remaining ts input))
+    Fails ts e (optional_parameters_at (remaining ts a)) → Fails ts e (procedure_named expr block decls n (remaining ts input))
 unfolding procedure_named
 named_failed ts n expr block decls c old first input a e t h =
-    failed_behind ts (λ x. identdef_events (name_with n x)) (λ x. after (identdef_rows (name_with n x)) c) (identdef_after n) _ old first a e (remaining ts input) t (failed_then ts some_parameters_at _ e (remaining ts a) h)
+    failed_behind ts (λ x. identdef_events (name_with n x)) (λ x. after (identdef_rows (name_with n x)) c) (identdef_after n) _ old first a e (remaining ts input) t (failed_then ts optional_parameters_at _ e (remaining ts a) h)
 
 pub named_failed_behind : (ts : List Token) (n : ℕ) (expr block decls : Reader) (c : Context) (old first second : TableBuilder) (input a b : Cursor) (e : Stop) →
     IsTabulated {T = Bool} ts (λ x. identdef_events (name_with n x)) (λ x. after (identdef_rows (name_with n x)) c) old first a (identdef_after n (remaining ts input)) →
-    Tabulates ts (shown_there parameters_events) (if_present parameters_rows) c first second (Ok b) (some_parameters_at (remaining ts a)) →
+    Tabulates ts (shown_there parameters_events) (if_present parameters_rows) c first second (Ok b) (optional_parameters_at (remaining ts a)) →
     Fails ts e (expect_at kinds.Semicolon (remaining ts b)) → Fails ts e (procedure_named expr block decls n (remaining ts input))
 unfolding procedure_named
 named_failed_behind ts n expr block decls c old first second input a b e t u h =
     failed_behind ts (λ x. identdef_events (name_with n x)) (λ x. after (identdef_rows (name_with n x)) c) (identdef_after n) _ old first a e (remaining ts input) t
-    (failed_behind ts (shown_there parameters_events) (λ x. after (if_present parameters_rows x) c) some_parameters_at _ first second b e (remaining ts a) u (failed_then ts (expect_at kinds.Semicolon) _ e (remaining ts b) h))
+    (failed_behind ts (shown_there parameters_events) (λ x. after (if_present parameters_rows x) c) optional_parameters_at _ first second b e (remaining ts a) u (failed_then ts (expect_at kinds.Semicolon) _ e (remaining ts b) h))
 
 -- ---- procedures
 
@@ -259,9 +259,9 @@ sections_after x c s =
     ∙ after_both p (both q (both r t)) c s ∙ after_both q (both r t) c (after p c s) ∙ after_both r t c (after q c (after p c s))
 
 pub sections_told : (ts : List Token) (expr type procedure : Reader) (c : Context) (old first second third new : TableBuilder) (input a b e : Cursor) (result : Result Cursor Stop) →
-    Tabulates {T = Option (Vec ConstDecl)} ts (shown_there (λ v. shown_part kinds.Const const_events v.items)) (if_present (λ v. part const_rows v.items)) c old first (Ok a) (part_with kinds.Const (const_with expr) (remaining ts input)) →
-    Tabulates {T = Option (Vec TypeDecl)} ts (shown_there (λ v. shown_part kinds.Type type_decl_events v.items)) (if_present (λ v. part type_decl_rows v.items)) c first second (Ok b) (part_with kinds.Type (type_decl_with type) (remaining ts a)) →
-    Tabulates {T = Option (Vec VarDecl)} ts (shown_there (λ v. shown_part kinds.Var variable_events v.items)) (if_present (λ v. part variable_rows v.items)) c second third (Ok e) (part_with kinds.Var (variable_with type) (remaining ts b)) →
+    Tabulates {T = Option (Vec ConstDecl)} ts (shown_there (λ v. shown_part kinds.Const const_events v.items)) (if_present (λ v. part const_rows v.items)) c old first (Ok a) (section_with kinds.Const (const_with expr) (remaining ts input)) →
+    Tabulates {T = Option (Vec TypeDecl)} ts (shown_there (λ v. shown_part kinds.Type type_decl_events v.items)) (if_present (λ v. part type_decl_rows v.items)) c first second (Ok b) (section_with kinds.Type (type_decl_with type) (remaining ts a)) →
+    Tabulates {T = Option (Vec VarDecl)} ts (shown_there (λ v. shown_part kinds.Var variable_events v.items)) (if_present (λ v. part variable_rows v.items)) c second third (Ok e) (section_with kinds.Var (variable_with type) (remaining ts b)) →
     Tabulates {T = Vec ProcDecl} ts (λ v. procedures_events v.items) (λ v. pieces (ended_rows procedure_rows) v.items) c third new result (procedures_with procedure (remaining ts e)) →
     Tabulates ts declarations_events declarations_rows c old new result (declarations_with expr type procedure (remaining ts input))
 unfolding declarations_with
@@ -274,36 +274,36 @@ sections_told ts expr type procedure c old first second third new input a b e re
     (told_then ts (shown_there (λ (v : Vec ConstDecl). shown_part kinds.Const const_events v.items)) (λ x. after (if_present (λ v. part const_rows v.items) x) c)
     (λ (x : Option (Vec TypeDecl) × (Option (Vec VarDecl) × Vec ProcDecl)). shown_there (λ v. shown_part kinds.Type type_decl_events v.items) x.0 ++ (shown_there (λ v. shown_part kinds.Var variable_events v.items) x.1.0 ++ procedures_events x.1.1.items))
     (λ x s. after (pieces (ended_rows procedure_rows) x.1.1.items) c (after (if_present (λ v. part variable_rows v.items) x.1.0) c (after (if_present (λ v. part type_decl_rows v.items) x.0) c s)))
-    (part_with kinds.Const (const_with expr)) (seq (part_with kinds.Type (type_decl_with type)) (seq (part_with kinds.Var (variable_with type)) (procedures_with procedure))) old first new a result (remaining ts input) t
+    (section_with kinds.Const (const_with expr)) (seq (section_with kinds.Type (type_decl_with type)) (seq (section_with kinds.Var (variable_with type)) (procedures_with procedure))) old first new a result (remaining ts input) t
     (told_then ts (shown_there (λ (v : Vec TypeDecl). shown_part kinds.Type type_decl_events v.items)) (λ x. after (if_present (λ v. part type_decl_rows v.items) x) c)
     (λ (x : Option (Vec VarDecl) × Vec ProcDecl). shown_there (λ v. shown_part kinds.Var variable_events v.items) x.0 ++ procedures_events x.1.items)
     (λ x s. after (pieces (ended_rows procedure_rows) x.1.items) c (after (if_present (λ v. part variable_rows v.items) x.0) c s))
-    (part_with kinds.Type (type_decl_with type)) (seq (part_with kinds.Var (variable_with type)) (procedures_with procedure)) first second new b result (remaining ts a) u
+    (section_with kinds.Type (type_decl_with type)) (seq (section_with kinds.Var (variable_with type)) (procedures_with procedure)) first second new b result (remaining ts a) u
     (told_then ts (shown_there (λ (v : Vec VarDecl). shown_part kinds.Var variable_events v.items)) (λ x. after (if_present (λ v. part variable_rows v.items) x) c)
     (λ (v : Vec ProcDecl). procedures_events v.items) (λ v. after (pieces (ended_rows procedure_rows) v.items) c)
-    (part_with kinds.Var (variable_with type)) (procedures_with procedure) second third new e result (remaining ts b) v w)))
+    (section_with kinds.Var (variable_with type)) (procedures_with procedure) second third new e result (remaining ts b) v w)))
 
-pub first_failed : (ts : List Token) (expr type procedure : Reader) (x : Stop) (ls : List _) → Fails ts x (part_with kinds.Const (const_with expr) ls) → Fails ts x (declarations_with expr type procedure ls)
+pub first_failed : (ts : List Token) (expr type procedure : Reader) (x : Stop) (ls : List _) → Fails ts x (section_with kinds.Const (const_with expr) ls) → Fails ts x (declarations_with expr type procedure ls)
 unfolding declarations_with
-first_failed ts expr type procedure x ls h = failed_then ts (part_with kinds.Const (const_with expr)) _ x ls h
+first_failed ts expr type procedure x ls h = failed_then ts (section_with kinds.Const (const_with expr)) _ x ls h
 
 pub second_failed : (ts : List Token) (expr type procedure : Reader) (c : Context) (old first : TableBuilder) (input a : Cursor) (x : Stop) →
-    Tabulates {T = Option (Vec ConstDecl)} ts (shown_there (λ v. shown_part kinds.Const const_events v.items)) (if_present (λ v. part const_rows v.items)) c old first (Ok a) (part_with kinds.Const (const_with expr) (remaining ts input)) →
-    Fails ts x (part_with kinds.Type (type_decl_with type) (remaining ts a)) → Fails ts x (declarations_with expr type procedure (remaining ts input))
+    Tabulates {T = Option (Vec ConstDecl)} ts (shown_there (λ v. shown_part kinds.Const const_events v.items)) (if_present (λ v. part const_rows v.items)) c old first (Ok a) (section_with kinds.Const (const_with expr) (remaining ts input)) →
+    Fails ts x (section_with kinds.Type (type_decl_with type) (remaining ts a)) → Fails ts x (declarations_with expr type procedure (remaining ts input))
 unfolding declarations_with
 second_failed ts expr type procedure c old first input a x t h =
-    failed_behind ts (shown_there (λ (v : Vec ConstDecl). shown_part kinds.Const const_events v.items)) (λ o. after (if_present (λ v. part const_rows v.items) o) c) (part_with kinds.Const (const_with expr))
-    (seq (part_with kinds.Type (type_decl_with type)) (seq (part_with kinds.Var (variable_with type)) (procedures_with procedure))) old first a x (remaining ts input) t
-    (failed_then ts (part_with kinds.Type (type_decl_with type)) (seq (part_with kinds.Var (variable_with type)) (procedures_with procedure)) x (remaining ts a) h)
+    failed_behind ts (shown_there (λ (v : Vec ConstDecl). shown_part kinds.Const const_events v.items)) (λ o. after (if_present (λ v. part const_rows v.items) o) c) (section_with kinds.Const (const_with expr))
+    (seq (section_with kinds.Type (type_decl_with type)) (seq (section_with kinds.Var (variable_with type)) (procedures_with procedure))) old first a x (remaining ts input) t
+    (failed_then ts (section_with kinds.Type (type_decl_with type)) (seq (section_with kinds.Var (variable_with type)) (procedures_with procedure)) x (remaining ts a) h)
 
 pub third_failed : (ts : List Token) (expr type procedure : Reader) (c : Context) (old first second : TableBuilder) (input a b : Cursor) (x : Stop) →
-    Tabulates {T = Option (Vec ConstDecl)} ts (shown_there (λ v. shown_part kinds.Const const_events v.items)) (if_present (λ v. part const_rows v.items)) c old first (Ok a) (part_with kinds.Const (const_with expr) (remaining ts input)) →
-    Tabulates {T = Option (Vec TypeDecl)} ts (shown_there (λ v. shown_part kinds.Type type_decl_events v.items)) (if_present (λ v. part type_decl_rows v.items)) c first second (Ok b) (part_with kinds.Type (type_decl_with type) (remaining ts a)) →
-    Fails ts x (part_with kinds.Var (variable_with type) (remaining ts b)) → Fails ts x (declarations_with expr type procedure (remaining ts input))
+    Tabulates {T = Option (Vec ConstDecl)} ts (shown_there (λ v. shown_part kinds.Const const_events v.items)) (if_present (λ v. part const_rows v.items)) c old first (Ok a) (section_with kinds.Const (const_with expr) (remaining ts input)) →
+    Tabulates {T = Option (Vec TypeDecl)} ts (shown_there (λ v. shown_part kinds.Type type_decl_events v.items)) (if_present (λ v. part type_decl_rows v.items)) c first second (Ok b) (section_with kinds.Type (type_decl_with type) (remaining ts a)) →
+    Fails ts x (section_with kinds.Var (variable_with type) (remaining ts b)) → Fails ts x (declarations_with expr type procedure (remaining ts input))
 unfolding declarations_with
 third_failed ts expr type procedure c old first second input a b x t u h =
-    failed_behind ts (shown_there (λ (v : Vec ConstDecl). shown_part kinds.Const const_events v.items)) (λ o. after (if_present (λ v. part const_rows v.items) o) c) (part_with kinds.Const (const_with expr))
-    (seq (part_with kinds.Type (type_decl_with type)) (seq (part_with kinds.Var (variable_with type)) (procedures_with procedure))) old first a x (remaining ts input) t
-    (failed_behind ts (shown_there (λ (v : Vec TypeDecl). shown_part kinds.Type type_decl_events v.items)) (λ o. after (if_present (λ v. part type_decl_rows v.items) o) c) (part_with kinds.Type (type_decl_with type))
-    (seq (part_with kinds.Var (variable_with type)) (procedures_with procedure)) first second b x (remaining ts a) u
-    (failed_then ts (part_with kinds.Var (variable_with type)) (procedures_with procedure) x (remaining ts b) h))
+    failed_behind ts (shown_there (λ (v : Vec ConstDecl). shown_part kinds.Const const_events v.items)) (λ o. after (if_present (λ v. part const_rows v.items) o) c) (section_with kinds.Const (const_with expr))
+    (seq (section_with kinds.Type (type_decl_with type)) (seq (section_with kinds.Var (variable_with type)) (procedures_with procedure))) old first a x (remaining ts input) t
+    (failed_behind ts (shown_there (λ (v : Vec TypeDecl). shown_part kinds.Type type_decl_events v.items)) (λ o. after (if_present (λ v. part type_decl_rows v.items) o) c) (section_with kinds.Type (type_decl_with type))
+    (seq (section_with kinds.Var (variable_with type)) (procedures_with procedure)) first second b x (remaining ts a) u
+    (failed_then ts (section_with kinds.Var (variable_with type)) (procedures_with procedure) x (remaining ts b) h))

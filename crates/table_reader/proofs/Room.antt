@@ -1,4 +1,4 @@
--- Places for selectors, one more at a time.
+-- Reserved entries for selectors, one more at a time.
 use Rattle.std.proofs.Common.{◌≡◌, ℕ, zero, suc, ◌+◌, ◌-◌, ◌^◌, ◌<◌, min, List, [], ◌∷◌, ◌++◌, length, refl, ap, arith, append_assoc}
 use Rattle.std.proofs.lemmas.List.{append-nil}
 use Rattle.module_table.specs.declared.rows.Selector.{Selector as SelectorRow}
@@ -23,6 +23,6 @@ pub more_places : (head n : ℕ) (s : Stage) → added (these_selectors (slots h
 unfolding added joined
 more_places head n s = rw (places_more head n 1) (simp (append-nil, append_assoc))
 
--- the place after one that is there
+-- the slot after an existing one
 pub place_behind : (slot later : ℕ) (d : TableBuilder) → later ≡ min (slot + 1) (2 ^ 64 - 1) → slot < length d.selectors.items → later ≡ slot + 1
 place_behind slot later d e h = let size = d.selectors.ok in let small = d.selectors.small in omega (arith, e, h, size, small)

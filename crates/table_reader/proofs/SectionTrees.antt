@@ -1,4 +1,4 @@
--- Declarations of parts that were contributed, section by section.
+-- Declarations from their tabulated parts, section by section.
 use Rattle.std.proofs.Common.{◌≡◌, ℕ, List, ◌++◌, Option, Some, None, Result, Ok, Err, length, refl, ap, ◌∙◌}
 use Rattle.std.specs.Global.{Vec}
 use Rattle.ob_scan.specs.declared.kind.Kind.{Kind}
@@ -21,12 +21,12 @@ use Rattle.module_table.specs.Parts.{each as pieces}
 use Rattle.table_rules.specs.Types.{identdef_rows}
 use Rattle.table_rules.specs.Declaring.{part}
 use Rattle.module_table.proofs.Steps.{after_both, after_token, after_declaring, after_tells, after_within}
-use Rattle.ob_parse.specs.declared.cursor.Cursor.{Cursor}
-use Rattle.ob_parse.specs.declared.stop.Stop.{Stop}
-use Rattle.ob_parse.specs.Combinators.{Read, Reader, seq, node, accept_at, expect_at, many, begins}
-use Rattle.ob_parse.specs.AgreesWith.{Fails, remaining}
-use Rattle.ob_parse.specs.ReadNames.{identdef_at}
-use Rattle.ob_parse.specs.ReadModules.{is_identifier, with_semicolon, part_with}
+use Rattle.ob_grammar.specs.declared.cursor.Cursor.{Cursor}
+use Rattle.ob_grammar.specs.declared.stop.Stop.{Stop}
+use Rattle.ob_grammar.specs.Combinators.{Read, Reader, seq, node, accept_at, expect_at, many, begins}
+use Rattle.ob_grammar.specs.AgreesWith.{Fails, remaining}
+use Rattle.ob_grammar.specs.ReadNames.{identdef_at}
+use Rattle.ob_grammar.specs.ReadModules.{is_identifier, with_semicolon, section_with}
 use Rattle.table_reader.specs.DeclarationShapes.{ended_events, ended_rows}
 use Rattle.table_reader.specs.Tabulating.{Tabulates, TabulatesBy}
 use Rattle.table_reader.proofs.Combine.{told_at, told_as, told_node, told_then, told_behind, told_before, failed_node, failed_then}
@@ -38,7 +38,7 @@ pub failed_behind : {A : Type 0} (ts : List Token) (f : A → Events) (p : A →
     TabulatesBy ts f p old mid (Ok here) (r ls) → Fails ts e (s (remaining ts here)) → Fails ts e (seq r s ls)
 failed_behind ts f p r s old mid here e ls t h = told_then ts f p f p r s old mid mid here (Err e) ls t h
 
--- ---- constructs that declare
+---- declaration groups
 
 block_here : (p : Fragment) (c around : Context) (row : DeclGroup) (at : ℕ) (old : TableBuilder) → row ≡ decl_group decl_kinds.Procedure c old.number 0 → around ≡ in_block (declaring_at c old.number) old.number → at ≡ length old.decl_groups.items →
     after (declaring decl_kinds.Procedure (opens_block p)) c (stage_of old) ≡ closed at row (after p around (added (one_block (record { first = old.number; outer = c.block })) (added (one_decl_group row) (stage_of old))))
@@ -71,7 +71,7 @@ with_semicolon_told ts f p c r old mid new input here result a b =
     (λ x s. after_both (p x.0) token c s ∙ after_token c (after (p x.0) c s)) old new result _
     (told_then ts f (λ x. after (p x) c) (λ (u : Unit {0}). word kinds.Semicolon) (λ u s. advanced s) r (expect_at kinds.Semicolon) old mid new here result (remaining ts input) a b)
 
--- a construct that declares
+-- a declaration with its entry
 pub ended_told : {X : Type 0} (ts : List Token) (f : X → Events) (p : X → Fragment) (k : Construct) (decl_kind : DeclKind) (r : Reader) (c around : Context) (row : DeclGroup) (at : ℕ) (old opened last mid new : TableBuilder) (input here : Cursor) (result : Result Cursor Stop) →
     row ≡ decl_group decl_kind c old.number 0 → around ≡ declaring_at c old.number → at ≡ length old.decl_groups.items →
     PerformsStep (added (one_decl_group row)) old opened → Tabulates ts f p around opened last (Ok here) (r (remaining ts input)) → PerformsStep (closed at row) last mid →
@@ -85,7 +85,7 @@ ended_told ts f p k decl_kind r c around row at old opened last mid new input he
 pub ended_failed : (ts : List Token) (k : Construct) (r : Reader) (e : Stop) (ls : List _) → Fails ts e (r ls) → Fails ts e (with_semicolon (node k r) ls)
 ended_failed ts k r e ls h = failed_then ts (node k r) (expect_at kinds.Semicolon) e ls (failed_node ts k r e ls h)
 
--- what is made of a name, an equals sign and what is after it
+-- a declaration of a name, an equals sign, and a right side
 pub equal_told : {X Y : Type 0} (ts : List Token) (f : X → Events) (p : X → Fragment) (r : Reader) (g : Y → Events) (q : Y → Fragment) (make : Identdef → X → Y) →
     ((i : Identdef) (x : X) → g (make i x) ≡ identdef_events i ++ (word kinds.Equals ++ f x)) → ((i : Identdef) (x : X) → q (make i x) ≡ both (identdef_rows i) (both token (p x))) →
     (c : Context) (old mid last new : TableBuilder) (input here rest : Cursor) (result : Result Cursor Stop) →
@@ -100,17 +100,17 @@ equal_told {X} ts f p r g q make events made c old mid last new input here rest 
     (told_then ts identdef_events (λ i. after (identdef_rows i) c) (λ (y : Unit {0} × X). word kinds.Equals ++ f y.1) (λ y s. after (p y.1) c (advanced s)) identdef_at (seq (expect_at kinds.Equals) r) old mid new here result (remaining ts input) a
     (told_then ts (λ (u : Unit {0}). word kinds.Equals) (λ u s. advanced s) f (λ x. after (p x) c) (expect_at kinds.Equals) r mid last new rest result (remaining ts here) b t))
 
--- ---- a word and what is after it, if it is there
+---- an optional keyword and the declarations after it
 
 pub section_absent : {X : Type 0} (ts : List Token) (f : X → Events) (p : X → Fragment) (k : Kind) (r : Reader) (c : Context) (d : TableBuilder) (input : Cursor) → accept_at k (remaining ts input) ≡ None →
-    Tabulates {T = Option (Vec X)} ts (shown_there (λ v. shown_part k f v.items)) (if_present (λ v. part p v.items)) c d d (Ok input) (part_with k r (remaining ts input))
-unfolding part_with
+    Tabulates {T = Option (Vec X)} ts (shown_there (λ v. shown_part k f v.items)) (if_present (λ v. part p v.items)) c d d (Ok input) (section_with k r (remaining ts input))
+unfolding section_with
 section_absent {X} ts f p k r c d input none = absent_told {A = Vec X} ts c (λ v. shown_part k f v.items) (λ v. part p v.items) (accept_at k) (many (begins is_identifier) (with_semicolon r)) d input none
 
 pub section_told : {X : Type 0} (ts : List Token) (f : X → Events) (p : X → Fragment) (k : Kind) (r : Reader) (c : Context) (old mid new : TableBuilder) (input rest : Cursor) (result : Result Cursor Stop) →
     accept_at k (remaining ts input) ≡ Some (word k, remaining ts rest) → PerformsStep advanced old mid →
     Tabulates {T = Vec X} ts (λ v. each (ended_events f) v.items) (λ v. pieces (ended_rows p) v.items) c mid new result (many (begins is_identifier) (with_semicolon r) (remaining ts rest)) →
-    Tabulates {T = Option (Vec X)} ts (shown_there (λ v. shown_part k f v.items)) (if_present (λ v. part p v.items)) c old new result (part_with k r (remaining ts input))
-unfolding part_with
+    Tabulates {T = Option (Vec X)} ts (shown_there (λ v. shown_part k f v.items)) (if_present (λ v. part p v.items)) c old new result (section_with k r (remaining ts input))
+unfolding section_with
 section_told {X} ts f p k r c old mid new input rest result found h t =
     word_there_told {A = Vec X} ts c k (λ v. each (ended_events f) v.items) (λ v. pieces (ended_rows p) v.items) (many (begins is_identifier) (with_semicolon r)) old mid new input rest result found h t

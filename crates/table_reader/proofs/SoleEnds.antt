@@ -1,4 +1,4 @@
--- A name alone between two tokens, by the tokens ahead of both.
+-- A single name between two cursors, by the remaining tokens at both.
 use Rattle.std.proofs.Common.{◌≡◌, ℕ, ◌-◌, ◌<◌, Bool, true, false, cond, List, [], ◌∷◌, ◌++◌, length, map, drop, take, Option, Some, None, refl, sym, ap, subst, ◌∙◌, arith, length-append}
 use Rattle.std.proofs.lemmas.List.{length-drop, length-map}
 use Rattle.ob_scan.specs.declared.kind.Kind.{Kind}
@@ -9,18 +9,18 @@ use Rattle.ob_tree.specs.declared.token.Leaf.TheVariants as leafs
 use Rattle.ob_tree.specs.Leaves.{kind_eq}
 use Rattle.ob_tree.specs.TreeEvents.{Events, word}
 use Rattle.ob_tree.proofs.Same.{same_is}
-use Rattle.ob_parse.specs.declared.cursor.Cursor.{Cursor}
-use Rattle.ob_parse.specs.Lookahead.{uncons}
-use Rattle.ob_parse.specs.Combinators.{accept_at}
-use Rattle.ob_parse.specs.AgreesWith.{remaining, kind_of}
-use Rattle.ob_parse.proofs.Remaining.{leaves_length}
-use Rattle.ob_parse.proofs.Sound.{some_is}
+use Rattle.ob_grammar.specs.declared.cursor.Cursor.{Cursor}
+use Rattle.ob_grammar.specs.Lookahead.{uncons}
+use Rattle.ob_grammar.specs.Combinators.{accept_at}
+use Rattle.ob_grammar.specs.AgreesWith.{remaining, kind_of}
+use Rattle.ob_grammar.proofs.Remaining.{leaves_length}
+use Rattle.ob_grammar.proofs.Sound.{some_is}
 use Rattle.table_reader.specs.SoleNames.{sole_name_of, leading_name, IsSoleName}
 use Rattle.table_reader.specs.declared.slots.SoleName.{SoleName}
 use Rattle.table_reader.specs.declared.slots.SoleName.TheVariants as sole_names
 use Rattle.table_reader.proofs.SoleTokens.{lone_long}
 
--- ---- places
+---- indices
 
 length_ahead : (ts : List Token) (i : Cursor) → length (remaining ts i) ≡ length (take 4294967295 ts) - i.at
 unfolding remaining
@@ -62,18 +62,18 @@ front_is x rest (y ∷ ls) e = ap (λ (z : Leaf × List Leaf). z.0 ∷ z.1) (som
 tail_is : (x y : Leaf) (a b : List Leaf) → x ∷ a ≡ y ∷ b → (x ≡ y) × (a ≡ b)
 tail_is x y a b e = (cc, cc)
 
--- no name is first
+-- the first token is no name
 pub no_name_told : (ls rest a : List Leaf) → None ≡ leading_name (uncons ls) → ls ≡ rest ++ a → IsSoleName rest sole_names.No
 no_name_told ls [] a e h k = refl
 no_name_told ls (leafs.Name n ∷ rest) a e h k = absurd (let z : None ≡ leading_name (uncons (leafs.Name n ∷ (rest ++ a))) = e ∙ ap (λ (x : List Leaf). leading_name (uncons x)) h in cc)
 no_name_told ls (leafs.Value l n ∷ rest) a e h k = refl
 no_name_told ls (leafs.Word w ∷ rest) a e h k = refl
 
--- nothing is between
+-- no token is between the cursors
 pub empty_told : (ls rest a : List Leaf) → ls ≡ a → ls ≡ rest ++ a → IsSoleName rest sole_names.No
 empty_told ls rest a e h k = ap (λ (x : List Leaf). sole_name_of x k) (nothing_between rest a (sym h ∙ e))
 
--- one name is between
+-- one name is between the cursors
 pub bare_told : (n : ℕ) (ls following rest a : List Leaf) → Some (n, following) ≡ leading_name (uncons ls) → following ≡ a → ls ≡ rest ++ a → IsSoleName rest sole_names.Bare
 bare_told n ls following [] a e s h k = absurd (no_longer (leafs.Name n) a (sym h ∙ front_is (leafs.Name n) following ls (named_is n following (uncons ls) e) ∙ ap (λ (x : List Leaf). leafs.Name n ∷ x) s))
 bare_told n ls following (x ∷ rest) a e s h k =
@@ -81,7 +81,7 @@ bare_told n ls following (x ∷ rest) a e s h k =
     let none : rest ≡ [] = nothing_between rest a (z.1 ∙ s) in
     ap (λ (y : Leaf). sole_name_of (y ∷ rest) k) z.0 ∙ ap (λ (ys : List Leaf). sole_name_of (leafs.Name n ∷ ys) k) none
 
--- a name is first, and more after it
+-- a name comes first, and more tokens after it
 more_behind : (ts : List Token) (following here : Cursor) (rest : List Leaf) → (following.at ≡ here.at → ⊥) → rest ++ remaining ts here ≡ remaining ts following → 0 < length (remaining ts here) → 0 < length rest
 more_behind ts following here [] g h left = absurd (g (same_place ts following here (sym h) left))
 more_behind ts following here (x ∷ rest) g h left = omega arith
@@ -115,7 +115,7 @@ dot_is (leafs.Name n ∷ ls) rest e = absurd cc
 dot_is (leafs.Value l n ∷ ls) rest e = absurd cc
 dot_is (leafs.Word j ∷ ls) rest e = let z = dot_chosen j (kind_eq j kinds.Dot) ls rest refl e in ap (λ (w : Kind). leafs.Word w ∷ ls) z.0 ∙ ap (λ (x : List Leaf). leafs.Word kinds.Dot ∷ x) z.1
 
--- what follows the dot is no name
+-- the token after the dot is no name
 no_second : (n : ℕ) (ls rest a : List Leaf) → None ≡ leading_name (uncons ls) → rest ++ a ≡ ls → IsSoleName (leafs.Name n ∷ leafs.Word kinds.Dot ∷ rest) sole_names.No
 no_second n ls [] a e h k = refl
 no_second n ls (leafs.Name m ∷ rest) a e h k = absurd (let z : None ≡ leading_name (uncons (leafs.Name m ∷ (rest ++ a))) = e ∙ ap (λ (x : List Leaf). leading_name (uncons x)) (sym h) in cc)
@@ -132,7 +132,7 @@ with_dot l n ls following (x ∷ ys) a e h left f =
 pub no_second_told : (n : ℕ) (ls following rest a : List Leaf) → Some (word kinds.Dot, following) ≡ accept_at kinds.Dot ls → None ≡ leading_name (uncons following) → ls ≡ rest ++ a → 0 < length rest → IsSoleName (leafs.Name n ∷ rest) sole_names.No
 no_second_told n ls following rest a e s h left = with_dot sole_names.No n ls following rest a e h left (λ ys q. no_second n following ys a s q)
 
--- a name follows the dot, and ends there
+-- a name comes after the dot, and nothing after it
 second : (n m : ℕ) (following end ys a : List Leaf) → Some (m, end) ≡ leading_name (uncons following) → end ≡ a → ys ++ a ≡ following → IsSoleName (leafs.Name n ∷ leafs.Word kinds.Dot ∷ ys) sole_names.Dotted
 second n m following end [] a e s h k = absurd (no_longer (leafs.Name m) a (h ∙ front_is (leafs.Name m) end following (named_is m end (uncons following) e) ∙ ap (λ (x : List Leaf). leafs.Name m ∷ x) s))
 second n m following end (x ∷ ys) a e s h k =
@@ -144,7 +144,7 @@ pub second_told : (n m : ℕ) (ls following end rest a : List Leaf) → Some (wo
     IsSoleName (leafs.Name n ∷ rest) sole_names.Dotted
 second_told n m ls following end rest a e f s h left = with_dot sole_names.Dotted n ls following rest a e h left (λ ys q. second n m following end ys a f s q)
 
--- a name follows the dot, and more after it
+-- a name comes after the dot, and more tokens after it
 third : (n m : ℕ) (ts : List Token) (following end here : Cursor) (ys : List Leaf) → Some (m, remaining ts end) ≡ leading_name (uncons (remaining ts following)) → (end.at ≡ here.at → ⊥) → ys ++ remaining ts here ≡ remaining ts following →
     0 < length (remaining ts here) → IsSoleName (leafs.Name n ∷ leafs.Word kinds.Dot ∷ ys) sole_names.No
 third n m ts following end here [] e g h left k = refl

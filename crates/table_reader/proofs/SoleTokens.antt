@@ -1,4 +1,4 @@
--- Whether an expression is a name alone is seen from its tokens.
+-- The tokens of an expression determine whether it is a single name.
 use Rattle.std.proofs.Common.{◌≡◌, ℕ, ◌+◌, List, [], ◌∷◌, ◌++◌, map, Option, Some, None, refl, sym, ap, ◌∙◌}
 use Rattle.std.proofs.lemmas.List.{append-nil}
 use Rattle.std.specs.Global.{Box}
@@ -31,16 +31,16 @@ use Rattle.ob_tree.proofs.ExpressionLayers as events
 use Rattle.module_table.specs.declared.rows.TypeName.{TypeName}
 use Rattle.table_rules.specs.Expressions.{Phrase, SelectorPhrase, SoleName, between, if_single, if_absent, selected, designator_phrase, name_with, dotted, factor_phrase, term_phrase, sum_phrase, expr_phrase, list_phrase}
 use Rattle.table_rules.proofs.ExpressionLayers as effect
-use Rattle.ob_parse.proofs.Sound.{tokens_of-append, tokens_of-construct}
+use Rattle.ob_grammar.proofs.Sound.{tokens_of-append, tokens_of-construct}
 use Rattle.table_reader.specs.SoleNames.{sole_name_of}
 use Rattle.table_reader.specs.Shapes.{Compared, compared_events, sign_events, arguments_events}
 
--- four tokens and more are no name
+-- four tokens or more are no name
 pub lone_long : (a b c d : Leaf) (ls : List Leaf) (k : ℕ) → sole_name_of (a ∷ b ∷ c ∷ d ∷ ls) k ≡ None
 lone_long (leafs.Name n) (leafs.Word kinds.Dot) (leafs.Name m) d ls k = refl
 lone_long a b c d ls k = refl
 
--- nor is what has another word than a dot
+-- tokens with a word other than a dot are no name
 lone_word : (xs ys : List Leaf) (w : Kind) (k : ℕ) → (w ≡ kinds.Dot → ⊥) → sole_name_of (xs ++ leafs.Word w ∷ ys) k ≡ None
 lone_word [] ys w k h = refl
 lone_word (leafs.Name n ∷ []) ys kinds.Dot k h = absurd (h refl)
@@ -86,7 +86,7 @@ lone_designator d k =
     effect.designator_name d k ∙ lone_selectors d.head k d.selectors.items
     ∙ ap (λ (ls : List Leaf). sole_name_of ls k) (sym (ap tokens_of (events.designator_out d) ∙ tokens_of-construct constructs.Designator (used d.head ++ each selector_events d.selectors.items)))
 
--- ---- what may be a name alone
+---- constructs that may be a single name
 
 lone_shown : (k : ℕ) (y : Factor-F Factor Selector Designator Element ElementList Expr ExprList SimpleExpression Term) → (effect.factor_shown y).name k ≡ sole_name_of (tokens_of (events.factor_shown y)) k
 lone_shown k (layers.Value l n) = refl
@@ -98,14 +98,14 @@ lone_shown k (layers.Name d) = lone_designator d k
 lone_shown k (layers.Group e) = refl
 lone_shown k (layers.Not f) = refl
 
--- what is in a construct is a name alone, or isn't
+-- the content of a construct is a single name, or isn't
 in_construct : (c : Construct) (all_tokens parts : Events) (n : Option TypeName) (k : ℕ) → all_tokens ≡ construct c parts → n ≡ sole_name_of (tokens_of parts) k → n ≡ sole_name_of (tokens_of all_tokens) k
 in_construct c all_tokens parts n k e h = h ∙ ap (λ (ls : List Leaf). sole_name_of ls k) (sym (ap tokens_of e ∙ tokens_of-construct c parts))
 
 lone_factor : (f : Factor) (k : ℕ) → (factor_phrase f).name k ≡ sole_name_of (tokens_of (factor_events f)) k
 lone_factor f k = in_construct constructs.Factor (factor_events f) (events.factor_shown (out-Factor f)) _ k (events.factor_out f) (ap (λ (p : Phrase). p.name k) (effect.factor_out f) ∙ lone_shown k (out-Factor f))
 
--- a list after what may be a name alone: each after a word that is no dot
+-- a list after a construct that may be a single name: each item comes after a word other than a dot
 lone_list : {X : Type 0} (w : X → Kind) (g : X → Events) (first : Events) (xs : List X) (n : SoleName) (k : ℕ) → ((x : X) → w x ≡ kinds.Dot → ⊥) → n k ≡ sole_name_of (tokens_of first) k →
     if_single xs n k ≡ sole_name_of (tokens_of (first ++ each (λ x. word (w x) ++ g x) xs)) k
 lone_list w g first [] n k h e = e ∙ ap (λ (o : Events). sole_name_of (tokens_of o) k) (sym (append-nil first))
@@ -172,7 +172,7 @@ lone_exprs l k =
     ∙ lone_list {X = Expr} (λ e. kinds.Comma) expr_events (expr_events y.first) y.rest.items (expr_phrase y.first).name k comma_no_dot (lone_expr y.first k)
     ∙ ap (λ (o : Events). sole_name_of (tokens_of o) k) (sym (events.expr_list_out l))
 
--- what is between parentheses, the first of which has this number
+-- the tokens between parentheses, the first of which has this number
 pub lone_between : (o : Option (Box ExprList)) (k : ℕ) → between o k ≡ sole_name_of (tokens_of (arguments_events o)) (k + 1)
 lone_between None k = refl
 lone_between (Some l) k = lone_exprs l.value (k + 1)

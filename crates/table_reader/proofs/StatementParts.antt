@@ -14,9 +14,9 @@ use Rattle.ob_tree.specs.Expressions.{expr_events}
 use Rattle.ob_tree.specs.Statements.{block_events, branch_events, case_events}
 use Rattle.table_rules.specs.Expressions.{expr_rows}
 use Rattle.table_rules.specs.Statements.{block_rows, branch_rows, case_rows}
-use Rattle.ob_parse.specs.Combinators.{accept_at, many, name_at, optional, several}
-use Rattle.ob_parse.specs.ReadExpressions.{expr_at}
-use Rattle.ob_parse.specs.ReadStatements.{block_at, branch_with, case_with, label_range_at}
+use Rattle.ob_grammar.specs.Combinators.{accept_at, many, name_at, optional, several}
+use Rattle.ob_grammar.specs.ReadExpressions.{expr_at}
+use Rattle.ob_grammar.specs.ReadStatements.{block_at, branch_with, case_with, label_range_at}
 use Rattle.table_reader.specs.StatementShapes.{CasesEnd, ForBody, ForLimit, body_events, body_rows, branches_events, branches_rows, cases_events, cases_rows, labels_events, labels_rows, value_events, value_rows, for_variable_rows}
 use Rattle.table_reader.proofs.Parts.{Part, then_part, word_part}
 
@@ -30,11 +30,11 @@ block_part d = record { events = block_events; piece = block_rows; read = block_
 abbrev pub word_block_part : ℕ → Kind → Part (Unit {0} × StatementSequence)
 word_block_part d k = then_part (word_part k) (block_part d)
 
--- the same where they may are there
+-- statements after this word, if the word is present
 abbrev pub body_part : ℕ → Kind → Part (Option (Box StatementSequence))
 body_part d k = record { events = body_events k; piece = body_rows; read = optional (accept_at k) (block_at d) }
 
--- an expression after this word, if it may are there
+-- an expression after this word, if the word is present
 abbrev pub value_part : ℕ → Kind → Part (Option Expr)
 value_part d k = record { events = value_events k; piece = value_rows; read = optional (accept_at k) (expr_at d) }
 

@@ -1,4 +1,4 @@
--- Statements of parts that were contributed.
+-- Statements from their tabulated parts.
 use Rattle.std.proofs.Common.{◌≡◌, ℕ, zero, suc, ◌-◌, true, false, List, [], ◌++◌, length, Option, Some, None, Ok, Err, refl, sym, ap, ◌∙◌, arith}
 use Rattle.std.proofs.lemmas.List.{append-nil}
 use Rattle.std.specs.Global.{Vec}
@@ -31,14 +31,14 @@ use Rattle.table_rules.specs.Expressions.{each_after, expr_rows, designator_rows
 use Rattle.table_rules.specs.Statements.{label_range_rows, case_rows, stmt_rows, block_rows, branch_rows, for_rows, variable_rows}
 use Rattle.table_rules.proofs.StatementLayers as effect
 use Rattle.module_table.proofs.Steps.{after_both, after_nothing, number_of}
-use Rattle.ob_parse.specs.declared.cursor.Cursor.{Cursor}
-use Rattle.ob_parse.specs.declared.stop.Stop.{Stop}
-use Rattle.ob_parse.specs.declared.stop.Stop.TheVariants as stops
-use Rattle.ob_parse.specs.Combinators.{Read, Reader, seq, node, prefixed, several, optional, many, accept_at, expect_at, name_at, identifier_at, begins, deep_at}
-use Rattle.ob_parse.specs.Lookahead.{uncons, head_is}
-use Rattle.ob_parse.specs.AgreesWith.{remaining, Fails}
-use Rattle.ob_parse.specs.ReadExpressions.{designator_with, expr_at}
-use Rattle.ob_parse.specs.ReadStatements.{label_first, statement_first, empty_at, label_range_at, case_with, block_with, block_at, branch_with, if_with, cases_with, while_with, repeat_with, for_with, assign_with, statement_at, statement_from, statement_with}
+use Rattle.ob_grammar.specs.declared.cursor.Cursor.{Cursor}
+use Rattle.ob_grammar.specs.declared.stop.Stop.{Stop}
+use Rattle.ob_grammar.specs.declared.stop.Stop.TheVariants as stops
+use Rattle.ob_grammar.specs.Combinators.{Read, Reader, seq, node, prefixed, several, optional, many, accept_at, expect_at, name_at, identifier_at, begins, too_deep_error}
+use Rattle.ob_grammar.specs.Lookahead.{uncons, head_is}
+use Rattle.ob_grammar.specs.AgreesWith.{remaining, Fails}
+use Rattle.ob_grammar.specs.ReadExpressions.{designator_with, expr_at}
+use Rattle.ob_grammar.specs.ReadStatements.{label_first, statement_first, empty_at, label_range_at, case_with, block_with, block_at, branch_with, if_with, cases_with, while_with, repeat_with, for_with, assign_with, statement_at, statement_from, statement_with}
 use Rattle.table_reader.specs.StatementShapes.{then_events, then_rows, word_events, word_rows, labels_events, labels_rows, statements_events, statements_rows, branches_events, branches_rows, body_events, body_rows, value_events, assigned_stage, for_variable_rows, cases_end_events, cases_end_rows, ForLimit, for_limit_events, for_limit_rows}
 use Rattle.table_reader.specs.SelectorSlots.{written}
 use Rattle.table_reader.specs.Tabulating.{IsTabulated, Tabulates, TabulatesBy}
@@ -55,7 +55,7 @@ pub empty_told : (ts : List Token) (c : Context) (d : TableBuilder) (here : Curs
 empty_told ts c d here read e = record {
   out = construct constructs.EmptyStatement [];
   is_read = e;
-  tabulates = λ q. (q, record { tree = statements.Empty; is_outline = events.empty_made; comes = sym (ap (λ (p : Fragment). after p c (stage_of d)) effect.empty_made ∙ after_nothing c (stage_of d)) });
+  tabulates = λ q. (q, record { tree = statements.Empty; has_events = events.empty_made; comes = sym (ap (λ (p : Fragment). after p c (stage_of d)) effect.empty_made ∙ after_nothing c (stage_of d)) });
 }
 
 pub deeper : (d : ℕ) (ls : List Leaf) → (d ≡ 0 → ⊥) → statement_at d ls ≡ statement_with (expr_at (d - 1)) (block_at (d - 1)) ls
@@ -67,11 +67,11 @@ pub none_begins : (d : ℕ) (ls : List Leaf) → d ≡ 0 → head_is statement_f
 unfolding statement_at empty_at
 none_begins d ls h e = rw h (rw e refl)
 
-pub one_begins : (d : ℕ) (ls : List Leaf) → d ≡ 0 → head_is statement_first (uncons ls) ≡ true → statement_at d ls ≡ Err (deep_at (uncons ls))
+pub one_begins : (d : ℕ) (ls : List Leaf) → d ≡ 0 → head_is statement_first (uncons ls) ≡ true → statement_at d ls ≡ Err (too_deep_error (uncons ls))
 unfolding statement_at empty_at
 one_begins d ls h e = rw h (rw e refl)
 
--- by the token that is here
+-- by the next token
 pub told_seen : (ts : List Token) (c : Context) (expr block : Reader) (old new : TableBuilder) (result : Result Cursor Stop) (ls : List Leaf) (o : Option (Leaf × List Leaf)) → uncons ls ≡ o →
     Tabulates ts stmt_events stmt_rows c old new result (statement_from expr block ls o) → Tabulates ts stmt_events stmt_rows c old new result (statement_with expr block ls)
 unfolding statement_with
@@ -110,7 +110,7 @@ unfolding assign_with
 assign_failed ts d n e ls h =
     failed_node ts constructs.Statement (seq (designator_with (expr_at d) n) (optional (accept_at kinds.Assign) (expr_at d))) e ls (failed_then ts (designator_with (expr_at d) n) (optional (accept_at kinds.Assign) (expr_at d)) e ls h)
 
--- if a right side is there, its designator is written
+-- if a right side follows, the designator is written
 pub some_given : (ts : List Token) (c : Context) (head at : ℕ) (r : Reader) (old effect mid new : TableBuilder) (input rest : Cursor) (result : Result Cursor Stop) → accept_at kinds.Assign (remaining ts input) ≡ Some (word kinds.Assign, remaining ts rest) →
     PerformsStep (written at (record { head = head; block = c.block; is_written = true })) old effect → PerformsStep advanced effect mid → Tabulates ts expr_events expr_rows c mid new result (r (remaining ts rest)) →
     TabulatesBy ts (value_events kinds.Assign) (assigned_stage head at c) old new result (optional (accept_at kinds.Assign) r (remaining ts input))
@@ -238,7 +238,7 @@ unfolding case_with
 no_case ts c block d here e = record {
   out = construct constructs.Case [];
   is_read = rw e refl;
-  tabulates = λ q. (q, record { tree = cases.Nothing; is_outline = events.nothing_made; comes = sym (ap (λ (p : Fragment). after p c (stage_of d)) effect.nothing_made ∙ after_nothing c (stage_of d)) });
+  tabulates = λ q. (q, record { tree = cases.Nothing; has_events = events.nothing_made; comes = sym (ap (λ (p : Fragment). after p c (stage_of d)) effect.nothing_made ∙ after_nothing c (stage_of d)) });
 }
 
 -- ---- FOR
@@ -264,14 +264,14 @@ for_told ts c expr block old mid new result ls h t =
     (λ x. events.for_stmt_made (boxed old.uses.alloc (for_of x)) ∙ ap (construct constructs.Statement) (events.for_made x.0 x.1.1.0 x.1.1.1.1.0 x.1.1.1.1.1.0 x.1.1.1.1.1.1.1.0))
     (λ x. effect.for_stmt_made (boxed old.uses.alloc (for_of x)) ∙ for_parts x) h t
 
--- the variable of a FOR, which was contributed before its identifier was read
+-- the variable of a FOR, whose entry is appended before its identifier is read
 pub variable_read : (ts : List Token) (c : Context) (n : ℕ) (old new : TableBuilder) (input rest : Cursor) → identifier_at (remaining ts input) ≡ Ok (n, remaining ts rest) → PerformsStep (after variable_rows c) old new →
     IsTabulated ts used (λ x. after (for_variable_rows x) c) old new rest (name_at used (remaining ts input))
 unfolding name_at
 variable_read ts c n old new input rest e h = record {
   out = used n;
   is_read = rw e refl;
-  tabulates = λ q. let b = h q in (b.0, record { tree = n; is_outline = refl; comes = b.1 });
+  tabulates = λ q. let b = h q in (b.0, record { tree = n; has_events = refl; comes = b.1 });
 }
 
 pub no_variable : (ts : List Token) (e : Stop) (ls : List Leaf) → Fails ts e (identifier_at ls) → Fails ts e (name_at used ls)

@@ -9,10 +9,10 @@ use Rattle.ob_tree.specs.declared.declaration.Module.{Module}
 use Rattle.ob_tree.specs.Declaring.{module_events}
 use Rattle.ob_tree.specs.Derives.{Derives, endings_in}
 use Rattle.ob_tree.specs.TreeEvents.{Events}
-use Rattle.ob_parse.specs.Ends.{AreTokenNumbers}
-use Rattle.ob_parse.specs.Combinators.{ReadError}
-use Rattle.ob_parse.specs.Parsed.{IsEndFault, IsFirstWrong, IsOneTree, IsRightEnd, IsTheTree, kinds_of, read_left}
-use Rattle.ob_parse.proofs.OneTree.{endings_are_known, one_tree}
+use Rattle.ob_grammar.specs.Ends.{AreTokenNumbers}
+use Rattle.ob_grammar.specs.Combinators.{ReadError}
+use Rattle.ob_grammar.specs.Parsed.{IsEndFault, IsFirstWrong, IsOneTree, IsRightEnd, IsTheTree, kinds_of, read_as_module}
+use Rattle.ob_grammar.proofs.OneTree.{endings_are_known, one_tree}
 use Rattle.module_table.specs.Parts.{Rows}
 use Rattle.module_table.specs.Trees.{AreTreeRows}
 use Rattle.table_rules.specs.Declaring.{rows_of}
@@ -22,7 +22,7 @@ use Rattle.table_rules.specs.Naming.{ending_of}
 abbrev read_as : Events → Result Events ReadError
 read_as o = Ok o
 
--- the one tree of some tokens, whose entries these are
+-- the one tree of some tokens, with these entries
 pub record Whole (us : List Token) (rows : Rows) : Type 0 where
   pub of : Module
   pub tree : IsOneTree us of
@@ -30,11 +30,11 @@ pub record Whole (us : List Token) (rows : Rows) : Type 0 where
   pub endings_are : map ending_of rows.ends ≡ endings_in (module_events of)
   pub in_range : All (AreTokenNumbers us) (map ending_of rows.ends)
 
--- a module whose event sequence was read is the tree
-pub whole_tree : (us : List Token) (out : Events) (rows : Rows) (m : Module) → read_left us ≡ Ok out → module_events m ≡ out → rows ≡ rows_of m →
+-- a module whose event sequence was read is the tree of the tokens
+pub whole_tree : (us : List Token) (out : Events) (rows : Rows) (m : Module) → read_as_module us ≡ Ok out → module_events m ≡ out → rows ≡ rows_of m →
     (Derives (kinds_of us) m → map ending_of (rows_of m).ends ≡ endings_in (module_events m)) → Whole us rows
-whole_tree us out rows m read is_outline are law =
-    let as_read = read ∙ ap read_as (sym is_outline) in
+whole_tree us out rows m read has_events are law =
+    let as_read = read ∙ ap read_as (sym has_events) in
     let one = one_tree us m as_read in
     let endings = ap (λ (r : Rows). map ending_of r.ends) are ∙ law one.derived in
     record {
@@ -55,7 +55,7 @@ pub wrong_tree : (bytes : List ℕ) (us ts : List Token) (rows : Rows) (at : ℕ
 wrong_tree bytes us ts rows at w e wrong =
     subst (λ (vs : List Token). IsEndFault bytes vs at) e (record { of = w.of; tree = w.tree; first = subst (λ (es : List (ℕ × ℕ)). IsFirstWrong bytes us es at) w.endings_are wrong })
 
--- the entries of a tree of tokens, by other names of the entries
+-- the entries of a tree of tokens, with other names for the entries
 pub tree_rows_as : (ts : List Token) (r : Rows) (m : Module) → r ≡ rows_of m → AreTreeRows (λ k. slice_get (kinds_of ts) k ≡ Some Ident) (length (kinds_of ts)) (rows_of m) → AreTreeRows (λ k. slice_get (kinds_of ts) k ≡ Some Ident) (length ts) r
 tree_rows_as ts r m e h =
     subst (AreTreeRows (λ k. slice_get (kinds_of ts) k ≡ Some Ident) (length ts)) (sym e)

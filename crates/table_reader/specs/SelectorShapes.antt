@@ -8,11 +8,11 @@ use Rattle.ob_tree.specs.declared.expression.Expr.{Expr}
 use Rattle.ob_tree.specs.declared.expression.ExprList.{ExprList}
 use Rattle.ob_tree.specs.TreeEvents.{Events, each}
 use Rattle.ob_tree.specs.Expressions.{selector_events, expr_list_events}
-use Rattle.ob_parse.specs.Lookahead.{uncons, head_is, is_word}
-use Rattle.ob_parse.specs.Combinators.{Read}
-use Rattle.ob_parse.specs.AgreesWith.{Fails, remaining}
-use Rattle.ob_parse.specs.declared.cursor.Cursor.{Cursor}
-use Rattle.ob_parse.specs.declared.stop.Stop.{Stop}
+use Rattle.ob_grammar.specs.Lookahead.{uncons, head_is, is_word}
+use Rattle.ob_grammar.specs.Combinators.{Read}
+use Rattle.ob_grammar.specs.AgreesWith.{Fails, remaining}
+use Rattle.ob_grammar.specs.declared.cursor.Cursor.{Cursor}
+use Rattle.ob_grammar.specs.declared.stop.Stop.{Stop}
 use Rattle.module_table.specs.declared.builder.Context.{Context}
 use Rattle.module_table.specs.declared.builder.TableBuilder.{TableBuilder}
 use Rattle.module_table.specs.TableStages.{Stage, added, after, with_selector}
@@ -32,7 +32,7 @@ abbrev pub is_present : Option ℕ → Bool
 is_present None = false
 is_present (Some n) = true
 
--- a selector that selects a name if `dot`, and does not if not
+-- a selector that selects a name exactly if `dot` is true
 pub record SelectorShape (dot : Bool) : Type 0 where
   pub selector : Selector
   pub named : is_present (selected selector).name ≡ dot
@@ -45,7 +45,7 @@ selector_shape_events x = selector_events x.selector
 abbrev pub selector_stage : {dot : Bool} → ℕ → ℕ → Context → SelectorShape dot → Stage → Stage
 selector_stage head at c x s = after (selected x.selector).piece c (with_selector at (row_at head (selected x.selector) s) s)
 
--- selectors, the first of which selects a name if `dot`, and does not if not
+-- selectors; the first of them exists and selects a name exactly if `dot` is true
 pub record SelectorsShape (dot : Bool) : Type 0 where
   pub list : Vec Selector
   pub named : is_present (first_name (map selected list.items)) ≡ dot
@@ -72,7 +72,7 @@ abbrev pub Counts : List Token → Context → TableBuilder → TableBuilder →
 Counts ts c old new (Ok x) read = IsTabulated {T = Counted x.1} ts counted_events (λ l. after (expr_list_rows l.list) c) old new x.0 read
 Counts ts c old new (Err e) read = Fails ts e read
 
--- expressions after the first one of a list of `count`, each after a comma
+-- the expressions after the first one of a list of `count` expressions
 pub record MoreExprs (count : ℕ) : Type 0 where
   pub list : Vec Expr
   pub counted : suc (length list.items) ≡ count

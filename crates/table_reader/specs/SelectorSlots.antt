@@ -28,7 +28,7 @@ removed from end s = record { number = s.number; rows = record (s.rows) { select
 unfoldable pub written : ℕ → DesignatorRow → Stage → Stage
 written at row s = record { number = s.number; rows = record (s.rows) { designators = set s.rows.designators at row } }
 
--- the index `slot` is before the end of the reserved entries, or one more was inserted at the end; `now` is their end afterwards
+-- the index `slot` is before the end of the reserved entries, or one more entry was inserted at the end; `now` is the new end
 abbrev pub EnsuresSlot : ℕ → ℕ → ℕ → TableBuilder → TableBuilder → ℕ → Type 0
 EnsuresSlot head slot end old new now = new.failed ≡ false → (old.failed ≡ false)
     × (((slot < end) × (stage_of new ≡ stage_of old) × (now ≡ end)) ⊎ ((end ≤ slot) × (stage_of new ≡ inserted end (placeholder head) (stage_of old)) × (now ≡ end + 1)))

@@ -7,7 +7,7 @@ use Rattle.module_table.specs.declared.rows.TypeName.{TypeName}
 use Rattle.table_reader.specs.declared.slots.SoleName.{SoleName}
 use Rattle.table_reader.specs.declared.slots.SoleName.TheVariants as sole_names
 
--- the name of the form ident or ident "." ident that these tokens are, if they are one; k is the index of the first
+-- the name that these tokens form, if they are exactly ident or ident "." ident; k is the index of the first token
 abbrev pub sole_name_of : List Leaf → ℕ → Option TypeName
 sole_name_of (leafs.Name n ∷ []) k = Some (record { head = k; member = None })
 sole_name_of (leafs.Name n ∷ leafs.Word kinds.Dot ∷ leafs.Name m ∷ []) k = Some (record { head = k; member = Some (k + 2) })

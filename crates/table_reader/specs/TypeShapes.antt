@@ -24,9 +24,9 @@ use Rattle.module_table.specs.Parts.{Fragment, token, both, with_rows, if_presen
 use Rattle.table_rules.specs.Expressions.{each_after, expr_rows}
 use Rattle.table_rules.specs.Statements.{qualident_rows}
 use Rattle.table_rules.specs.Types.{part_row, name_part, in_record, record_row, open_arrays, section_rows, parameters_rows, type_rows, fields_rows, var_rows}
-use Rattle.ob_parse.specs.Combinators.{Reader, accept_at, expect_at, many, name_at, nothing, optional, seq, several, unless}
-use Rattle.ob_parse.specs.ReadNames.{qualident_at}
-use Rattle.ob_parse.specs.ReadTypes.{section_at}
+use Rattle.ob_grammar.specs.Combinators.{Reader, accept_at, expect_at, many, name_at, nothing, optional, seq, several, unless}
+use Rattle.ob_grammar.specs.ReadNames.{qualident_at}
+use Rattle.ob_grammar.specs.ReadTypes.{section_at}
 
 -- the further items of a list, each after a token of this kind
 abbrev pub more_events : {X : Type 0} → Kind → (X → Events) → Vec X → Events
@@ -108,20 +108,20 @@ abbrev pub opened_at : Reader
 opened_at = seq (optional (unless kinds.RightParen) (several kinds.Semicolon section_at)) closing_at
 
 -- formal parameters, if they are present
-abbrev pub some_parameters_events : Option Parameters → Events
-some_parameters_events = shown_there parameters_events
+abbrev pub optional_parameters_events : Option Parameters → Events
+optional_parameters_events = shown_there parameters_events
 
-abbrev pub some_parameters_rows : Option Parameters → Fragment
-some_parameters_rows = if_present parameters_rows
+abbrev pub optional_parameters_rows : Option Parameters → Fragment
+optional_parameters_rows = if_present parameters_rows
 
 -- ---- types
 
 -- a type after a token of this kind
-abbrev pub prefixed_type_events : Kind → TypeForm → Events
-prefixed_type_events k t = word k ++ type_events t
+abbrev pub type_after_token_events : Kind → TypeForm → Events
+type_after_token_events k t = word k ++ type_events t
 
-abbrev pub prefixed_type_rows : TypeForm → Fragment
-prefixed_type_rows t = both token (type_rows t)
+abbrev pub type_after_token_rows : TypeForm → Fragment
+type_after_token_rows t = both token (type_rows t)
 
 -- the further lengths of an array, each of which is an array of its own
 abbrev pub length_rows : Expr → Fragment
@@ -156,17 +156,17 @@ abbrev pub base_rows : Option Qualident → Fragment
 base_rows = if_present (λ q. both token (both (qualident_rows q) token))
 
 -- the field lists of a record, if there are any
-abbrev pub some_fields_events : Option (Box Fields) → Events
-some_fields_events = shown_there (λ f. fields_events f.value)
+abbrev pub optional_fields_events : Option (Box Fields) → Events
+optional_fields_events = shown_there (λ f. fields_events f.value)
 
-abbrev pub some_fields_rows : Option (Box Fields) → Fragment
-some_fields_rows = if_present (λ f. fields_rows f.value)
+abbrev pub optional_fields_rows : Option (Box Fields) → Fragment
+optional_fields_rows = if_present (λ f. fields_rows f.value)
 
 -- the stage after a record with this base, from its RECORD to its END
 abbrev pub record_stage : Option Qualident → Context → Option (Box Fields) → Stage → Stage
 record_stage base c f s =
-    advanced (after (some_fields_rows f) (in_record c s.number) (after (base_rows base) (in_record c s.number) (advanced (added (record_row base c s.number) s))))
+    advanced (after (optional_fields_rows f) (in_record c s.number) (after (base_rows base) (in_record c s.number) (advanced (added (record_row base c s.number) s))))
 
 -- the fields of a record and its END
 abbrev pub closed_events : Option (Box Fields) → Events
-closed_events f = some_fields_events f ++ word kinds.End
+closed_events f = optional_fields_events f ++ word kinds.End

@@ -18,51 +18,53 @@ ghost use Rattle.table_rules.specs.Declaring.{declarations_rows, procedure_rows}
 ghost use Rattle.table_rules.specs.Declaring as tabulates;
 ghost use Rattle.module_table.specs.Parts as parts;
 ghost use Rattle.module_table.specs.Parts.{Fragment, both, token, declaring};
-ghost use Rattle.ob_parse.specs.Combinators.{Reader, optional, accept_at, expect_at, name_at, after_name, many, begins, seq, node};
-ghost use Rattle.ob_parse.specs.ReadExpressions.{expr_at};
-ghost use Rattle.ob_parse.specs.ReadNames.{identdef_at};
-ghost use Rattle.ob_parse.specs.ReadStatements.{block_at};
-ghost use Rattle.ob_parse.specs.ReadTypes.{type_at, var_with};
-ghost use Rattle.ob_parse.specs.ReadModules.{Shortens, is_identifier, with_semicolon, const_with, type_decl_with, variable_with, part_with, procedures_with, body_with, procedure_named, procedure_with, procedure_at, declarations_at};
-ghost use Rattle.ob_parse.specs.AgreesWith.{remaining};
-ghost use Rattle.ob_parse.proofs.Loops.{const_shortens, type_decl_shortens, variable_shortens};
-ghost use Rattle.ob_parse.proofs.SoundExpressions.{expr_at_sound};
-ghost use Rattle.ob_parse.proofs.SoundTypes.{type_at_sound};
+ghost use Rattle.ob_grammar.specs.Combinators.{Reader, optional, accept_at, expect_at, name_at, after_name, many, begins, seq, node};
+ghost use Rattle.ob_grammar.specs.ReadExpressions.{expr_at};
+ghost use Rattle.ob_grammar.specs.ReadNames.{identdef_at};
+ghost use Rattle.ob_grammar.specs.ReadStatements.{block_at};
+ghost use Rattle.ob_grammar.specs.ReadTypes.{type_at, var_with};
+ghost use Rattle.ob_grammar.specs.ReadModules.{ConsumesToken, is_identifier, with_semicolon, const_with, type_decl_with, variable_with, section_with, procedures_with, body_with, procedure_named, procedure_with, procedure_at, declarations_at};
+ghost use Rattle.ob_grammar.specs.AgreesWith.{remaining};
+ghost use Rattle.ob_grammar.proofs.Loops.{const_shortens, type_decl_shortens, variable_shortens};
+ghost use Rattle.ob_grammar.proofs.SoundExpressions.{expr_at_sound};
+ghost use Rattle.ob_grammar.proofs.SoundTypes.{type_at_sound};
 ghost use Rattle.table_reader.specs.DeclarationShapes.{ended_events, ended_rows, procedures_events, body_events, body_rows, returned_events, returned_rows, procedure_rest_events, procedure_rest_rows, procedure_block_events, block_step, ending_events, ending_step};
 ghost use Rattle.table_reader.specs.Tabulating.{Tabulates, TabulatesBy};
 
-use crate::ends::procedure_name;
+use crate::ends::procedure_end_name;
 use crate::expressions::expression;
 use crate::names::declared_name;
-use crate::parameters::some_parameters;
+use crate::parameters::optional_parameters;
 use crate::source::ParserInput;
 use crate::statements::block;
 use crate::types::{type_expression, var_declaration};
-use crate::words::pass_word;
-use module_table::builder::{Context, TableBuilder, block_from, decl_group_at, declaring_from};
+use crate::words::expect_word;
+use module_table::builder::{
+    Context, TableBuilder, block_context, decl_group_context, new_decl_group,
+};
 use module_table::{Block as BlockRow, DeclKind};
-use ob_parse::cursor::Cursor;
-use ob_parse::declarations::begins_declaration;
-use ob_parse::stop::Stop;
-use ob_parse::tokens::{accept, depth_stop, identifier, is_at, skip};
+use ob_grammar::cursor::Cursor;
+use ob_grammar::declarations::begins_declaration;
+use ob_grammar::stop::Stop;
+use ob_grammar::tokens::{accept, depth_stop, identifier, is_at, skip};
 use ob_scan::Kind;
 use ob_tree::declaration::{ConstDecl, TypeDecl, VarDecl};
 use ob_tree::name::Identdef as Name;
-use table_rules::walk::types::walk_identdef;
+use table_rules::walk::types::append_identdef;
 
 /// A kind of declarations with a section of its own: constants, types or variables.
 trait Declaration {
-    // the grammar of the parts of one declaration with nested constructs of this depth, their events, and their entries
+    // the reader of a declaration in which this many levels of nesting are left, its events, and its entries
     ghost read: { ℕ → Reader };
 
     ghost events: { Self → Events };
 
     ghost effect: { Self → Fragment };
 
-    // the construct that consists of these parts
+    // the construct that the declaration is
     ghost production: { Construct };
 
-    /// Parses the parts of a declaration.
+    /// Parses a declaration without its semicolon.
     fn parts(
         builder: &mut TableBuilder,
         context: Context,
@@ -74,7 +76,7 @@ trait Declaration {
         ensures effect { Tabulates source.now.tokens.now events effect context builder.old builder.new result (read depth (remaining source.now.tokens.now input)) }
         ensures number { IfOk result (λ rest. builder.new.number ≡ rest.at) };
 
-    ghost shortens: { (depth : ℕ) → Shortens (node production (read depth)) };
+    ghost shortens: { (depth : ℕ) → ConsumesToken (node production (read depth)) };
 }
 
 impl Declaration for ConstDecl {
@@ -94,7 +96,7 @@ impl Declaration for ConstDecl {
         depth: u32,
     ) -> Result<Cursor, Stop> {
         match declared_name(builder, context, source.tokens, input) {
-            Ok(here) => match pass_word(builder, source.tokens, here, Kind::Equals) {
+            Ok(here) => match expect_word(builder, source.tokens, here, Kind::Equals) {
                 Ok(here) => expression(builder, context, source, here, depth),
                 Err(stop) => Err(stop),
             },
@@ -122,7 +124,7 @@ impl Declaration for TypeDecl {
         depth: u32,
     ) -> Result<Cursor, Stop> {
         match declared_name(builder, context, source.tokens, input) {
-            Ok(here) => match pass_word(builder, source.tokens, here, Kind::Equals) {
+            Ok(here) => match expect_word(builder, source.tokens, here, Kind::Equals) {
                 Ok(here) => type_expression(builder, context, source, here, depth),
                 Err(stop) => Err(stop),
             },
@@ -170,18 +172,18 @@ fn ended<D: Declaration>(
     ensures number { IfOk result (λ rest. builder.new.number ≡ rest.at) }
 {
     let first = builder.number;
-    let row = decl_group_at(decl_kind, context, first);
-    let at = builder.open(row);
+    let row = new_decl_group(decl_kind, context, first);
+    let at = builder.open_decl_group(row);
     match D::parts(
         builder,
-        declaring_from(context, first),
+        decl_group_context(context, first),
         source,
         input,
         depth,
     ) {
         Ok(here) => {
-            builder.close(at, row);
-            pass_word(builder, source.tokens, here, Kind::Semicolon)
+            builder.close_decl_group(at, row);
+            expect_word(builder, source.tokens, here, Kind::Semicolon)
         }
         Err(stop) => Err(stop),
     }
@@ -223,7 +225,7 @@ fn declaration_section<D: Declaration>(
 ) -> Result<Cursor, Stop>
     requires { builder.old.number ≡ input.at }
     ensures effect { Tabulates {T = Option (Vec D)} source.now.tokens.now (if_present (λ v. part keyword (λ x. construct D.production (D.events x)) v.items)) (parts.if_present (λ v. tabulates.part (λ x. declaring decl_kind (D.effect x)) v.items)) context builder.old builder.new result
-        (part_with keyword (node D.production (D.read depth)) (remaining source.now.tokens.now input)) }
+        (section_with keyword (node D.production (D.read depth)) (remaining source.now.tokens.now input)) }
     ensures number { IfOk result (λ rest. builder.new.number ≡ rest.at) }
 {
     match accept(source.tokens, input, keyword) {
@@ -251,7 +253,7 @@ fn procedures(
 {
     let mut here = input;
     'more: while is_at(source.tokens, here, Kind::Procedure) {
-        match ended_procedure(builder, context, source, here, depth) {
+        match procedure_with_semicolon(builder, context, source, here, depth) {
             Ok(next) => here = next,
             Err(stop) => return Err(stop),
         }
@@ -259,11 +261,11 @@ fn procedures(
     Ok(here)
 }
 
-/// Parses a procedure and its semicolon. This function is always inlined, as are others of its kind, so that a level of nesting takes as
-/// many calls as in the parser.
+/// Parses a procedure and its semicolon. Like some other functions of this crate it is always inlined, so that a level of nesting takes
+/// as many calls as in `ob_parse`.
 #[inline(always)]
 #[cycle(declarations)]
-fn ended_procedure(
+fn procedure_with_semicolon(
     builder: &mut TableBuilder,
     context: Context,
     source: &ParserInput,
@@ -276,7 +278,7 @@ fn ended_procedure(
     ensures number { IfOk result (λ rest. builder.new.number ≡ rest.at) }
 {
     match procedure(builder, context, source, input, depth) {
-        Ok(here) => pass_word(builder, source.tokens, here, Kind::Semicolon),
+        Ok(here) => expect_word(builder, source.tokens, here, Kind::Semicolon),
         Err(stop) => Err(stop),
     }
 }
@@ -319,16 +321,16 @@ fn procedure_within(
     ensures number { IfOk result (λ rest. builder.new.number ≡ rest.at) }
 {
     let first = builder.number;
-    let row = decl_group_at(DeclKind::Procedure, context, first);
-    let at = builder.open(row);
+    let row = new_decl_group(DeclKind::Procedure, context, first);
+    let at = builder.open_decl_group(row);
     builder.add_block(BlockRow {
         first,
         outer: context.block,
     });
-    let around = block_from(declaring_from(context, first), first);
-    match procedure_inner(builder, around, source, input, depth) {
+    let around = block_context(decl_group_context(context, first), first);
+    match procedure_in_block(builder, around, source, input, depth) {
         Ok(here) => {
-            builder.close(at, row);
+            builder.close_decl_group(at, row);
             Ok(here)
         }
         Err(stop) => Err(stop),
@@ -338,7 +340,7 @@ fn procedure_within(
 /// Parses a procedure inside its own block. Its name is declared in the enclosing block.
 #[inline(always)]
 #[cycle(declarations)]
-fn procedure_inner(
+fn procedure_in_block(
     builder: &mut TableBuilder,
     context: Context,
     source: &ParserInput,
@@ -351,9 +353,9 @@ fn procedure_inner(
         (seq (expect_at kinds.Procedure) (after_name (procedure_named (expr_at depth) (block_at depth) (declarations_at depth))) (remaining source.now.tokens.now input)) }
     ensures number { IfOk result (λ rest. builder.new.number ≡ rest.at) }
 {
-    match pass_word(builder, source.tokens, input, Kind::Procedure) {
+    match expect_word(builder, source.tokens, input, Kind::Procedure) {
         Ok(here) => match identifier(source.tokens, here) {
-            Ok((name, here)) => named_procedure(builder, context, source, here, depth, name),
+            Ok((name, here)) => procedure_after_name(builder, context, source, here, depth, name),
             Err(stop) => Err(stop),
         },
         Err(stop) => Err(stop),
@@ -363,7 +365,7 @@ fn procedure_inner(
 /// Parses a procedure after PROCEDURE and its name, whose index is `name`.
 #[inline(always)]
 #[cycle(declarations)]
-fn named_procedure(
+fn procedure_after_name(
     builder: &mut TableBuilder,
     context: Context,
     source: &ParserInput,
@@ -378,9 +380,9 @@ fn named_procedure(
     ensures number { IfOk result (λ rest. builder.new.number ≡ rest.at) }
 {
     let (starred, here) = skip(source.tokens, input, Kind::Star);
-    walk_identdef(builder, context, Name { name, starred });
-    match some_parameters(builder, context, source.tokens, here) {
-        Ok(here) => match pass_word(builder, source.tokens, here, Kind::Semicolon) {
+    append_identdef(builder, context, Name { name, starred });
+    match optional_parameters(builder, context, source.tokens, here) {
+        Ok(here) => match expect_word(builder, source.tokens, here, Kind::Semicolon) {
             Ok(here) => procedure_block(builder, context, source, here, depth, name),
             Err(stop) => Err(stop),
         },
@@ -433,7 +435,7 @@ pub(crate) fn body(
 }
 
 /// Parses RETURN and its expression, if RETURN is next.
-fn returned(
+fn optional_return(
     builder: &mut TableBuilder,
     context: Context,
     source: &ParserInput,
@@ -470,9 +472,9 @@ fn ending(
     ensures number { IfOk result (λ rest. builder.new.number ≡ rest.at) }
 {
     match body(builder, context, source, input, depth) {
-        Ok(here) => match returned(builder, context, source, here, depth) {
-            Ok(here) => match pass_word(builder, source.tokens, here, Kind::End) {
-                Ok(here) => procedure_name(builder, context, source.tokens, here, name),
+        Ok(here) => match optional_return(builder, context, source, here, depth) {
+            Ok(here) => match expect_word(builder, source.tokens, here, Kind::End) {
+                Ok(here) => procedure_end_name(builder, context, source.tokens, here, name),
                 Err(stop) => Err(stop),
             },
             Err(stop) => Err(stop),

@@ -8,22 +8,22 @@ ghost use Rattle.module_table.specs.TableStages.{after};
 ghost use Rattle.module_table.specs.Parts.{with_rows, token};
 ghost use Rattle.module_table.specs.Tables.{rows_in};
 ghost use Rattle.ob_tree.specs.TreeEvents.{repeated};
-ghost use Rattle.ob_parse.specs.Combinators.{name_at};
-ghost use Rattle.ob_parse.specs.AgreesWith.{remaining};
-ghost use Rattle.ob_parse.specs.Ends.{AreTokenNumbers, FirstWrong, IsEnd, IsInText};
+ghost use Rattle.ob_grammar.specs.Combinators.{name_at};
+ghost use Rattle.ob_grammar.specs.AgreesWith.{remaining};
+ghost use Rattle.ob_grammar.specs.Ends.{AreTokenNumbers, HasFirstWrongEnd, IsEnd, IsInText};
 ghost use Rattle.table_reader.specs.Tabulating.{TabulatesBy};
 
 use module_table::builder::{Context, TableBuilder};
 use module_table::{End, Table};
-use ob_parse::cursor::Cursor;
-use ob_parse::ends::is_right;
-use ob_parse::stop::Stop;
-use ob_parse::tokens::identifier;
+use ob_grammar::cursor::Cursor;
+use ob_grammar::ends::names_match;
+use ob_grammar::stop::Stop;
+use ob_grammar::tokens::identifier;
 use ob_scan::Token;
-use table_rules::walk::declarations::{walk_module_end, walk_procedure_end};
+use table_rules::walk::declarations::{append_module_end, append_procedure_end};
 
 /// Parses the name after the END of a procedure. `name` is the index of the name that it has to repeat.
-pub(crate) fn procedure_name(
+pub(crate) fn procedure_end_name(
     builder: &mut TableBuilder,
     context: Context,
     tokens: &[Token],
@@ -37,7 +37,7 @@ pub(crate) fn procedure_name(
 {
     match identifier(tokens, input) {
         Ok((_, rest)) => {
-            walk_procedure_end(builder, context);
+            append_procedure_end(builder, context);
             Ok(rest)
         }
         Err(stop) => Err(stop),
@@ -45,7 +45,7 @@ pub(crate) fn procedure_name(
 }
 
 /// Parses the name after the END of the module. `name` is the index of the name that it has to repeat.
-pub(crate) fn module_name(
+pub(crate) fn module_end_name(
     builder: &mut TableBuilder,
     context: Context,
     tokens: &[Token],
@@ -58,7 +58,7 @@ pub(crate) fn module_name(
 {
     match identifier(tokens, input) {
         Ok((_, rest)) => {
-            walk_module_end(builder, context);
+            append_module_end(builder, context);
             Ok(rest)
         }
         Err(stop) => Err(stop),
@@ -66,25 +66,25 @@ pub(crate) fn module_name(
 }
 
 /// Whether a name after END is right: whether it has the bytes of the name that it has to repeat.
-fn is_right_end(bytes: &[u8], tokens: &[Token], table: &Table, end: End) -> bool
+fn end_name_matches(bytes: &[u8], tokens: &[Token], table: &Table, end: End) -> bool
     requires in_range { AreTokenNumbers tokens.now (ending_of end) }
     requires in_text { All (IsInText bytes.now) tokens.now }
     ensures { IsEnd bytes.now tokens.now result (ending_of end) }
 {
     match end.of {
-        None => is_right(bytes, tokens, table.module_name_token(), end.number),
-        Some(name) => is_right(bytes, tokens, name, end.number),
+        None => names_match(bytes, tokens, table.module_name_token(), end.number),
+        Some(name) => names_match(bytes, tokens, name, end.number),
     }
 }
 
 /// The offset of the first name after END that differs from the name that it has to repeat.
-pub(crate) fn wrong_end(bytes: &[u8], tokens: &[Token], table: &Table) -> Option<u32>
+pub(crate) fn first_wrong_end(bytes: &[u8], tokens: &[Token], table: &Table) -> Option<u32>
     requires in_range { All (AreTokenNumbers tokens.now) (map ending_of (rows_in table.now).ends) }
     requires in_text { All (IsInText bytes.now) tokens.now }
-    ensures { FirstWrong bytes.now tokens.now (map ending_of (rows_in table.now).ends) result }
+    ensures { HasFirstWrongEnd bytes.now tokens.now (map ending_of (rows_in table.now).ends) result }
 {
     'names: for end in table.ends() {
-        if !is_right_end(bytes, tokens, table, *end) {
+        if !end_name_matches(bytes, tokens, table, *end) {
             return Some(tokens[end.number as usize].start);
         }
     }

@@ -9,29 +9,29 @@ ghost use Rattle.ob_tree.specs.TreeEvents.{construct, word};
 ghost use Rattle.ob_tree.specs.Expressions.{expr_events, sum_events, term_events, factor_events, designator_events, element_events, element_list_events};
 ghost use Rattle.table_rules.specs.Expressions.{expr_rows, sum_rows, term_rows, factor_rows, designator_rows, element_rows, element_list_rows};
 ghost use Rattle.module_table.specs.TableStages.{after};
-ghost use Rattle.ob_parse.specs.Combinators.{many, several, optional, unless, nothing, accept_at, expect_at, name_at, begins, seq, prefixed, node};
-ghost use Rattle.ob_parse.specs.AgreesWith.{remaining};
-ghost use Rattle.ob_parse.specs.ReadExpressions.{relation_start, sign_start, add_start, mul_start, element_with, selector_first, selector_with, designator_with, expr_at, sum_at, term_at, factor_at, negated_at};
-ghost use Rattle.ob_parse.specs.Lookahead.{uncons, head_is};
+ghost use Rattle.ob_grammar.specs.Combinators.{many, several, optional, unless, nothing, accept_at, expect_at, name_at, begins, seq, prefixed, node};
+ghost use Rattle.ob_grammar.specs.AgreesWith.{remaining};
+ghost use Rattle.ob_grammar.specs.ReadExpressions.{relation_start, sign_start, add_start, mul_start, element_with, selector_first, selector_with, designator_with, expr_at, sum_at, term_at, factor_at, negated_at};
+ghost use Rattle.ob_grammar.specs.Lookahead.{uncons, head_is};
 ghost use Rattle.table_reader.specs.Operators.{is_operator, operator_first};
 ghost use Rattle.table_reader.specs.Shapes.{compared_events, compared_rows, sign_events, sign_rows, terms_events, terms_rows, factors_events, factors_rows, set_events, set_rows, elements_events, elements_rows, high_events, high_rows, arguments_events, arguments_rows};
 ghost use Rattle.table_reader.specs.SelectorShapes.{dot_at, SelectorShape, selector_shape_events, selector_stage, SelectorsShape, selectors_shape_events, selectors_stage, Counts, CountsMore};
 ghost use Rattle.table_reader.specs.Tabulating.{Tabulates, TabulatesBy, IsTabulated};
 
 use crate::slots::{
-    close_slots, dot_is_next, ensure_slot, estimate_selectors, open_slots, selector_count,
-    sole_name,
+    dot_is_next, ensure_slot, estimate_selectors, reserve_slots, selector_count, sole_name,
+    trim_slots,
 };
 use crate::source::ParserInput;
-use crate::words::{pass_token, pass_word};
+use crate::words::{advance_token, expect_word};
 use module_table::builder::{Context, TableBuilder};
 use module_table::{Designator as DesignatorRow, Selector as SelectorRow, Step};
-use ob_parse::cursor::Cursor;
-use ob_parse::operators::{
+use ob_grammar::cursor::Cursor;
+use ob_grammar::operators::{
     add_operator, begins_expression, begins_factor, begins_selector, mul_operator, relation, sign,
 };
-use ob_parse::stop::Stop;
-use ob_parse::tokens::{accept, depth_stop, identifier, is_at};
+use ob_grammar::stop::Stop;
+use ob_grammar::tokens::{accept, depth_stop, identifier, is_at};
 use ob_scan::{Kind, Token};
 use ob_tree::token::Leaf;
 use table_rules::walk::uses::append_use;
@@ -246,12 +246,14 @@ fn factor(
         Some((Leaf::Name(number), rest)) => designator(
             builder, context, source, number, rest, depth,
         ),
-        Some((Leaf::Value(_, _), rest)) => Ok(pass_token(builder, rest)),
-        Some((Leaf::Word(Kind::Nil), rest)) => Ok(pass_token(builder, rest)),
-        Some((Leaf::Word(Kind::True), rest)) => Ok(pass_token(builder, rest)),
-        Some((Leaf::Word(Kind::False), rest)) => Ok(pass_token(builder, rest)),
+        Some((Leaf::Value(_, _), rest)) => Ok(advance_token(builder, rest)),
+        Some((Leaf::Word(Kind::Nil), rest)) => Ok(advance_token(builder, rest)),
+        Some((Leaf::Word(Kind::True), rest)) => Ok(advance_token(builder, rest)),
+        Some((Leaf::Word(Kind::False), rest)) => Ok(advance_token(builder, rest)),
         Some((Leaf::Word(Kind::LeftBrace), rest)) => set(builder, context, source, rest, depth),
-        Some((Leaf::Word(Kind::LeftParen), rest)) => group(builder, context, source, rest, depth),
+        Some((Leaf::Word(Kind::LeftParen), rest)) => parenthesized_factor(
+            builder, context, source, rest, depth,
+        ),
         Some((Leaf::Word(Kind::Tilde), rest)) => negated(builder, context, source, rest, depth),
         _ => Err(Stop::Unexpected(input)),
     }
@@ -273,14 +275,14 @@ fn set(
 {
     builder.advance();
     match elements(builder, context, source, input, depth) {
-        Ok(here) => pass_word(builder, source.tokens, here, Kind::RightBrace),
+        Ok(here) => expect_word(builder, source.tokens, here, Kind::RightBrace),
         Err(stop) => Err(stop),
     }
 }
 
 /// Parses the part of a factor in parentheses after the opening parenthesis.
 #[cycle(expressions)]
-fn group(
+fn parenthesized_factor(
     builder: &mut TableBuilder,
     context: Context,
     source: &ParserInput,
@@ -294,7 +296,7 @@ fn group(
 {
     builder.advance();
     match expression(builder, context, source, input, depth) {
-        Ok(here) => pass_word(builder, source.tokens, here, Kind::RightParen),
+        Ok(here) => expect_word(builder, source.tokens, here, Kind::RightParen),
         Err(stop) => Err(stop),
     }
 }
@@ -423,8 +425,8 @@ fn high(
     }
 }
 
-/// Parses a designator after its first identifier, which has this index. Its entry says that it is only read; `assigned_value` corrects the
-/// entry if `:=` follows.
+/// Parses a designator after its first identifier, which has the index `number`. The entry says that the designator is only read;
+/// `assigned_value` corrects the entry if `:=` follows.
 #[inline(always)]
 #[cycle(expressions)]
 pub(crate) fn designator(
@@ -470,7 +472,7 @@ fn selectors(
     ensures number { IfOk result (λ rest. builder.new.number ≡ rest.at) }
 {
     let at = selector_count(builder);
-    open_slots(builder, head, estimate_selectors(source, input));
+    reserve_slots(builder, head, estimate_selectors(source, input));
     let mut here = input;
     let mut slot = at;
     let mut end = selector_count(builder);
@@ -484,7 +486,7 @@ fn selectors(
             Err(stop) => return Err(stop),
         }
     }
-    close_slots(builder, slot, end);
+    trim_slots(builder, slot, end);
     Ok(here)
 }
 
@@ -509,7 +511,7 @@ fn selector(
         Some((Leaf::Word(Kind::LeftBracket), rest)) => {
             index(builder, context, source, rest, depth, head, slot)
         }
-        Some((Leaf::Word(Kind::Caret), rest)) => Ok(target(
+        Some((Leaf::Word(Kind::Caret), rest)) => Ok(caret_selector(
             builder, context, source, rest, head, slot,
         )),
         Some((Leaf::Word(Kind::LeftParen), rest)) => {
@@ -542,13 +544,13 @@ fn field(
     );
     builder.advance();
     match identifier(source.tokens, input) {
-        Ok((_, rest)) => Ok(pass_token(builder, rest)),
+        Ok((_, rest)) => Ok(advance_token(builder, rest)),
         Err(stop) => Err(stop),
     }
 }
 
 /// Sets the entry of the selector `^` at index `slot`, and advances the builder by this token.
-fn target(
+fn caret_selector(
     builder: &mut TableBuilder,
     context: Context,
     source: &ParserInput,
@@ -567,7 +569,7 @@ fn target(
             step: Step::Target,
         },
     );
-    pass_token(builder, rest)
+    advance_token(builder, rest)
 }
 
 /// Parses the indices after an opening bracket.
@@ -597,7 +599,7 @@ fn index(
                     step: Step::Elements(count),
                 },
             );
-            pass_word(builder, source.tokens, here, Kind::RightBracket)
+            expect_word(builder, source.tokens, here, Kind::RightBracket)
         }
         Err(stop) => Err(stop),
     }
@@ -631,7 +633,7 @@ fn call(
                     step: Step::Arguments(name),
                 },
             );
-            pass_word(builder, source.tokens, here, Kind::RightParen)
+            expect_word(builder, source.tokens, here, Kind::RightParen)
         }
         Err(stop) => Err(stop),
     }
@@ -680,7 +682,7 @@ pub(crate) fn expression_list(
     }
 }
 
-/// Parses the further expressions of a list, each after a comma, and counts the list with its first one.
+/// Parses the further expressions of a list, each after a comma. Returns the number of all expressions of the list, the first included.
 #[cycle(expressions)]
 fn more_expressions(
     builder: &mut TableBuilder,

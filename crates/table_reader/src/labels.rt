@@ -5,18 +5,18 @@ ghost use Rattle.std.specs.Prelude.{◌≡◌, IfOk};
 ghost use Rattle.ob_scan.specs.declared.kind.Kind.TheVariants as kinds;
 ghost use Rattle.ob_tree.specs.Statements.{label_events, label_range_events};
 ghost use Rattle.table_rules.specs.Statements.{label_rows, label_range_rows};
-ghost use Rattle.ob_parse.specs.Combinators.{accept_at, many, optional, several};
-ghost use Rattle.ob_parse.specs.AgreesWith.{remaining};
-ghost use Rattle.ob_parse.specs.ReadStatements.{case_label_at, label_range_at};
+ghost use Rattle.ob_grammar.specs.Combinators.{accept_at, many, optional, several};
+ghost use Rattle.ob_grammar.specs.AgreesWith.{remaining};
+ghost use Rattle.ob_grammar.specs.ReadStatements.{case_label_at, label_range_at};
 ghost use Rattle.table_reader.specs.StatementShapes.{high_label_events, high_label_rows, ranges_events, ranges_rows, labels_events, labels_rows};
 ghost use Rattle.table_reader.specs.Tabulating.{Tabulates};
 
 use crate::uses::qualident_after;
-use crate::words::pass_token;
+use crate::words::advance_token;
 use module_table::builder::{Context, TableBuilder};
-use ob_parse::cursor::Cursor;
-use ob_parse::stop::Stop;
-use ob_parse::tokens::accept;
+use ob_grammar::cursor::Cursor;
+use ob_grammar::stop::Stop;
+use ob_grammar::tokens::accept;
 use ob_scan::{Kind, Token};
 use ob_tree::expression::Literal;
 use ob_tree::token::Leaf;
@@ -34,8 +34,8 @@ fn label(
 {
     match input.next(tokens) {
         Some((Leaf::Name(number), rest)) => qualident_after(builder, context, tokens, number, rest),
-        Some((Leaf::Value(Literal::Integer, _), rest)) => Ok(pass_token(builder, rest)),
-        Some((Leaf::Value(Literal::Text, _), rest)) => Ok(pass_token(builder, rest)),
+        Some((Leaf::Value(Literal::Integer, _), rest)) => Ok(advance_token(builder, rest)),
+        Some((Leaf::Value(Literal::Text, _), rest)) => Ok(advance_token(builder, rest)),
         _ => Err(Stop::Unexpected(input)),
     }
 }

@@ -1,6 +1,6 @@
 //! From the tokens of an Oberon-07 module to its table of declarations and uses, in one pass that makes no syntax tree.
-//! Depends on `ob_parse` for the grammar, on `table_rules` for the entries of each production, and on `module_table`, `ob_scan` and `ob_tree`
-//! below them.
+//! Depends on `ob_grammar` for the grammar, on `table_rules` for the entries of each production, and on `module_table`, `ob_scan` and
+//! `ob_tree` below them.
 //! Main call: `read_table`. It returns the table of the one tree that derives the tokens, though no tree is made, or the error of
 //! `parse`.
 #![tactic(auto)]

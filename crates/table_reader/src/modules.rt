@@ -7,25 +7,25 @@ ghost use Rattle.ob_tree.specs.Declaring.{import_events, module_events};
 ghost use Rattle.table_rules.specs.Declaring.{module_rows, import_rows, imports_rows};
 ghost use Rattle.module_table.specs.TableStages.{after};
 ghost use Rattle.module_table.specs.Parts.{if_present};
-ghost use Rattle.ob_parse.specs.Combinators.{accept_at, expect_at, many, name_at, seq, several};
-ghost use Rattle.ob_parse.specs.AgreesWith.{remaining};
-ghost use Rattle.ob_parse.specs.ReadStatements.{block_at};
-ghost use Rattle.ob_parse.specs.ReadModules.{import_item_at, imports_at, declarations_at, body_with, module_at, module_after_name, read_all, with_semicolon};
+ghost use Rattle.ob_grammar.specs.Combinators.{accept_at, expect_at, many, name_at, seq, several};
+ghost use Rattle.ob_grammar.specs.AgreesWith.{remaining};
+ghost use Rattle.ob_grammar.specs.ReadStatements.{block_at};
+ghost use Rattle.ob_grammar.specs.ReadModules.{import_item_at, imports_at, declarations_at, body_with, module_at, module_after_name, read_all, with_semicolon};
 ghost use Rattle.table_reader.specs.DeclarationShapes.{module_end_events, end_step, module_parts_events, parts_step, module_rest_events, module_rest_step, ended_events, ended_rows, imports_events};
 ghost use Rattle.table_reader.specs.TypeShapes.{more_events, more_rows, list_rows};
 ghost use Rattle.table_reader.specs.Tabulating.{Tabulates, TabulatesBy, TabulatesModule};
 
 use crate::declarations::{body, declarations};
-use crate::ends::module_name;
+use crate::ends::module_end_name;
 use crate::source::ParserInput;
-use crate::words::pass_word;
+use crate::words::expect_word;
 use module_table::builder::{Context, TableBuilder};
-use ob_parse::cursor::Cursor;
-use ob_parse::modules::import as import_item;
-use ob_parse::stop::Stop;
-use ob_parse::tokens::{accept, identifier};
+use ob_grammar::cursor::Cursor;
+use ob_grammar::modules::import as import_item;
+use ob_grammar::stop::Stop;
+use ob_grammar::tokens::{accept, identifier};
 use ob_scan::{Kind, Token};
-use table_rules::walk::declarations::walk_import;
+use table_rules::walk::declarations::append_import;
 
 /// Parses an import item.
 fn import(
@@ -40,7 +40,7 @@ fn import(
 {
     match import_item(tokens, input) {
         Ok((item, rest)) => {
-            walk_import(builder, context, item);
+            append_import(builder, context, item);
             Ok(rest)
         }
         Err(stop) => Err(stop),
@@ -98,7 +98,7 @@ fn imports_and_semicolon(
     ensures number { IfOk result (λ rest. builder.new.number ≡ rest.at) }
 {
     match import_list(builder, context, tokens, input) {
-        Ok(here) => pass_word(builder, tokens, here, Kind::Semicolon),
+        Ok(here) => expect_word(builder, tokens, here, Kind::Semicolon),
         Err(stop) => Err(stop),
     }
 }
@@ -136,9 +136,9 @@ fn ending(
         (seq (expect_at kinds.End) (seq (name_at (repeated name)) (expect_at kinds.Dot)) (remaining tokens.now input)) }
     ensures number { IfOk result (λ rest. builder.new.number ≡ rest.at) }
 {
-    match pass_word(builder, tokens, input, Kind::End) {
-        Ok(here) => match module_name(builder, context, tokens, here, name) {
-            Ok(here) => pass_word(builder, tokens, here, Kind::Dot),
+    match expect_word(builder, tokens, input, Kind::End) {
+        Ok(here) => match module_end_name(builder, context, tokens, here, name) {
+            Ok(here) => expect_word(builder, tokens, here, Kind::Dot),
             Err(stop) => Err(stop),
         },
         Err(stop) => Err(stop),
@@ -146,7 +146,7 @@ fn ending(
 }
 
 /// Parses the part of a module after its imports. `name` is the index of the name that has to be repeated after END.
-fn parts(
+fn module_remainder(
     builder: &mut TableBuilder,
     context: Context,
     source: &ParserInput,
@@ -170,7 +170,7 @@ fn parts(
 }
 
 /// Parses a module after MODULE and its name, whose index is `name`.
-fn following(
+fn module_after_name(
     builder: &mut TableBuilder,
     context: Context,
     source: &ParserInput,
@@ -182,9 +182,9 @@ fn following(
     ensures effect { TabulatesBy source.now.tokens.now (module_rest_events name) (module_rest_step context) builder.old builder.new result (module_after_name depth name (remaining source.now.tokens.now input)) }
     ensures number { IfOk result (λ rest. builder.new.number ≡ rest.at) }
 {
-    match pass_word(builder, source.tokens, input, Kind::Semicolon) {
+    match expect_word(builder, source.tokens, input, Kind::Semicolon) {
         Ok(here) => match imports(builder, context, source.tokens, here) {
-            Ok(here) => parts(builder, context, source, here, depth, name),
+            Ok(here) => module_remainder(builder, context, source, here, depth, name),
             Err(stop) => Err(stop),
         },
         Err(stop) => Err(stop),
@@ -203,11 +203,11 @@ fn module(
     ensures effect { Tabulates source.now.tokens.now module_events module_rows context builder.old builder.new result (module_at depth (remaining source.now.tokens.now input)) }
     ensures number { IfOk result (λ rest. builder.new.number ≡ rest.at) }
 {
-    match pass_word(builder, source.tokens, input, Kind::Module) {
+    match expect_word(builder, source.tokens, input, Kind::Module) {
         Ok(here) => match identifier(source.tokens, here) {
             Ok((name, here)) => {
                 builder.advance();
-                following(builder, context, source, here, depth, name)
+                module_after_name(builder, context, source, here, depth, name)
             }
             Err(stop) => Err(stop),
         },
@@ -216,7 +216,7 @@ fn module(
 }
 
 /// Parses all remaining tokens as one module. A token after the final dot is an error.
-pub(crate) fn all_tokens(
+pub(crate) fn parse_all_tokens(
     builder: &mut TableBuilder,
     context: Context,
     source: &ParserInput,

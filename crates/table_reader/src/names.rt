@@ -6,20 +6,20 @@ ghost use Rattle.ob_tree.specs.TreeEvents.{separated};
 ghost use Rattle.ob_tree.specs.Names.{qualident_events, identdef_events};
 ghost use Rattle.table_rules.specs.Statements.{qualident_rows};
 ghost use Rattle.table_rules.specs.Types.{identdef_rows};
-ghost use Rattle.ob_parse.specs.Combinators.{accept_at, many, several};
-ghost use Rattle.ob_parse.specs.AgreesWith.{remaining};
-ghost use Rattle.ob_parse.specs.ReadNames.{qualident_at, identdef_at};
+ghost use Rattle.ob_grammar.specs.Combinators.{accept_at, many, several};
+ghost use Rattle.ob_grammar.specs.AgreesWith.{remaining};
+ghost use Rattle.ob_grammar.specs.ReadNames.{qualident_at, identdef_at};
 ghost use Rattle.table_reader.specs.TypeShapes.{more_events, more_rows, list_rows};
 ghost use Rattle.table_reader.specs.Tabulating.{Tabulates};
 
 use module_table::builder::{Context, TableBuilder};
-use ob_parse::cursor::Cursor;
-use ob_parse::names::{identdef, qualident};
-use ob_parse::stop::Stop;
-use ob_parse::tokens::accept;
+use ob_grammar::cursor::Cursor;
+use ob_grammar::names::{identdef, qualident};
+use ob_grammar::stop::Stop;
+use ob_grammar::tokens::accept;
 use ob_scan::{Kind, Token};
-use table_rules::walk::types::walk_identdef;
-use table_rules::walk::uses::walk_qualident;
+use table_rules::walk::types::append_identdef;
+use table_rules::walk::uses::append_qualident;
 
 /// Parses a use of a qualified identifier.
 pub(crate) fn used_qualident(
@@ -34,7 +34,7 @@ pub(crate) fn used_qualident(
 {
     match qualident(tokens, input) {
         Ok((name, rest)) => {
-            walk_qualident(builder, context, name);
+            append_qualident(builder, context, name);
             Ok(rest)
         }
         Err(stop) => Err(stop),
@@ -54,7 +54,7 @@ pub(crate) fn declared_name(
 {
     match identdef(tokens, input) {
         Ok((name, rest)) => {
-            walk_identdef(builder, context, name);
+            append_identdef(builder, context, name);
             Ok(rest)
         }
         Err(stop) => Err(stop),
@@ -62,7 +62,7 @@ pub(crate) fn declared_name(
 }
 
 /// Parses the further declaring identifiers, each after a comma.
-fn more_declared(
+fn more_declared_names(
     builder: &mut TableBuilder,
     context: Context,
     tokens: &[Token],
@@ -95,7 +95,7 @@ pub(crate) fn declared_names(
     ensures number { IfOk result (λ rest. builder.new.number ≡ rest.at) }
 {
     match declared_name(builder, context, tokens, input) {
-        Ok(here) => more_declared(builder, context, tokens, here),
+        Ok(here) => more_declared_names(builder, context, tokens, here),
         Err(stop) => Err(stop),
     }
 }

@@ -8,24 +8,24 @@ ghost use Rattle.ob_tree.specs.Names.{qualident_events};
 ghost use Rattle.ob_tree.specs.Types.{section_events, parameters_events};
 ghost use Rattle.module_table.specs.Parts.{both, token};
 ghost use Rattle.table_rules.specs.Types.{open_arrays as arrays_piece, parameter_rows, parameters_rows, section_inner as inner_piece, section_rows};
-ghost use Rattle.ob_parse.specs.Combinators.{accept_at, expect_at, many, name_at, optional, seq, several, unless};
-ghost use Rattle.ob_parse.specs.AgreesWith.{remaining};
-ghost use Rattle.ob_parse.specs.ReadNames.{qualident_at};
-ghost use Rattle.ob_parse.specs.ReadTypes.{parameters_at, section_at, some_parameters_at};
-ghost use Rattle.table_reader.specs.TypeShapes.{result_type_events, result_type_rows, arrays_events, closing_at, closing_events, closing_rows, formal_at, formal_name_rows, formal_events, formal_rows, more_events, more_rows, inner_at, inner_events, list_rows, opened_at, opened_events, opened_rows, sections_events, sections_rows, some_parameters_events, some_parameters_rows};
+ghost use Rattle.ob_grammar.specs.Combinators.{accept_at, expect_at, many, name_at, optional, seq, several, unless};
+ghost use Rattle.ob_grammar.specs.AgreesWith.{remaining};
+ghost use Rattle.ob_grammar.specs.ReadNames.{qualident_at};
+ghost use Rattle.ob_grammar.specs.ReadTypes.{parameters_at, section_at, optional_parameters_at};
+ghost use Rattle.table_reader.specs.TypeShapes.{result_type_events, result_type_rows, arrays_events, closing_at, closing_events, closing_rows, formal_at, formal_name_rows, formal_events, formal_rows, more_events, more_rows, inner_at, inner_events, list_rows, opened_at, opened_events, opened_rows, sections_events, sections_rows, optional_parameters_events, optional_parameters_rows};
 ghost use Rattle.table_reader.specs.Tabulating.{Tabulates};
 
 use crate::names::used_qualident;
-use crate::words::{pass_word, skip_word};
-use module_table::builder::{Context, TableBuilder, decl_group_at, declaring_from};
+use crate::words::{accept_word, expect_word};
+use module_table::builder::{Context, TableBuilder, decl_group_context, new_decl_group};
 use module_table::{DeclKind, Part};
-use ob_parse::cursor::Cursor;
-use ob_parse::names::qualident;
-use ob_parse::stop::Stop;
-use ob_parse::tokens::{accept, identifier, is_at};
+use ob_grammar::cursor::Cursor;
+use ob_grammar::names::qualident;
+use ob_grammar::stop::Stop;
+use ob_grammar::tokens::{accept, identifier, is_at};
 use ob_scan::{Kind, Token};
-use table_rules::walk::types::{add_part_row, add_type_name, walk_parameter};
-use table_rules::walk::uses::walk_qualident;
+use table_rules::walk::types::{add_type_component, add_type_name, append_parameter};
+use table_rules::walk::uses::append_qualident;
 
 /// Parses the name of a parameter.
 fn parameter_name(
@@ -40,7 +40,7 @@ fn parameter_name(
 {
     match identifier(tokens, input) {
         Ok((_, rest)) => {
-            walk_parameter(builder, context);
+            append_parameter(builder, context);
             Ok(rest)
         }
         Err(stop) => Err(stop),
@@ -99,9 +99,9 @@ fn open_arrays(
 {
     let mut here = input;
     'more: while let Some(following) = accept(tokens, here, Kind::Array) {
-        add_part_row(builder, context, Part::Array);
+        add_type_component(builder, context, Part::Array);
         builder.advance();
-        match pass_word(builder, tokens, following, Kind::Of) {
+        match expect_word(builder, tokens, following, Kind::Of) {
             Ok(next) => here = next,
             Err(stop) => return Err(stop),
         }
@@ -110,7 +110,7 @@ fn open_arrays(
 }
 
 /// Parses the name of a formal type.
-fn formal_name(
+fn formal_type_name(
     builder: &mut TableBuilder,
     context: Context,
     tokens: &[Token],
@@ -123,7 +123,7 @@ fn formal_name(
     match qualident(tokens, input) {
         Ok((name, rest)) => {
             add_type_name(builder, context, name);
-            walk_qualident(builder, context, name);
+            append_qualident(builder, context, name);
             Ok(rest)
         }
         Err(stop) => Err(stop),
@@ -142,13 +142,13 @@ fn formal_type(
     ensures number { IfOk result (λ rest. builder.new.number ≡ rest.at) }
 {
     match open_arrays(builder, context, tokens, input) {
-        Ok(here) => formal_name(builder, context, tokens, here),
+        Ok(here) => formal_type_name(builder, context, tokens, here),
         Err(stop) => Err(stop),
     }
 }
 
 /// Parses a colon and a formal type.
-fn colon_type(
+fn colon_and_formal_type(
     builder: &mut TableBuilder,
     context: Context,
     tokens: &[Token],
@@ -158,7 +158,7 @@ fn colon_type(
     ensures effect { Tabulates tokens.now (λ x. word kinds.Colon ++ formal_events x) (λ x. both token (formal_rows x)) context builder.old builder.new result (seq (expect_at kinds.Colon) formal_at (remaining tokens.now input)) }
     ensures number { IfOk result (λ rest. builder.new.number ≡ rest.at) }
 {
-    match pass_word(builder, tokens, input, Kind::Colon) {
+    match expect_word(builder, tokens, input, Kind::Colon) {
         Ok(here) => formal_type(builder, context, tokens, here),
         Err(stop) => Err(stop),
     }
@@ -175,9 +175,9 @@ fn section_inner(
     ensures effect { Tabulates tokens.now inner_events inner_piece context builder.old builder.new result (inner_at (remaining tokens.now input)) }
     ensures number { IfOk result (λ rest. builder.new.number ≡ rest.at) }
 {
-    let here = skip_word(builder, context, tokens, input, Kind::Var);
+    let here = accept_word(builder, context, tokens, input, Kind::Var);
     match names(builder, context, tokens, here) {
-        Ok(here) => colon_type(builder, context, tokens, here),
+        Ok(here) => colon_and_formal_type(builder, context, tokens, here),
         Err(stop) => Err(stop),
     }
 }
@@ -194,11 +194,11 @@ fn section(
     ensures number { IfOk result (λ rest. builder.new.number ≡ rest.at) }
 {
     let first = builder.number;
-    let row = decl_group_at(DeclKind::Parameter, context, first);
-    let at = builder.open(row);
-    match section_inner(builder, declaring_from(context, first), tokens, input) {
+    let row = new_decl_group(DeclKind::Parameter, context, first);
+    let at = builder.open_decl_group(row);
+    match section_inner(builder, decl_group_context(context, first), tokens, input) {
         Ok(here) => {
-            builder.close(at, row);
+            builder.close_decl_group(at, row);
             Ok(here)
         }
         Err(stop) => Err(stop),
@@ -292,7 +292,7 @@ fn closing(
     ensures effect { Tabulates tokens.now closing_events closing_rows context builder.old builder.new result (closing_at (remaining tokens.now input)) }
     ensures number { IfOk result (λ rest. builder.new.number ≡ rest.at) }
 {
-    match pass_word(builder, tokens, input, Kind::RightParen) {
+    match expect_word(builder, tokens, input, Kind::RightParen) {
         Ok(here) => result_type(builder, context, tokens, here),
         Err(stop) => Err(stop),
     }
@@ -326,21 +326,21 @@ fn parameters(
     ensures effect { Tabulates tokens.now parameters_events parameters_rows context builder.old builder.new result (parameters_at (remaining tokens.now input)) }
     ensures number { IfOk result (λ rest. builder.new.number ≡ rest.at) }
 {
-    match pass_word(builder, tokens, input, Kind::LeftParen) {
+    match expect_word(builder, tokens, input, Kind::LeftParen) {
         Ok(here) => opened(builder, context, tokens, here),
         Err(stop) => Err(stop),
     }
 }
 
 /// Parses formal parameters, if an opening parenthesis is next.
-pub(crate) fn some_parameters(
+pub(crate) fn optional_parameters(
     builder: &mut TableBuilder,
     context: Context,
     tokens: &[Token],
     input: Cursor,
 ) -> Result<Cursor, Stop>
     requires { builder.old.number ≡ input.at }
-    ensures effect { Tabulates tokens.now some_parameters_events some_parameters_rows context builder.old builder.new result (some_parameters_at (remaining tokens.now input)) }
+    ensures effect { Tabulates tokens.now optional_parameters_events optional_parameters_rows context builder.old builder.new result (optional_parameters_at (remaining tokens.now input)) }
     ensures number { IfOk result (λ rest. builder.new.number ≡ rest.at) }
 {
     if is_at(tokens, input, Kind::LeftParen) {

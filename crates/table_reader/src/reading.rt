@@ -10,36 +10,39 @@ ghost use Rattle.ob_scan.specs.Spelling.{IsOutcome};
 ghost use Rattle.ob_tree.specs.Declaring.{module_events};
 ghost use Rattle.ob_tree.specs.Leaves.{leaves_from};
 ghost use Rattle.ob_tree.specs.declared.declaration.Module.{Module};
-ghost use Rattle.ob_parse.specs.Parsed.{IsTheTree, IsFaultOf, kinds_of};
-ghost use Rattle.ob_parse.specs.ReadModules.{read_all};
+ghost use Rattle.ob_grammar.specs.Parsed.{IsTheTree, IsFaultOf, kinds_of};
+ghost use Rattle.ob_grammar.specs.ReadModules.{read_all};
 ghost use Rattle.table_reader.specs.Tabulating.{TabulatesModule};
 
-use crate::ends::wrong_end;
-use crate::modules::all_tokens;
-use crate::source::{ParserInput, brackets_of};
+use crate::ends::first_wrong_end;
+use crate::modules::parse_all_tokens;
+use crate::source::{ParserInput, match_brackets};
 use module_table::Table;
 use module_table::builder::{Context, TableBuilder};
-use ob_parse::ParseFault;
-use ob_parse::cursor::Cursor;
-use ob_parse::parser::{MAX_DEPTH, fault_of};
-use ob_parse::stop::Stop;
+use ob_grammar::cursor::Cursor;
+use ob_grammar::stop::Stop;
+use ob_grammar::{MAX_DEPTH, ParseFault, stop_fault};
 use ob_scan::{Token, Tokens};
 use std::alloc::Global;
-use table_rules::laws::{table_endings, tree_rows};
-use table_rules::table_from;
+use table_rules::finish_table;
+use table_rules::laws::{end_names_follow_events, tree_table_is_valid};
 
 /// Parses all tokens as one module.
-fn pass_all(alloc: Global, builder: &mut TableBuilder, tokens: &[Token]) -> Result<(), Stop>
+fn parse_with_brackets(
+    alloc: Global,
+    builder: &mut TableBuilder,
+    tokens: &[Token],
+) -> Result<(), Stop>
     requires few { length tokens.now < 2 ^ 32 }
     requires number { builder.old.number ≡ 0 }
     ensures { TabulatesModule tokens.now module_events (λ m. after (module_rows m) outermost) builder.old builder.new result (read_all 200 (leaves_from 0 (kinds_of tokens.now))) }
 {
-    let brackets = brackets_of(alloc, tokens)?;
+    let brackets = match_brackets(alloc, tokens)?;
     let source = ParserInput {
         tokens,
         brackets: brackets.as_slice(),
     };
-    all_tokens(builder, Context::OUTERMOST, &source, Cursor::ALL, MAX_DEPTH)
+    parse_all_tokens(builder, Context::OUTERMOST, &source, Cursor::ALL, MAX_DEPTH)
 }
 
 /// The table of the module whose tokens these are: the entries of the tree that `parse` would return, without that tree, or the error
@@ -58,14 +61,14 @@ pub fn read_table(alloc: Global, bytes: &[u8], tokens: &Tokens) -> Result<Table,
     // The text has this error.
     ensures fault { IfErr result (IsFaultOf bytes.now tokens.now) }
 {
-    tree_rows();
-    table_endings();
+    tree_table_is_valid();
+    end_names_follow_events();
     let list = tokens.as_slice();
     let mut builder = TableBuilder::new(alloc, list.len() as u32);
-    match pass_all(alloc, &mut builder, list) {
+    match parse_with_brackets(alloc, &mut builder, list) {
         Err(stop) => {
             drop(builder);
-            return Err(fault_of(bytes.len() as u32, list, stop));
+            return Err(stop_fault(bytes.len() as u32, list, stop));
         }
         Ok(()) => {}
     }
@@ -73,8 +76,8 @@ pub fn read_table(alloc: Global, bytes: &[u8], tokens: &Tokens) -> Result<Table,
         drop(builder);
         return Err(ParseFault::Memory);
     }
-    let table = table_from(builder);
-    match wrong_end(bytes, list, &table) {
+    let table = finish_table(builder);
+    match first_wrong_end(bytes, list, &table) {
         None => Ok(table),
         Some(offset) => Err(ParseFault::EndName { offset }),
     }

@@ -6,27 +6,27 @@ ghost use Rattle.ob_tree.specs.declared.token.Leaf.TheVariants as leafs;
 ghost use Rattle.ob_tree.specs.Widths.{name_width};
 ghost use Rattle.module_table.specs.TableStages.{added, PerformsStep};
 ghost use Rattle.module_table.specs.Parts.{these_selectors};
-ghost use Rattle.ob_parse.specs.AgreesWith.{remaining, with_remaining};
+ghost use Rattle.ob_grammar.specs.AgreesWith.{remaining, with_remaining};
 ghost use Rattle.table_reader.specs.SelectorShapes.{dot_at, is_present};
 ghost use Rattle.table_reader.specs.SelectorSlots.{placeholder, slots, inserted, removed, written, EnsuresSlot};
 ghost use Rattle.table_reader.specs.declared.slots.SoleName.TheVariants as sole_names;
-ghost use Rattle.ob_parse.specs.Lookahead.{uncons};
+ghost use Rattle.ob_grammar.specs.Lookahead.{uncons};
 ghost use Rattle.table_reader.specs.SoleNames.{sole_name_of, leading_name, IsSoleName};
 
-use crate::source::{ParserInput, kind_at};
+use crate::source::{ParserInput, kind_or_dot};
 use module_table::builder::TableBuilder;
 use module_table::{Designator as DesignatorRow, Selector as SelectorRow, Step, TypeName};
-use ob_parse::cursor::Cursor;
-use ob_parse::tokens::accept;
+use ob_grammar::cursor::Cursor;
+use ob_grammar::tokens::accept;
 use ob_scan::{Kind, Token};
 use ob_tree::token::Leaf;
 
-/// The index of the token after the selector that seems to begin at `at`, or `at` if none does. A bracket is skipped with what `brackets`
-/// has for it. A dot is skipped only with a name after it: so the closing bracket of the list in hand is never passed, and no token is
-/// inspected for two designators, even in a text that is rejected.
+/// The index of the token after the selector that seems to begin at `at`, or `at` if none does. A bracket is skipped together with its
+/// content, as `brackets` has its closing bracket. A dot is skipped only with a name after it. So the estimate stops at the bracket that
+/// closes the enclosing list, and each token is inspected for at most one designator, even in a text that is rejected.
 fn skip_selector(source: &ParserInput, at: u32) -> u32 {
-    match kind_at(source.tokens, at) {
-        Kind::Dot => match kind_at(source.tokens, at.saturating_add(1)) {
+    match kind_or_dot(source.tokens, at) {
+        Kind::Dot => match kind_or_dot(source.tokens, at.saturating_add(1)) {
             Kind::Ident => at.saturating_add(2),
             _ => at,
         },
@@ -54,7 +54,7 @@ pub(crate) fn estimate_selectors(source: &ParserInput, input: Cursor) -> u32 {
     count
 }
 
-/// Some index if a dot is next: callers only test whether it is there.
+/// `Some(0)` if a dot is next. The 0 has no meaning: callers test only whether there is a value.
 pub(crate) fn dot_is_next(tokens: &[Token], input: Cursor) -> Option<u32>
     ensures dot { is_present result ≡ dot_at tokens.now input }
     // The dot has an index of 32 bits, so the token after it has one too, or 2^32.
@@ -74,7 +74,7 @@ pub(crate) fn selector_count(builder: &TableBuilder) -> usize
 }
 
 /// Appends `count` placeholders for selectors. After a failed allocation it stops.
-pub(crate) fn open_slots(builder: &mut TableBuilder, head: u32, count: u32)
+pub(crate) fn reserve_slots(builder: &mut TableBuilder, head: u32, count: u32)
     ensures stage { PerformsStep (added (these_selectors (slots head count))) builder.old builder.new }
     ensures number { builder.new.number ≡ builder.old.number }
 {
@@ -123,7 +123,7 @@ fn insert_slot(builder: &mut TableBuilder, head: u32, at: usize) -> usize
 }
 
 /// Ends the selectors of a designator: removes the reserved entries from `slot` on that no selector needed.
-pub(crate) fn close_slots(builder: &mut TableBuilder, slot: usize, end: usize)
+pub(crate) fn trim_slots(builder: &mut TableBuilder, slot: usize, end: usize)
     requires { builder.old.failed ≡ false → (slot ≤ end) × (end ≤ length builder.old.selectors.items) }
     ensures stage { PerformsStep (removed slot end) builder.old builder.new }
     ensures number { builder.new.number ≡ builder.old.number }
@@ -161,11 +161,11 @@ pub(crate) fn write_designator(builder: &mut TableBuilder, at: usize, row: Desig
     }
 }
 
-/// The name that the tokens between the two cursors are, if they are nothing but a name.
+/// The name that the tokens between the two cursors form, if they are exactly one name, with or without a dot.
 pub(crate) fn sole_name(tokens: &[Token], input: Cursor, here: Cursor) -> Option<TypeName>
     ensures { (ls : List Leaf) → remaining tokens.now input ≡ ls ++ remaining tokens.now here → 0 < length (remaining tokens.now here) → result ≡ sole_name_of ls input.at }
 {
-    match sole_end(tokens, input, here) {
+    match classify_tokens(tokens, input, here) {
         SoleName::No => None,
         SoleName::Bare => Some(TypeName {
             head: input.number(),
@@ -186,7 +186,7 @@ enum SoleName {
 }
 
 /// Classifies the tokens between the two cursors.
-fn sole_end(tokens: &[Token], input: Cursor, here: Cursor) -> SoleName
+fn classify_tokens(tokens: &[Token], input: Cursor, here: Cursor) -> SoleName
     ensures number { result ≡ sole_names.Dotted → input.at + 2 < 2 ^ 32 }
     ensures sole { (ls : List Leaf) → remaining tokens.now input ≡ ls ++ remaining tokens.now here → 0 < length (remaining tokens.now here) → IsSoleName ls result }
 {
@@ -199,14 +199,14 @@ fn sole_end(tokens: &[Token], input: Cursor, here: Cursor) -> SoleName
             if following.number() == here.number() {
                 SoleName::Bare
             } else {
-                dotted_end(tokens, following, here)
+                classify_after_name(tokens, following, here)
             }
         }
     }
 }
 
 /// Classifies the tokens between the two cursors that follow a name: exactly a dot and a name make it dotted.
-fn dotted_end(tokens: &[Token], input: Cursor, here: Cursor) -> SoleName
+fn classify_after_name(tokens: &[Token], input: Cursor, here: Cursor) -> SoleName
     ensures number { result ≡ sole_names.Dotted → input.at + 1 < 2 ^ 32 }
     ensures sole { (n : ℕ) (ls : List Leaf) → remaining tokens.now input ≡ ls ++ remaining tokens.now here → 0 < length (remaining tokens.now here) → 0 < length ls → IsSoleName (leafs.Name n ∷ ls) result }
 {

@@ -17,7 +17,7 @@ pub(crate) struct ParserInput<'a> {
 const NONE: u32 = u32::MAX;
 
 /// The kind of a token, or `Dot` if no token has this index.
-pub(crate) fn kind_at(tokens: &[Token], at: u32) -> Kind {
+pub(crate) fn kind_or_dot(tokens: &[Token], at: u32) -> Kind {
     match tokens.get(at as usize) {
         Some(token) => token.kind,
         None => Kind::Dot,
@@ -26,13 +26,13 @@ pub(crate) fn kind_at(tokens: &[Token], at: u32) -> Kind {
 
 /// For each token that is an opening bracket or parenthesis the index of the closing one; for any other token any value. The element of a
 /// bracket that is still open has the index of the enclosing one, so no separate stack is needed.
-pub(crate) fn brackets_of(alloc: Global, tokens: &[Token]) -> Result<Vec<u32>, AllocError>
+pub(crate) fn match_brackets(alloc: Global, tokens: &[Token]) -> Result<Vec<u32>, AllocError>
     requires { length tokens.now < 2 ^ 32 }
 {
     let mut brackets = vec![in alloc; NONE; tokens.len()]?;
     let mut open = NONE;
     for at in 0..tokens.len() as u32 {
-        match kind_at(tokens, at) {
+        match kind_or_dot(tokens, at) {
             Kind::LeftBracket | Kind::LeftParen => {
                 if let Some(row) = brackets.get_mut(at as usize) {
                     *row = open;

@@ -7,10 +7,10 @@ ghost use Rattle.ob_tree.specs.Constructs as constructs;
 ghost use Rattle.ob_tree.specs.TreeEvents as marks;
 ghost use Rattle.ob_tree.specs.Statements.{block_events, branch_events, case_events, stmt_events};
 ghost use Rattle.table_rules.specs.Statements.{block_rows, branch_rows, case_rows, stmt_rows};
-ghost use Rattle.ob_parse.specs.Combinators.{accept_at, expect_at, many, node, optional, prefixed, seq};
-ghost use Rattle.ob_parse.specs.AgreesWith.{remaining};
-ghost use Rattle.ob_parse.specs.ReadExpressions.{expr_at};
-ghost use Rattle.ob_parse.specs.ReadStatements.{assign_with, block_at, branch_with, case_with, cases_with, for_with, if_with, repeat_with, statement_at, statement_with, while_with};
+ghost use Rattle.ob_grammar.specs.Combinators.{accept_at, expect_at, many, node, optional, prefixed, seq};
+ghost use Rattle.ob_grammar.specs.AgreesWith.{remaining};
+ghost use Rattle.ob_grammar.specs.ReadExpressions.{expr_at};
+ghost use Rattle.ob_grammar.specs.ReadStatements.{assign_with, block_at, branch_with, case_with, cases_with, for_with, if_with, repeat_with, statement_at, statement_with, while_with};
 ghost use Rattle.table_reader.specs.StatementShapes.{statements_events, statements_rows, branches_events, branches_rows, cases_events, cases_rows, body_events, body_rows, value_events, value_rows, assigned_stage, cases_end_events, cases_end_rows, for_body_events, for_body_rows, for_limit_events, for_limit_rows};
 ghost use Rattle.table_reader.specs.Tabulating.{Tabulates, TabulatesBy};
 
@@ -18,17 +18,17 @@ use crate::expressions::{designator, expression};
 use crate::labels::label_ranges;
 use crate::slots::{designator_count, write_designator};
 use crate::source::ParserInput;
-use crate::words::pass_word;
+use crate::words::expect_word;
 use module_table::Designator as DesignatorRow;
 use module_table::builder::{Context, TableBuilder};
-use ob_parse::cursor::Cursor;
-use ob_parse::labels::begins_label;
-use ob_parse::statements::begins_statement;
-use ob_parse::stop::Stop;
-use ob_parse::tokens::{accept, identifier};
+use ob_grammar::cursor::Cursor;
+use ob_grammar::labels::begins_label;
+use ob_grammar::statements::begins_statement;
+use ob_grammar::stop::Stop;
+use ob_grammar::tokens::{accept, identifier};
 use ob_scan::Kind;
 use ob_tree::token::Leaf;
-use table_rules::walk::uses::walk_for_variable;
+use table_rules::walk::uses::append_for_variable;
 
 /// Parses a statement, for which `depth` levels of nesting are left. It is a level itself.
 #[cycle(statements)]
@@ -84,7 +84,7 @@ fn statement_within(
     }
 }
 
-/// Parses an assignment or a call after its first identifier. The entry of its designator precedes all others of it.
+/// Parses an assignment or a call after its first identifier. The entry of its designator precedes its other entries.
 fn assignment(
     builder: &mut TableBuilder,
     context: Context,
@@ -196,7 +196,7 @@ fn branch(
     ensures number { IfOk result (λ rest. builder.new.number ≡ rest.at) }
 {
     match expression(builder, context, source, input, depth) {
-        Ok(here) => match pass_word(builder, source.tokens, here, keyword) {
+        Ok(here) => match expect_word(builder, source.tokens, here, keyword) {
             Ok(here) => block(builder, context, source, here, depth),
             Err(stop) => Err(stop),
         },
@@ -206,7 +206,7 @@ fn branch(
 
 /// Parses the ELSIF branches, with `keyword` between each condition and its statements.
 #[cycle(statements)]
-fn more_branches(
+fn elsif_branches(
     builder: &mut TableBuilder,
     context: Context,
     source: &ParserInput,
@@ -269,9 +269,9 @@ fn if_statement(
 {
     builder.advance();
     match branch(builder, context, source, input, depth, Kind::Then) {
-        Ok(here) => match more_branches(builder, context, source, here, depth, Kind::Then) {
+        Ok(here) => match elsif_branches(builder, context, source, here, depth, Kind::Then) {
             Ok(here) => match optional_block(builder, context, source, here, depth, Kind::Else) {
-                Ok(here) => pass_word(builder, source.tokens, here, Kind::End),
+                Ok(here) => expect_word(builder, source.tokens, here, Kind::End),
                 Err(stop) => Err(stop),
             },
             Err(stop) => Err(stop),
@@ -296,7 +296,7 @@ fn case_statement(
 {
     builder.advance();
     match expression(builder, context, source, input, depth) {
-        Ok(here) => match pass_word(builder, source.tokens, here, Kind::Of) {
+        Ok(here) => match expect_word(builder, source.tokens, here, Kind::Of) {
             Ok(here) => cases(builder, context, source, here, depth),
             Err(stop) => Err(stop),
         },
@@ -320,7 +320,7 @@ fn cases(
 {
     match case(builder, context, source, input, depth) {
         Ok(here) => match more_cases(builder, context, source, here, depth) {
-            Ok(here) => pass_word(builder, source.tokens, here, Kind::End),
+            Ok(here) => expect_word(builder, source.tokens, here, Kind::End),
             Err(stop) => Err(stop),
         },
         Err(stop) => Err(stop),
@@ -344,7 +344,7 @@ fn case(
         return Ok(input);
     }
     match label_ranges(builder, context, source.tokens, input) {
-        Ok(here) => match pass_word(builder, source.tokens, here, Kind::Colon) {
+        Ok(here) => match expect_word(builder, source.tokens, here, Kind::Colon) {
             Ok(here) => block(builder, context, source, here, depth),
             Err(stop) => Err(stop),
         },
@@ -392,8 +392,8 @@ fn while_statement(
 {
     builder.advance();
     match branch(builder, context, source, input, depth, Kind::Do) {
-        Ok(here) => match more_branches(builder, context, source, here, depth, Kind::Do) {
-            Ok(here) => pass_word(builder, source.tokens, here, Kind::End),
+        Ok(here) => match elsif_branches(builder, context, source, here, depth, Kind::Do) {
+            Ok(here) => expect_word(builder, source.tokens, here, Kind::End),
             Err(stop) => Err(stop),
         },
         Err(stop) => Err(stop),
@@ -416,7 +416,7 @@ fn repeat_statement(
 {
     builder.advance();
     match block(builder, context, source, input, depth) {
-        Ok(here) => match pass_word(builder, source.tokens, here, Kind::Until) {
+        Ok(here) => match expect_word(builder, source.tokens, here, Kind::Until) {
             Ok(here) => expression(builder, context, source, here, depth),
             Err(stop) => Err(stop),
         },
@@ -441,8 +441,8 @@ fn for_statement(
     builder.advance();
     match identifier(source.tokens, input) {
         Ok((_, here)) => {
-            walk_for_variable(builder, context);
-            match pass_word(builder, source.tokens, here, Kind::Assign) {
+            append_for_variable(builder, context);
+            match expect_word(builder, source.tokens, here, Kind::Assign) {
                 Ok(here) => match expression(builder, context, source, here, depth) {
                     Ok(here) => for_limit(builder, context, source, here, depth),
                     Err(stop) => Err(stop),
@@ -469,7 +469,7 @@ fn for_limit(
         (seq (expect_at kinds.Do) (seq (block_at depth) (expect_at kinds.End))))) (remaining source.now.tokens.now input)) }
     ensures number { IfOk result (λ rest. builder.new.number ≡ rest.at) }
 {
-    match pass_word(builder, source.tokens, input, Kind::To) {
+    match expect_word(builder, source.tokens, input, Kind::To) {
         Ok(here) => match expression(builder, context, source, here, depth) {
             Ok(here) => match for_step(builder, context, source, here, depth) {
                 Ok(here) => for_body(builder, context, source, here, depth),
@@ -515,9 +515,9 @@ fn for_body(
     ensures effect { Tabulates source.now.tokens.now for_body_events for_body_rows context builder.old builder.new result (seq (expect_at kinds.Do) (seq (block_at depth) (expect_at kinds.End)) (remaining source.now.tokens.now input)) }
     ensures number { IfOk result (λ rest. builder.new.number ≡ rest.at) }
 {
-    match pass_word(builder, source.tokens, input, Kind::Do) {
+    match expect_word(builder, source.tokens, input, Kind::Do) {
         Ok(here) => match block(builder, context, source, here, depth) {
-            Ok(here) => pass_word(builder, source.tokens, here, Kind::End),
+            Ok(here) => expect_word(builder, source.tokens, here, Kind::End),
             Err(stop) => Err(stop),
         },
         Err(stop) => Err(stop),

@@ -9,31 +9,33 @@ ghost use Rattle.ob_tree.specs.Expressions.{expr_list_events, expr_events};
 ghost use Rattle.ob_tree.specs.Types.{type_events, fields_events, var_events};
 ghost use Rattle.ob_tree.specs.Widths.{base_width};
 ghost use Rattle.table_rules.specs.Types.{fields_rows, lengths_rows, type_rows, var_rows};
-ghost use Rattle.ob_parse.specs.Combinators.{accept_at, expect_at, many, node, nothing, optional, prefixed, seq, several, unless};
-ghost use Rattle.ob_parse.specs.AgreesWith.{remaining};
-ghost use Rattle.ob_parse.specs.ReadExpressions.{expr_at};
-ghost use Rattle.ob_parse.specs.ReadNames as readers;
-ghost use Rattle.ob_parse.specs.ReadTypes.{field_start, fields_with, record_with, some_parameters_at, type_at, type_with, var_with};
-ghost use Rattle.table_reader.specs.TypeShapes.{prefixed_type_events, prefixed_type_rows, closed_events, ended_events, ended_rows, field_events, field_rows, more_lengths_rows, more_events, more_fields_rows, record_stage, some_fields_events, some_fields_rows};
+ghost use Rattle.ob_grammar.specs.Combinators.{accept_at, expect_at, many, node, nothing, optional, prefixed, seq, several, unless};
+ghost use Rattle.ob_grammar.specs.AgreesWith.{remaining};
+ghost use Rattle.ob_grammar.specs.ReadExpressions.{expr_at};
+ghost use Rattle.ob_grammar.specs.ReadNames as readers;
+ghost use Rattle.ob_grammar.specs.ReadTypes.{field_start, fields_with, record_with, optional_parameters_at, type_at, type_with, var_with};
+ghost use Rattle.table_reader.specs.TypeShapes.{type_after_token_events, type_after_token_rows, closed_events, ended_events, ended_rows, field_events, field_rows, more_lengths_rows, more_events, more_fields_rows, record_stage, optional_fields_events, optional_fields_rows};
 ghost use Rattle.table_reader.specs.Tabulating.{Tabulates, TabulatesBy};
 
 use crate::expressions::expression;
 use crate::names::declared_names;
-use crate::parameters::some_parameters;
+use crate::parameters::optional_parameters;
 use crate::source::ParserInput;
-use crate::words::{pass_word, skip_word};
-use module_table::builder::{Context, TableBuilder, block_from, decl_group_at, declaring_from};
+use crate::words::{accept_word, expect_word};
+use module_table::builder::{
+    Context, TableBuilder, block_context, decl_group_context, new_decl_group,
+};
 use module_table::{Block, DeclKind, Part};
-use ob_parse::cursor::Cursor;
-use ob_parse::names::qualident_after;
-use ob_parse::stop::Stop;
-use ob_parse::tokens::{accept, depth_stop, is_at};
-use ob_parse::types::{accept_fields, base, begins_type};
+use ob_grammar::cursor::Cursor;
+use ob_grammar::names::qualident_after;
+use ob_grammar::stop::Stop;
+use ob_grammar::tokens::{accept, depth_stop, is_at};
+use ob_grammar::types::{accept_field_separator, base, begins_type};
 use ob_scan::{Kind, Token};
 use ob_tree::name::Qualident;
 use ob_tree::token::Leaf;
 use table_rules::walk::types::{
-    add_part_row, add_record, record_context, type_from, walk_base, walk_type_name,
+    add_record, add_type_component, append_base, append_type_name, record_context, type_context,
 };
 
 /// Parses a type, for which `depth` levels of nesting are left. It is a level itself.
@@ -52,12 +54,12 @@ pub(crate) fn type_expression(
     if depth == 0 {
         return Err(depth_stop(source.tokens, input, begins_type(source.tokens, input)));
     }
-    type_within(builder, context, source, input, depth - 1)
+    type_after_depth_check(builder, context, source, input, depth - 1)
 }
 
 /// Parses a type, in whose parts `depth` levels of nesting are left.
 #[cycle(types)]
-fn type_within(
+fn type_after_depth_check(
     builder: &mut TableBuilder,
     context: Context,
     source: &ParserInput,
@@ -97,7 +99,7 @@ fn named(
 {
     match qualident_after(tokens, head, input) {
         Ok((name, rest)) => {
-            walk_type_name(builder, context, name);
+            append_type_name(builder, context, name);
             Ok(rest)
         }
         Err(stop) => Err(stop),
@@ -118,12 +120,12 @@ fn array(
         (node constructs.ArrayType (prefixed (word kinds.Array) (seq (several kinds.Comma (expr_at depth)) (seq (expect_at kinds.Of) (type_at depth)))) (remaining source.now.tokens.now input)) }
     ensures number { IfOk result (λ rest. builder.new.number ≡ rest.at) }
 {
-    add_part_row(builder, context, Part::Array);
+    add_type_component(builder, context, Part::Array);
     builder.advance();
     match lengths(builder, context, source, input, depth) {
-        Ok(here) => prefixed_type(
+        Ok(here) => type_after_token(
             builder,
-            type_from(context, false),
+            type_context(context, false),
             source,
             here,
             Kind::Of,
@@ -165,7 +167,7 @@ fn more_lengths(
 {
     let mut here = input;
     'more: while let Some(following) = accept(source.tokens, here, Kind::Comma) {
-        add_part_row(builder, context, Part::Array);
+        add_type_component(builder, context, Part::Array);
         builder.advance();
         match expression(builder, context, source, following, depth) {
             Ok(next) => here = next,
@@ -175,11 +177,11 @@ fn more_lengths(
     Ok(here)
 }
 
-/// Parses a type after a token of this kind. This function is always inlined, as are others of its kind, so that a level of nesting takes
-/// as many calls as in the parser.
+/// Parses a type after a token of this kind. Like some other functions of this crate it is always inlined, so that a level of nesting
+/// takes as many calls as in `ob_parse`.
 #[inline(always)]
 #[cycle(types)]
-fn prefixed_type(
+fn type_after_token(
     builder: &mut TableBuilder,
     context: Context,
     source: &ParserInput,
@@ -188,10 +190,10 @@ fn prefixed_type(
     depth: u32,
 ) -> Result<Cursor, Stop>
     requires { builder.old.number ≡ input.at }
-    ensures effect { Tabulates source.now.tokens.now (prefixed_type_events kind) prefixed_type_rows context builder.old builder.new result (seq (expect_at kind) (type_at depth) (remaining source.now.tokens.now input)) }
+    ensures effect { Tabulates source.now.tokens.now (type_after_token_events kind) type_after_token_rows context builder.old builder.new result (seq (expect_at kind) (type_at depth) (remaining source.now.tokens.now input)) }
     ensures number { IfOk result (λ rest. builder.new.number ≡ rest.at) }
 {
-    match pass_word(builder, source.tokens, input, kind) {
+    match expect_word(builder, source.tokens, input, kind) {
         Ok(here) => type_expression(builder, context, source, here, depth),
         Err(stop) => Err(stop),
     }
@@ -211,11 +213,11 @@ fn pointer(
         (node constructs.PointerType (prefixed (word kinds.Pointer) (seq (expect_at kinds.To) (type_at depth))) (remaining source.now.tokens.now input)) }
     ensures number { IfOk result (λ rest. builder.new.number ≡ rest.at) }
 {
-    add_part_row(builder, context, Part::Pointer);
+    add_type_component(builder, context, Part::Pointer);
     builder.advance();
-    prefixed_type(
+    type_after_token(
         builder,
-        type_from(context, true),
+        type_context(context, true),
         source,
         input,
         Kind::To,
@@ -232,20 +234,20 @@ fn procedure(
 ) -> Result<Cursor, Stop>
     requires { builder.old.number + 1 ≡ input.at }
     ensures effect { Tabulates tokens.now type_events type_rows context builder.old builder.new result
-        (node constructs.ProcedureType (prefixed (word kinds.Procedure) some_parameters_at) (remaining tokens.now input)) }
+        (node constructs.ProcedureType (prefixed (word kinds.Procedure) optional_parameters_at) (remaining tokens.now input)) }
     ensures number { IfOk result (λ rest. builder.new.number ≡ rest.at) }
 {
-    add_part_row(builder, context, Part::Procedure);
+    add_type_component(builder, context, Part::Procedure);
     let first = builder.number;
     builder.add_block(Block {
         first,
         outer: context.block,
     });
     builder.advance();
-    some_parameters(builder, block_from(context, first), tokens, input)
+    optional_parameters(builder, block_context(context, first), tokens, input)
 }
 
-/// Parses a record after its RECORD. The entry of the record has its base, which is parsed first.
+/// Parses a record after its RECORD. The base is parsed first, as the entry of the record contains it.
 #[cycle(types)]
 fn record(
     builder: &mut TableBuilder,
@@ -261,8 +263,8 @@ fn record(
 {
     match base(source.tokens, input) {
         Ok((base, here)) => {
-            add_part_row(builder, context, Part::Record);
-            record_parts(builder, context, source, here, base, depth)
+            add_type_component(builder, context, Part::Record);
+            record_after_base(builder, context, source, here, base, depth)
         }
         Err(stop) => Err(stop),
     }
@@ -271,7 +273,7 @@ fn record(
 /// Parses a record with this base, after the base.
 #[inline(always)]
 #[cycle(types)]
-fn record_parts(
+fn record_after_base(
     builder: &mut TableBuilder,
     context: Context,
     source: &ParserInput,
@@ -286,16 +288,16 @@ fn record_parts(
     let around = record_context(context, builder.number);
     add_record(builder, context, base);
     builder.advance();
-    walk_base(builder, around, base);
-    match some_fields(builder, around, source, input, depth) {
-        Ok(here) => pass_word(builder, source.tokens, here, Kind::End),
+    append_base(builder, around, base);
+    match optional_fields(builder, around, source, input, depth) {
+        Ok(here) => expect_word(builder, source.tokens, here, Kind::End),
         Err(stop) => Err(stop),
     }
 }
 
 /// Parses the field lists of a record, if its END is not next.
 #[cycle(types)]
-fn some_fields(
+fn optional_fields(
     builder: &mut TableBuilder,
     context: Context,
     source: &ParserInput,
@@ -303,7 +305,7 @@ fn some_fields(
     depth: u32,
 ) -> Result<Cursor, Stop>
     requires { builder.old.number ≡ input.at }
-    ensures effect { Tabulates source.now.tokens.now some_fields_events some_fields_rows context builder.old builder.new result (optional (unless kinds.End) (fields_with (type_at depth)) (remaining source.now.tokens.now input)) }
+    ensures effect { Tabulates source.now.tokens.now optional_fields_events optional_fields_rows context builder.old builder.new result (optional (unless kinds.End) (fields_with (type_at depth)) (remaining source.now.tokens.now input)) }
     ensures number { IfOk result (λ rest. builder.new.number ≡ rest.at) }
 {
     if is_at(source.tokens, input, Kind::End) {
@@ -326,7 +328,7 @@ fn fields(
     ensures number { IfOk result (λ rest. builder.new.number ≡ rest.at) }
 {
     match field_list(builder, context, source, input, depth) {
-        Ok(here) => fields_tail(builder, context, source, here, depth),
+        Ok(here) => fields_remainder(builder, context, source, here, depth),
         Err(stop) => Err(stop),
     }
 }
@@ -334,7 +336,7 @@ fn fields(
 /// Parses the further field lists, and the semicolon that may follow them.
 #[inline(always)]
 #[cycle(types)]
-fn fields_tail(
+fn fields_remainder(
     builder: &mut TableBuilder,
     context: Context,
     source: &ParserInput,
@@ -346,15 +348,15 @@ fn fields_tail(
         (seq (many field_start (node constructs.FieldList (var_with (type_at depth)))) (optional (accept_at kinds.Semicolon) nothing) (remaining source.now.tokens.now input)) }
     ensures number { IfOk result (λ rest. builder.new.number ≡ rest.at) }
 {
-    match more_fields(builder, context, source, input, depth) {
-        Ok(here) => Ok(skip_word(builder, context, source.tokens, here, Kind::Semicolon)),
+    match more_field_lists(builder, context, source, input, depth) {
+        Ok(here) => Ok(accept_word(builder, context, source.tokens, here, Kind::Semicolon)),
         Err(stop) => Err(stop),
     }
 }
 
 /// Parses the further field lists, each after a semicolon.
 #[cycle(types)]
-fn more_fields(
+fn more_field_lists(
     builder: &mut TableBuilder,
     context: Context,
     source: &ParserInput,
@@ -367,7 +369,7 @@ fn more_fields(
     ensures number { IfOk result (λ rest. builder.new.number ≡ rest.at) }
 {
     let mut here = input;
-    'more: while let Some(following) = accept_fields(source.tokens, here) {
+    'more: while let Some(following) = accept_field_separator(source.tokens, here) {
         builder.advance();
         match field_list(builder, context, source, following, depth) {
             Ok(next) => here = next,
@@ -391,17 +393,17 @@ fn field_list(
     ensures number { IfOk result (λ rest. builder.new.number ≡ rest.at) }
 {
     let first = builder.number;
-    let row = decl_group_at(DeclKind::Field, context, first);
-    let at = builder.open(row);
+    let row = new_decl_group(DeclKind::Field, context, first);
+    let at = builder.open_decl_group(row);
     match var_declaration(
         builder,
-        declaring_from(context, first),
+        decl_group_context(context, first),
         source,
         input,
         depth,
     ) {
         Ok(here) => {
-            builder.close(at, row);
+            builder.close_decl_group(at, row);
             Ok(here)
         }
         Err(stop) => Err(stop),
@@ -422,7 +424,7 @@ pub(crate) fn var_declaration(
     ensures number { IfOk result (λ rest. builder.new.number ≡ rest.at) }
 {
     match declared_names(builder, context, source.tokens, input) {
-        Ok(here) => prefixed_type(builder, context, source, here, Kind::Colon, depth),
+        Ok(here) => type_after_token(builder, context, source, here, Kind::Colon, depth),
         Err(stop) => Err(stop),
     }
 }

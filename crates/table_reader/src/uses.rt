@@ -3,15 +3,15 @@
 ghost use Rattle.std.specs.Prelude.{◌≡◌, ◌+◌, IfOk};
 ghost use Rattle.ob_tree.specs.Names.{qualident_events};
 ghost use Rattle.table_rules.specs.Statements.{qualident_rows};
-ghost use Rattle.ob_parse.specs.AgreesWith.{remaining};
-ghost use Rattle.ob_parse.specs.ReadNames as readers;
+ghost use Rattle.ob_grammar.specs.AgreesWith.{remaining};
+ghost use Rattle.ob_grammar.specs.ReadNames as readers;
 ghost use Rattle.table_reader.specs.Tabulating.{Tabulates};
 
-use crate::words::pass_token;
+use crate::words::advance_token;
 use module_table::builder::{Context, TableBuilder};
-use ob_parse::cursor::Cursor;
-use ob_parse::stop::Stop;
-use ob_parse::tokens::{accept, identifier};
+use ob_grammar::cursor::Cursor;
+use ob_grammar::stop::Stop;
+use ob_grammar::tokens::{accept, identifier};
 use ob_scan::{Kind, Token};
 use table_rules::walk::uses::append_use;
 
@@ -37,7 +37,7 @@ pub(crate) fn qualident_after(
             append_use(builder, context, Some(0));
             builder.advance();
             match identifier(tokens, rest) {
-                Ok((_, rest)) => Ok(pass_token(builder, rest)),
+                Ok((_, rest)) => Ok(advance_token(builder, rest)),
                 Err(stop) => Err(stop),
             }
         }

@@ -3,19 +3,19 @@
 ghost use Rattle.ob_tree.specs.TreeEvents.{word};
 ghost use Rattle.std.specs.Prelude.{◌≡◌, ◌+◌, IfOk};
 ghost use Rattle.module_table.specs.TableStages.{after, advanced, PerformsStep};
-ghost use Rattle.ob_parse.specs.Combinators.{accept_at, expect_at, nothing, optional};
-ghost use Rattle.ob_parse.specs.AgreesWith.{remaining};
+ghost use Rattle.ob_grammar.specs.Combinators.{accept_at, expect_at, nothing, optional};
+ghost use Rattle.ob_grammar.specs.AgreesWith.{remaining};
 ghost use Rattle.table_reader.specs.Tabulating.{TabulatesBy, IsTabulated};
 ghost use Rattle.table_reader.specs.TypeShapes.{optional_word_events, optional_word_rows};
 
 use module_table::builder::{Context, TableBuilder};
-use ob_parse::cursor::Cursor;
-use ob_parse::stop::Stop;
-use ob_parse::tokens::{expect, skip};
+use ob_grammar::cursor::Cursor;
+use ob_grammar::stop::Stop;
+use ob_grammar::tokens::{expect, skip};
 use ob_scan::{Kind, Token};
 
-/// The cursor after the next token, which has to be of this kind.
-pub(crate) fn pass_word(
+/// Parses the next token, which has to be of this kind, and advances the builder by it.
+pub(crate) fn expect_word(
     builder: &mut TableBuilder,
     tokens: &[Token],
     input: Cursor,
@@ -36,8 +36,8 @@ pub(crate) fn pass_word(
     }
 }
 
-/// The cursor after the next token if it is of this kind, else the one before it.
-pub(crate) fn skip_word(
+/// Parses the next token if it is of this kind, and advances the builder by it; otherwise returns the cursor as it is.
+pub(crate) fn accept_word(
     builder: &mut TableBuilder,
     context: Context,
     tokens: &[Token],
@@ -56,7 +56,7 @@ pub(crate) fn skip_word(
 }
 
 /// Advances the builder by a token that was read already.
-pub(crate) fn pass_token(builder: &mut TableBuilder, rest: Cursor) -> Cursor
+pub(crate) fn advance_token(builder: &mut TableBuilder, rest: Cursor) -> Cursor
     requires { builder.old.number + 1 ≡ rest.at }
     ensures cursor { result ≡ rest }
     ensures stage { PerformsStep advanced builder.old builder.new }

@@ -1,4 +1,4 @@
--- What declarations and modules contribute, layer by layer.
+-- The entries of declarations and modules, layer by layer.
 use Rattle.std.proofs.Common.{◌≡◌, false, refl, ap, ◌∙◌}
 use Rattle.ob_tree.specs.declared.name.OneOrMore.{OneOrMore}
 use Rattle.ob_tree.specs.declared.declaration.ConstDecl.{ConstDecl}
@@ -81,7 +81,7 @@ pub procedure_told : (p : ProcDecl) → procedure_rows p ≡ procedure_shown (ou
 unfolding declarations_rows procedure_rows
 procedure_told p = fold_out-ProcDecl Fragment Fragment declarations_step procedure_step p
 
--- the same at a value that is made
+-- the same at a constructed value
 
 pub declarations_made : (x : DeclarationsLayer) → declarations_rows (roll-Declarations x) ≡ declarations_shown x
 declarations_made x = declarations_out (roll-Declarations x) ∙ ap (λ y. declarations_shown y) (out-roll-Declarations x)

@@ -141,7 +141,7 @@ module _ (ks : List Kind) (m : Module) (e : Derives ks m) where
         | inr named ↦ ident_at Imports i.imported named
       ]
 
--- ---- how many uses
+-- ---- the number of uses
 
 module _ {X : Type 0} (n : X → ℕ) (xs : List X) (up : IsIncreasingBy n xs) where
   at_least : (i : ℕ) (x : X) → slice_get xs i ≡ Some x → i ≤ n x
@@ -205,7 +205,7 @@ module _ (P : ℕ → Type 0) where
   moved_on : (k i : ℕ) → P (suc k + i) → P (k + suc i)
   moved_on k i h = subst P (omega arith) h
 
-  -- what holds of each place of an identifier holds of each token that is one
+  -- a property of all positions of identifiers holds for each token that is an identifier
   at_each : (o : Events) (k : ℕ) (ks : List Kind) (i : ℕ) → leaves_from k ks ≡ tokens_of o → AtNames P k o → slice_get ks i ≡ Some kinds.Ident → P (k + i)
   unfolding AtNames
   at_each [] k [] i e a g = absurd cc

@@ -1,4 +1,4 @@
--- What expressions contribute, layer by layer.
+-- The entries of expressions, layer by layer.
 use Rattle.std.proofs.Common.{◌≡◌, ℕ, suc, ◌+◌, Bool, false, List, [], ◌∷◌, length, map, Option, Some, None, refl, ap, ◌∙◌}
 use Rattle.std.specs.declared.boxed.Box.{Box}
 use Rattle.std.specs.declared.alloc.Global.{Global}
@@ -202,7 +202,7 @@ pub selector_out : (s : Selector) → selected s ≡ selector_shown (out-Selecto
 unfolding factor_phrase selected designator_phrase element_rows element_list_rows expr_phrase list_phrase sum_phrase term_phrase
 selector_out s = fold_out-Selector Phrase SelectorPhrase DesignatorPhrase Fragment Fragment Phrase ListPhrase Phrase Phrase factor_step selector_step designator_step element_step element_list_step expr_step expr_list_step sum_step term_step s ∙ selector_seen (out-Selector s)
 
--- the same at a value that is made
+-- the same at a constructed value
 
 pub designator_made : (w : Bool) (x : DesignatorLayer) → designator_rows w (roll-Designator x) ≡ designator_shown w x
 designator_made w x = designator_out w (roll-Designator x) ∙ ap (λ y. designator_shown w y) (out-roll-Designator x)

@@ -1,4 +1,4 @@
--- The parts of forms in a part of a tree without import items: those of the form around it are before those of declarations in it.
+-- The type components of a fragment without import items: those of the declaration around it precede those of declarations in it.
 use Rattle.std.proofs.Common.{◌≡◌, ℕ, ◌+◌, ◌≤◌, Bool, true, false, List, [], ◌∷◌, ◌++◌, map, Option, Some, None, refl, sym, ap, ap₂, subst, arith}
 use Rattle.ob_tree.specs.declared.name.OneOrMore.{OneOrMore}
 use Rattle.module_table.specs.declared.builder.Context.{Context}
@@ -10,26 +10,26 @@ use Rattle.table_rules.specs.Expressions.{each_after}
 use Rattle.table_rules.proofs.Lined.{Lined, lower, higher, lined_both, lined_end, lined_on}
 use Rattle.table_rules.proofs.Quiet.{Quiet, Told}
 
--- what declares them goes up from one bound to another
+-- the declaration groups of the components increase from one bound to another
 abbrev pub Rising : ℕ → ℕ → List TypePart → Type 0
 Rising low high ps = Lined (λ (p : TypePart). p.declared_by) (λ i. i) low high ps
 
--- there are none
+-- there are no components
 pub record Formless (p : Fragment) : Type 0 where
   pub none : (c : Context) (k : ℕ) → (p.rows c k).parts ≡ []
   pub domestic : (c : Context) (k : ℕ) → (p.rows c k).imports ≡ []
 
--- all are of the form around it
+-- all components belong to the declaration around the fragment
 pub record Forms (p : Fragment) : Type 0 where
   pub rising : (c : Context) (k : ℕ) → Rising c.decl_group c.decl_group (p.rows c k).parts
   pub domestic : (c : Context) (k : ℕ) → (p.rows c k).imports ≡ []
 
--- those of the form around it are first
+-- the components of the declaration around the fragment come first
 pub record Leads (p : Fragment) : Type 0 where
   pub rising : (c : Context) (k : ℕ) → c.decl_group ≤ k → Rising c.decl_group (k + p.width) (p.rows c k).parts
   pub domestic : (c : Context) (k : ℕ) → (p.rows c k).imports ≡ []
 
--- none is of the form around it
+-- no component belongs to the declaration around the fragment
 pub record Free (p : Fragment) : Type 0 where
   pub rising : (c : Context) (k : ℕ) → Rising k (k + p.width) (p.rows c k).parts
   pub domestic : (c : Context) (k : ℕ) → (p.rows c k).imports ≡ []
@@ -48,11 +48,11 @@ module _ (low high other : ℕ) (ps : List TypePart) where
 pub rising_none : (low high : ℕ) (ps : List TypePart) → low ≤ high → ps ≡ [] → Rising low high ps
 rising_none low high ps l e = subst (Rising low high) (sym e) (lined_end (λ (p : TypePart). p.declared_by) (λ i. i) low high l)
 
--- one part of the form around
+-- one component of the declaration around the fragment
 pub rising_one : (c : Context) (p : TypePart) → p.declared_by ≡ c.decl_group → Rising c.decl_group c.decl_group (p ∷ [])
 rising_one c p e = lined_on (λ (x : TypePart). x.declared_by) c.decl_group p e
 
--- no import item is in two parts, or beside entries of its own
+-- if a concatenation has no import item, neither has a part of it
 both_none : (p q : Fragment) → ((c : Context) (k : ℕ) → (p.rows c k).imports ≡ []) → ((c : Context) (k : ℕ) → (q.rows c k).imports ≡ []) → (c : Context) (k : ℕ) → ((both p q).rows c k).imports ≡ []
 unfolding both joined
 both_none p q f g c k = ap₂ (λ (xs ys : List Import). xs ++ ys) (f c k) (g c (k + p.width))
@@ -61,7 +61,7 @@ tells_none : (own : Context → ℕ → Rows) (p : Fragment) → ((c : Context) 
 unfolding with_rows joined
 tells_none own p f g c k = ap₂ (λ (xs ys : List Import). xs ++ ys) (f c k) (g c k)
 
--- ---- none
+-- ---- fragments without components
 
 pub n-quiet : {p : Fragment} → Quiet p → Formless p
 n-quiet f = record { none = λ c k. ap (λ (t : Told). t.parts) (f.none c k); domestic = λ c k. ap (λ (t : Told). t.imports) (f.none c k) }
@@ -94,7 +94,7 @@ pub n-each : {X : Type 0} (f : X → Fragment) (xs : List X) → ((x : X) → Fo
 n-each f [] w = n-nothing
 n-each f (x ∷ xs) w = n-both (w x) (n-each f xs w)
 
--- ---- the form around
+-- ---- the declaration around the fragment
 
 pub o-none : {p : Fragment} → Formless p → Forms p
 o-none {p} f = record { rising = λ c k. rising_none c.decl_group c.decl_group (p.rows c k).parts (omega arith) (f.none c k); domestic = f.domestic }
@@ -161,7 +161,7 @@ f-separated f l w = f-both (w l.first) (f-each (λ x. both token (f x)) l.rest.i
 pub f-is : {p q : Fragment} → p ≡ q → Free q → Free p
 f-is e m = subst Free (sym e) m
 
--- ---- the form around, and then declarations
+-- ---- the declaration around the fragment, and then declarations in it
 
 pub l-own : {p : Fragment} → Forms p → Leads p
 l-own {p} f = record { rising = λ c k l. rising_further c.decl_group c.decl_group (k + p.width) (p.rows c k).parts (omega arith) (f.rising c k); domestic = f.domestic }
@@ -196,11 +196,11 @@ l-is e m = subst Leads (sym e) m
 
 -- ---- also with import items
 
--- what declares the parts of forms goes up
+-- the declaration groups of the components increase
 pub record Rises (p : Fragment) : Type 0 where
   pub rising : (c : Context) (k : ℕ) → Rising k (k + p.width) (p.rows c k).parts
 
--- there is no part of a form
+-- there is no component
 pub record Lacks (p : Fragment) : Type 0 where
   pub none : (c : Context) (k : ℕ) → (p.rows c k).parts ≡ []
 

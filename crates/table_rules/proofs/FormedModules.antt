@@ -1,4 +1,4 @@
--- The parts of each form in a module are together.
+-- The components of each type expression in a module are adjacent.
 use Rattle.std.proofs.Common.{List, refl, ◌+◌}
 use Rattle.ob_tree.specs.declared.name.OneOrMore.{OneOrMore}
 use Rattle.ob_tree.specs.declared.declaration.ConstDecl.{ConstDecl}
@@ -78,7 +78,7 @@ k-imports : (l : OneOrMore ImportItem) → Lacks (imports_rows l)
 unfolding imports_rows
 k-imports l = k-both (lacks n-token) (k-both (k-import l.first) (k-both (k-each (λ i. both token (import_rows i)) l.rest.items (λ i. k-both (lacks n-token) (k-import i))) (lacks n-token)))
 
--- what is after the declarations
+-- what follows the declarations
 pub n-end : (m : Module) → Formless (both (there (λ b. both token (block_rows b)) m.body) (both token (both (with_rows module_end token) token)))
 n-end m = n-both (n-there (λ b. both token (block_rows b)) m.body (λ b. n-both n-token (n-quiet (q-block b)))) (n-both n-token (n-both (n-with_rows module_end (λ c k. refl) (λ c k. refl) n-token) n-token))
 
@@ -88,6 +88,6 @@ r-module m =
     let t : Rises token = r-lacks (lacks n-token) in
     r-both t (r-both t (r-both t (r-both (r-lacks (k-there imports_rows m.imports k-imports)) (r-both (r-free (f-declarations m.declarations)) (r-lacks (lacks (n-end m)))))))
 
--- so what declares them never falls
+-- so the declaration groups of the components never decrease
 pub forms_rise : (m : Module) → IsMonotoneBy (λ (p : TypePart). p.declared_by) (rows_of m).parts
 forms_rise m = rises (λ (p : TypePart). p.declared_by) 0 (0 + (module_rows m).width) (rows_of m).parts ((r-module m).rising outermost 0)

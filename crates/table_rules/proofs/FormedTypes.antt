@@ -1,4 +1,4 @@
--- The parts of forms in types.
+-- The components in type expressions.
 use Rattle.std.proofs.Common.{ℕ, zero, suc, refl}
 use Rattle.ob_tree.specs.declared.declaration.Parameters.{Parameters}
 use Rattle.ob_tree.specs.declared.declaration.TypeForm.TheOpen as layers
@@ -36,7 +36,7 @@ o-type_name : (q : Qualident) → Forms (type_name_rows q)
 unfolding type_name_rows
 o-type_name q = o-with_rows (name_part q) (λ c k. rising_one c _ refl) (λ c k. refl) (o-none (n-with_rows (type_use_row q) (λ c k. refl) (λ c k. refl) (n-both n-token (n-there (λ m. both token token) q.member (λ m. n-both n-token n-token)))))
 
--- a part of the form around
+-- a component of the declaration around the fragment
 o-part : (part : PartRow) {p : Fragment} → Forms p → Forms (with_rows (part_row part) p)
 o-part part f = o-with_rows (part_row part) (λ c k. rising_one c _ refl) (λ c k. refl) f
 
@@ -62,7 +62,7 @@ f-parameters p =
 o-lengths : (l : ExprList) → Forms (lengths_rows l)
 o-lengths l = o-is (told.lengths_out l) (o-both (o-none (n-quiet (q-expr (out-ExprList l).first))) (o-each (λ e. both (with_rows (part_row parts.Array) token) (expr_rows e)) (out-ExprList l).rest.items (λ e. o-both (o-part parts.Array (o-none n-token)) (o-none (n-quiet (q-expr e))))))
 
--- ---- each part
+-- ---- each fragment
 
 abbrev predicates : TypePredicates
 predicates = record {

@@ -1,9 +1,9 @@
--- Entries whose numbers go up from one bound to another.
+-- Entries whose numbers increase from one bound to another.
 use Rattle.std.proofs.Common.{◌≡◌, ℕ, zero, suc, ◌+◌, ◌<◌, ◌≤◌, List, [], ◌∷◌, ◌++◌, Some, None, ap, arith}
 use Rattle.std.specs.Prelude.{slice_get}
 use Rattle.module_table.specs.Order.{IsIncreasingBy, IsMonotoneBy}
 
--- each number is at least its bound: what the number before it gives
+-- each number is at least its bound, which the number before it determines
 pub Lined : {X : Type 0} → (X → ℕ) → (ℕ → ℕ) → ℕ → ℕ → List X → Type 0
 Lined n next a b [] = a ≤ b
 Lined n next a b (x ∷ xs) = (a ≤ n x) × Lined n next (next (n x)) b xs
@@ -45,7 +45,7 @@ module _ {X : Type 0} (n : X → ℕ) where
   unfolding Lined
   lined_on k x e = (omega (arith, e), omega (arith, e))
 
-  -- strict
+  -- strictly increasing
   above : (a b : ℕ) (xs : List X) (i : ℕ) (x : X) → Lined n suc a b xs → slice_get xs i ≡ Some x → a ≤ n x
   unfolding Lined
   above a b [] i x h g = absurd (let f : None ≡ Some x = g in cc)
@@ -67,7 +67,7 @@ module _ {X : Type 0} (n : X → ℕ) where
   ascends a b [] h = λ i j x y l p q. absurd (let f : None ≡ Some x = p in cc)
   ascends a b (z ∷ zs) h = ascends_behind b z zs (ascends (suc (n z)) b zs h.1) h.1
 
-  -- or not
+  -- or not strictly
   from : (a b : ℕ) (xs : List X) (i : ℕ) (x : X) → Lined n (λ m. m) a b xs → slice_get xs i ≡ Some x → a ≤ n x
   unfolding Lined
   from a b [] i x h g = absurd (let f : None ≡ Some x = g in cc)

@@ -1,4 +1,4 @@
--- The entries of expressions and designators are in order.
+-- The entries of expressions and designators are sorted.
 use Rattle.std.proofs.Common.{ℕ, ◌+◌, List, [], ◌∷◌, map, refl}
 use Rattle.ob_tree.specs.declared.expression.Expr.{Expr}
 use Rattle.ob_tree.specs.declared.expression.Selector.{Selector}

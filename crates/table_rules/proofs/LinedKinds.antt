@@ -1,4 +1,4 @@
--- One kind of entries: what is at one token contributes one of them at most.
+-- One kind of entries: the entries at one token contribute at most one of them.
 use Rattle.std.proofs.Common.{◌≡◌, ℕ, suc, ◌+◌, List, [], ◌∷◌, ◌++◌, refl}
 use Rattle.module_table.specs.declared.rows.DeclGroup.{DeclGroup}
 use Rattle.module_table.specs.declared.rows.Declared.{Declared}
@@ -18,7 +18,7 @@ unfoldable pub AllOf : ℕ → List SelectorRow → Type 0
 AllOf k [] = Unit {0}
 AllOf k (s ∷ ss) = (s.of ≡ k) × AllOf k ss
 
--- a list of the entries, with the number of each entry and the bound that it gives to the next; and that it is in order at each token
+-- a list of the entries, with the number of each entry and the bound that it gives to the next one, sorted at each token
 pub record Kind (X : Type 0) : Type 0 where
   pub number : X → ℕ
   pub next : ℕ → ℕ

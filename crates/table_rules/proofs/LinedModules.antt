@@ -1,4 +1,4 @@
--- The entries of a module are in order.
+-- The entries of a module are sorted.
 use Rattle.std.proofs.Common.{ℕ, ◌+◌, List, refl}
 use Rattle.ob_tree.specs.declared.name.OneOrMore.{OneOrMore}
 use Rattle.ob_tree.specs.declared.declaration.ConstDecl.{ConstDecl}
@@ -105,7 +105,7 @@ module _ {X : Type 0} (K : Kind X) where
   module_lined : (m : Module) → Lined K.number K.next 0 (0 + (module_rows m).width) (K.of (rows_of m))
   module_lined m = (o-module m).lined outermost 0
 
--- each list is in the order of the tokens
+-- each list is sorted by token number
 pub rows_in_order : (m : Module) → AreRowsSorted (rows_of m)
 unfolding declarers_kind declared_kind uses_kind blocks_kind imports_kind parts_kind records_kind designators_kind ends_kind selectors_kind
 rows_in_order m = record {

@@ -1,4 +1,4 @@
--- Parts of a tree whose entries of a kind lie where the part lies, in order.
+-- Fragments whose entries of one kind are sorted and have numbers within the fragment.
 use Rattle.std.proofs.Common.{◌≡◌, ℕ, ◌+◌, Bool, true, false, List, [], ◌∷◌, ◌++◌, map, Option, Some, None, refl, sym, ap, ◌∙◌, subst, arith, append_assoc}
 use Rattle.ob_tree.specs.declared.name.OneOrMore.{OneOrMore}
 use Rattle.module_table.specs.declared.rows.DeclGroup.{DeclGroup}
@@ -9,7 +9,7 @@ use Rattle.table_rules.specs.Expressions.{each_after, used}
 use Rattle.table_rules.proofs.Lined.{Lined, lower, higher, lined_both, lined_end}
 use Rattle.table_rules.proofs.LinedKinds.{Kind}
 
--- in the part
+-- within the fragment
 pub record Ordered {X : Type 0} (K : Kind X) (p : Fragment) : Type 0 where
   pub lined : (c : Context) (k : ℕ) → Lined K.number K.next k (k + p.width) (K.of (p.rows c k))
 
@@ -17,13 +17,13 @@ pub record Ordered {X : Type 0} (K : Kind X) (p : Fragment) : Type 0 where
 pub record Later {X : Type 0} (K : Kind X) (p : Fragment) : Type 0 where
   pub lined : (c : Context) (k : ℕ) → Lined K.number K.next (k + 1) (k + p.width) (K.of (p.rows c k))
 
--- or these at its first token
+-- or only these at its first token
 pub record Headed {X : Type 0} (K : Kind X) (own : Context → ℕ → List X) (p : Fragment) : Type 0 where
   pub rest : (c : Context) (k : ℕ) → List X
   pub is : (c : Context) (k : ℕ) → K.of (p.rows c k) ≡ own c k ++ rest c k
   pub lined : (c : Context) (k : ℕ) → Lined K.number K.next (k + 1) (k + p.width) (rest c k)
 
--- also after the entry of a construct that declares and begins with it
+-- also after the entry of a declaration group that begins with the fragment
 pub record Beside {X : Type 0} (K : Kind X) (p : Fragment) : Type 0 where
   pub lined : (c : Context) (k : ℕ) (by : DeclGroup) → by.first ≡ k → Lined K.number K.next k (k + p.width) (K.of (one_decl_group by) ++ K.of (p.rows c k))
 
@@ -45,7 +45,7 @@ module _ {X : Type 0} (K : Kind X) where
   pub o-token : Ordered K token
   o-token = o-later l-token
 
-  -- one after the other
+  -- two fragments, one after the other
   behind : (a k v w : ℕ) (xs ys : List X) → L a (k + v) xs → L (k + v) (k + v + w) ys → L a (k + (v + w)) (xs ++ ys)
   behind a k v w xs ys f g = higher K.number K.next a (k + v + w) (k + (v + w)) (xs ++ ys) (omega arith) (lined_both K.number K.next a (k + v) (k + v + w) xs ys f g)
 
@@ -132,7 +132,7 @@ module _ {X : Type 0} (K : Kind X) where
         subst (λ (xs : List X). L k (k + p.width) xs) (sym (K.join (one_decl_group (decl_group decl_kind c k _)) (p.rows (declaring_at c k) k))) (f.lined (declaring_at c k) k _ refl);
   }
 
-  -- ---- what has no entries at its first token
+  -- ---- fragments without entries at their first token
 
   pub o-there : {Y : Type 0} (f : Y → Fragment) (o : Option Y) → ((y : Y) → Ordered K (f y)) → Ordered K (if_present f o)
   o-there f None w = o-nothing

@@ -1,4 +1,4 @@
--- The entries of statements are in order.
+-- The entries of statements are sorted.
 use Rattle.std.proofs.Common.{ℕ, refl}
 use Rattle.ob_tree.specs.declared.name.Qualident.{Qualident}
 use Rattle.ob_tree.specs.declared.statement.StatementSequence.{StatementSequence}

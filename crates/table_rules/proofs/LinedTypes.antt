@@ -1,4 +1,4 @@
--- The entries of types are in order.
+-- The entries of type expressions are sorted.
 use Rattle.std.proofs.Common.{ℕ, zero, suc, false, Option, refl, sym, subst, Bool, true}
 use Rattle.ob_tree.specs.declared.declaration.Parameters.{Parameters}
 use Rattle.ob_tree.specs.declared.declaration.TypeForm.TheOpen as layers
@@ -45,7 +45,7 @@ module _ {X : Type 0} (K : Kind X) where
   unfolding type_name_rows
   o-type_name q = o-headed K (h-before K _ (h-with_rows K _ (l-both K (l-token K) (o-there K (λ m. both token token) q.member (λ m. o-both K (o-token K) (o-token K)))))) (λ c k. K.named k _ _ refl refl)
 
-  -- a part of a form, and what has none at its first token
+  -- a component, and a fragment without a component at its first token
   o-part : (part : PartRow) {p : Fragment} → Later K p → Ordered K (with_rows (part_row part) p)
   o-part part f = o-headed K (h-with_rows K _ f) (λ c k. K.part k _ refl)
 
@@ -73,7 +73,7 @@ module _ {X : Type 0} (K : Kind X) where
   o-lengths : (l : ExprList) → Ordered K (lengths_rows l)
   o-lengths l = o-is K (told.lengths_out l) (o-both K (o-expr K (out-ExprList l).first) (o-each K (λ e. both (with_rows (part_row parts.Array) token) (expr_rows e)) (out-ExprList l).rest.items (λ e. o-both K (o-part parts.Array (l-token K)) (o-expr K e))))
 
-  -- ---- each part
+  -- ---- each fragment
 
   -- a record at its first token
   HasRecord : Fragment → Type 0

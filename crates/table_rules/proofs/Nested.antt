@@ -1,4 +1,4 @@
--- What is in the blocks of a part of a tree is together.
+-- The names in the blocks of a fragment of a tree are contiguous.
 use Rattle.std.proofs.Common.{◌≡◌, ℕ, ◌+◌, ◌<◌, ◌≤◌, ◌⊎◌, inl, inr, List, ◌++◌, refl, sym, ◌∙◌, subst, arith}
 use Rattle.std.specs.Prelude.{Contains}
 use Rattle.std.proofs.lemmas.List.Elements.{Contains-append_cases}
@@ -11,7 +11,7 @@ use Rattle.module_table.specs.Order.{IsIncreasingBy}
 use Rattle.module_table.specs.Parts.{Rows, joined}
 use Rattle.module_table.proofs.Around.{around_all, around_inner}
 
--- names from one token to another, in a block or in blocks inside it that begin there: each such block has its own together
+-- names between two tokens, in a block or in blocks inside it that begin there: the names of each such block are contiguous
 pub record Nest (B : List Block) (E : ℕ → ℕ → Type 0) (outer low high : ℕ) : Type 0 where
   pub context : (n c : ℕ) → E n c → (low ≤ n) × (n < high) × Encloses B outer c
   pub behind : (n b c : ℕ) → E n c → Encloses B b c → Encloses B b outer ⊎ ((low ≤ b) × (b + 1 < n))
@@ -54,7 +54,7 @@ nest_both B E F G outer low middle high split l m e f = record {
   ];
 }
 
--- a block that begins here, after whose first two tokens its names are there
+-- a block that begins here, whose names follow its first two tokens
 pub nest_block : (B : List Block) → IsIncreasingBy (λ (b : Block). b.first) B → (E : ℕ → ℕ → Type 0) (outer k low high : ℕ) → IsDirectlyIn B k outer → k ≤ low → ((n c : ℕ) → E n c → k + 1 < n) → Nest B E k low high → Nest B E outer k high
 nest_block B up E outer k low high dir l late e = record {
   context = λ n c x. (let i = e.context n c x in ((let h : low ≤ n = i.0 in omega arith), i.1, around_all B outer k c (further outer dir (itself refl)) i.2));
@@ -71,7 +71,7 @@ nest_block B up E outer k low high dir l late e = record {
   ];
 }
 
--- the name of a procedure, which is in the block around, before names that are after it
+-- the name of a procedure, which is in the block around it, before the names that follow it
 pub nest_named : (B : List Block) (E F G : ℕ → ℕ → Type 0) (outer k high : ℕ) → ((n c : ℕ) → G n c → E n c ⊎ F n c) → k + 1 < high → ((n c : ℕ) → E n c → (n ≡ k + 1) × (c ≡ outer)) → ((n c : ℕ) → F n c → k + 1 < n)
     → Nest B F outer k high → Nest B G outer k high
 nest_named B E F G outer k high split some own late f = record {
@@ -94,7 +94,7 @@ nest_named B E F G outer k high split some own late f = record {
 
 -- ---- entries
 
--- what constructs of these tokens declare
+-- what the declaration groups of these tokens declare
 pub record Whole (B : List Block) (outer low high : ℕ) (r : Rows) : Type 0 where
   pub decl_groups : (x : DeclGroup) → Contains r.decl_groups x → (low ≤ x.first) × (x.first < high)
   pub declared : (d : Declared) → Contains r.declared d → (low ≤ d.declared_by) × (d.declared_by < high)
@@ -103,7 +103,7 @@ pub record Whole (B : List Block) (outer low high : ℕ) (r : Rows) : Type 0 whe
 abbrev pub AreAmong : List Block → Rows → Type 0
 AreAmong B r = (x : Block) → Contains r.blocks x → Contains B x
 
--- names of two parts, of which neither declares for the other
+-- names of two fragments, neither of which declares for the other
 pub stands_both : (a b : Rows) → ((d : Declared) (by : DeclGroup) → Contains a.declared d → Contains b.decl_groups by → by.first ≡ d.declared_by → ⊥) → ((d : Declared) (by : DeclGroup) → Contains b.declared d → Contains a.decl_groups by → by.first ≡ d.declared_by → ⊥)
     → (n c : ℕ) → OccursIn (joined a b) n c → OccursIn a n c ⊎ OccursIn b n c
 unfolding joined

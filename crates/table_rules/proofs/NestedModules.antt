@@ -1,4 +1,4 @@
--- What is in a block of a module is together.
+-- The names in each block of a module are contiguous.
 use Rattle.std.proofs.Common.{List, refl, ℕ, ◌+◌}
 use Rattle.ob_tree.specs.declared.name.OneOrMore.{OneOrMore}
 use Rattle.ob_tree.specs.declared.declaration.ConstDecl.{ConstDecl}
@@ -40,7 +40,7 @@ procedure_some : (p : Fragment) → 0 < (opens_block (both token p)).width
 unfolding with_rows within both token
 procedure_some p = omega arith
 
--- what is after a module's own name
+-- what follows a module's own name
 abbrev behind_name : Module → Fragment
 behind_name m = both token (both (there imports_rows m.imports) (both (declarations_rows m.declarations) (both (there (λ b. both token (block_rows b)) m.body)
     (both token (both (with_rows module_end token) token)))))
@@ -109,7 +109,7 @@ module _ (B : List Block) (up : IsIncreasingBy (λ (b : Block). b.first) B) wher
       (s-both B (s-declarations m.declarations) (s-both B (s-there B (λ b. both token (block_rows b)) m.body (λ b. s-both B (s-token B) (s-plain B (p-quiet (q-block b)))) (s-nothing B))
       (s-both B (s-token B) (s-both B (s-with_rows B module_end (λ c k. refl) (λ c k. refl) (λ c k. refl) (s-token B)) (s-token B))))))
 
--- all of a module after its name
+-- everything in a module after its name
 module _ (m : Module) where
   rows : Rows
   rows = rows_of m

@@ -1,4 +1,4 @@
--- Parts of a tree in whose blocks what is there is together.
+-- Fragments of a tree in whose blocks the names are contiguous.
 use Rattle.std.proofs.Common.{◌≡◌, ℕ, zero, suc, ◌+◌, ◌-◌, ◌<◌, ◌≤◌, ◌⊎◌, inl, inr, Bool, true, false, List, [], ◌∷◌, ◌++◌, map, Option, Some, None, refl, sym, ap, ◌∙◌, subst, arith}
 use Rattle.std.specs.Prelude.{Contains}
 use Rattle.std.proofs.lemmas.List.Elements.{Contains-append_cases, Contains-append_left, Contains-append_right}
@@ -23,7 +23,7 @@ pub single : {X : Type 0} (y x : X) → Contains (y ∷ []) x → y ≡ x
 single y x (zero, l, e) = e
 single y x (suc i, l, e) = absurd (omega arith)
 
--- the same names, by other entries
+-- the same names, in other entries
 pub stands_from : (r s : Rows) → ((u : Used) → Contains r.uses u → Contains s.uses u) → ((d : Declared) → Contains r.declared d → Contains s.declared d) → ((by : DeclGroup) → Contains r.decl_groups by → Contains s.decl_groups by)
     → (n c : ℕ) → OccursIn r n c → OccursIn s n c
 stands_from r s f g h n c (stands.used u x e i) = stands.used u (f u x) e i
@@ -36,7 +36,7 @@ nest_as B E G outer low high f e = record {
   between = λ n m b c d g h lo lt le a. e.between n m b c d (f n c g) (f m d h) lo lt le a;
 }
 
--- ---- parts that only use, in the block around them
+-- ---- fragments that only look names up, in the block around them
 
 pub record Plain (p : Fragment) : Type 0 where
   pub declared : (c : Context) (k : ℕ) → (p.rows c k).declared ≡ []
@@ -46,7 +46,7 @@ pub record Plain (p : Fragment) : Type 0 where
 pub p-quiet : {p : Fragment} → Quiet p → Plain p
 p-quiet f = record { declared = λ c k. ap (λ (t : Told). t.declared) (f.none c k); decl_groups = λ c k. ap (λ (t : Told). t.decl_groups) (f.none c k); context = f.context }
 
--- a first token that uses a name, or none
+-- a first token that is looked up, or isn't a name
 pub p-first : (own : Context → ℕ → Rows) {p : Fragment} → ((c : Context) (k : ℕ) → (own c k).declared ≡ []) → ((c : Context) (k : ℕ) → (own c k).decl_groups ≡ []) →
     ((c : Context) (k : ℕ) (u : Used) → Contains (own c k).uses u → (u.block ≡ c.block) × (u.number ≡ k)) → 0 < p.width → Plain p → Plain (with_rows own p)
 unfolding with_rows joined
@@ -59,7 +59,7 @@ p-first own {p} d b u some f = record {
   ];
 }
 
--- ---- names that the construct around them declares
+-- ---- names that the declaration around them declares
 
 pub record Names (p : Fragment) : Type 0 where
   pub uses : (c : Context) (k : ℕ) → (p.rows c k).uses ≡ []
@@ -93,7 +93,7 @@ n-with_rows own {p} u b d f = record {
   own = λ c k x h. f.own c k x (subst (λ (xs : List Declared). Contains (xs ++ (p.rows c k).declared) x) (d c k) h);
 }
 
--- an identifier, with what is after it
+-- an identifier, and what follows it
 pub n-declares : (starred : Bool) {p : Fragment} → Names p → Names (with_rows (declared_row starred) (both token p))
 unfolding with_rows both token joined no_rows
 n-declares starred {p} f = record {
@@ -125,18 +125,18 @@ pub n-each : {X : Type 0} (f : X → Fragment) (xs : List X) → ((x : X) → Na
 n-each f [] w = n-nothing
 n-each f (x ∷ xs) w = n-both (w x) (n-each f xs w)
 
--- ---- parts whose names are in blocks
+-- ---- fragments whose names are in blocks
 
 pub record Stands (B : List Block) (p : Fragment) : Type 0 where
   pub whole : (c : Context) (k : ℕ) → c.block < k → AreAmong B (p.rows c k) → Whole B c.block k (k + p.width) (p.rows c k)
 
--- after the names of the construct around it
+-- the names come after those of the declaration around the fragment
 pub record Opens (B : List Block) (gap : ℕ) (p : Fragment) : Type 0 where
   pub decl_groups : (c : Context) (k : ℕ) → c.decl_group + gap ≤ k → c.block < c.decl_group → AreAmong B (p.rows c k) → (x : DeclGroup) → Contains (p.rows c k).decl_groups x → (k ≤ x.first) × (x.first < k + p.width)
   pub declared : (c : Context) (k : ℕ) → c.decl_group + gap ≤ k → c.block < c.decl_group → AreAmong B (p.rows c k) → (d : Declared) → Contains (p.rows c k).declared d → (d.declared_by ≡ c.decl_group) ⊎ ((k ≤ d.declared_by) × (d.declared_by < k + p.width))
   pub nest : (c : Context) (k : ℕ) (by : DeclGroup) → by.first ≡ c.decl_group → by.block ≡ c.block → c.decl_group + gap ≤ k → c.block < c.decl_group → AreAmong B (p.rows c k) → Nest B (OccursIn (joined (one_decl_group by) (p.rows c k))) c.block k (k + p.width)
 
--- names are after its first token
+-- the names come after the first token of the fragment
 pub record Late (B : List Block) (p : Fragment) : Type 0 where
   pub whole : Stands B p
   pub late : (c : Context) (k : ℕ) → c.block < k → AreAmong B (p.rows c k) → (n b : ℕ) → OccursIn (p.rows c k) n b → k < n
@@ -181,7 +181,7 @@ module _ (B : List Block) where
         (f.whole (around c k) k (let e = same c k in omega arith) s);
   }
 
-  -- with entries of its own that name nothing
+  -- a fragment preceded by entries that name nothing
   pub s-with_rows : (own : Context → ℕ → Rows) {p : Fragment} → ((c : Context) (k : ℕ) → (own c k).uses ≡ []) → ((c : Context) (k : ℕ) → (own c k).declared ≡ []) → ((c : Context) (k : ℕ) → (own c k).decl_groups ≡ []) → Stands B p → Stands B (with_rows own p)
   unfolding with_rows joined
   s-with_rows own {p} u d b f = record {
@@ -213,7 +213,7 @@ module _ (B : List Block) where
   pub s-is : {p q : Fragment} → p ≡ q → Stands B q → Stands B p
   s-is e m = subst (Stands B) (sym e) m
 
-  -- ---- after the names of a construct
+  -- ---- a fragment after the names of a declaration
 
   pub o-stands : {p : Fragment} → Stands B p → Opens B 1 p
   unfolding joined
@@ -250,7 +250,7 @@ module _ (B : List Block) where
         | inr r ↦ empty (p.rows c k).decl_groups x (f.decl_groups c k) r
       ]
 
-  -- more names before it
+  -- more names before the fragment
   pub o-more : (gap later : ℕ) {p q : Fragment} → later ≤ gap + p.width → Names p → Opens B later q → Opens B gap (both p q)
   unfolding both joined
   o-more gap later {p} {q} wide f g = record {
@@ -292,7 +292,7 @@ module _ (B : List Block) where
             | inr a ↦ inr (stands.declared d x a there s o m z)
           ]
 
-  -- a construct that declares
+  -- a declaration group
   pub s-declaring : (decl_kind : DeclKind) {p : Fragment} → 0 < p.width → Opens B 0 p → Stands B (declaring decl_kind p)
   unfolding declaring joined
   s-declaring decl_kind {p} some f = record {
@@ -338,7 +338,7 @@ module _ (B : List Block) (up : IsIncreasingBy (λ (b : Block). b.first) B) wher
         });
   }
 
-  -- a procedure: its name, which is at its second token, and what is in it
+  -- a procedure: its name, which is its second token, and its inside
   pub o-procedure : {q p : Fragment} → Names q → ((c : Context) (k : ℕ) (d : Declared) → Contains (q.rows c k).declared d → d.number ≡ k) → 0 < q.width → Stands B p → Opens B 0 (opens_block (both token (both q p)))
   unfolding with_rows within both token joined no_rows
   o-procedure {q} {p} names first wide f = record {

@@ -1,4 +1,4 @@
--- What is in the blocks of types is together.
+-- The names in each block of a type expression are contiguous.
 use Rattle.std.proofs.Common.{◌≡◌, ℕ, zero, suc, false, Option, Some, None, refl, sym, ap}
 use Rattle.ob_tree.specs.declared.declaration.Parameters.{Parameters}
 use Rattle.ob_tree.specs.declared.declaration.TypeForm.TheOpen as layers
@@ -45,7 +45,7 @@ unfolding token nothing no_rows
 star_none true c k = refl
 star_none false c k = refl
 
--- it is its first token
+-- the name is the first token
 pub identdef_first : (i : Identdef) (c : Context) (k : ℕ) (d : Declared) → Contains ((identdef_rows i).rows c k).declared d → d.number ≡ k
 unfolding identdef_rows with_rows both token joined no_rows
 identdef_first i c k d h = elim (Contains-append_cases (declared_row i.starred c k).declared ((if_true i.starred token).rows c (k + 1)).declared d h) [
@@ -77,7 +77,7 @@ section_some : (s : ParameterSection) → 0 < (section_inner s).width
 unfolding section_inner both
 section_some s = let l = parameter_some in omega arith
 
--- a construct with its names
+-- a declaration group with its names
 pub record Begins (B : List Block) (p : Fragment) : Type 0 where
   pub opens : Opens B 0 p
   pub some : 0 < p.width
@@ -131,7 +131,7 @@ module _ (B : List Block) (up : IsIncreasingBy (λ (b : Block). b.first) B) wher
   s-lengths : (l : ExprList) → S (lengths_rows l)
   s-lengths l = s-is B (told.lengths_out l) (s-both B (s-expr (out-ExprList l).first) (s-each B (λ e. both (with_rows (part_row parts.Array) token) (expr_rows e)) (out-ExprList l).rest.items (λ e. s-both B (s-part parts.Array (s-token B)) (s-expr e)) (s-nothing B)))
 
-  -- ---- each part
+  -- ---- each fragment
 
   s-so : (b : Bool) → S (if_true b token)
   s-so true = s-token B

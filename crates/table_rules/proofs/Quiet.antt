@@ -1,4 +1,4 @@
--- Parts of a tree that only use: nothing is declared in them, no type, block, import or end is there, and what is used is used in
+-- Fragments that only look names up: they contain no declaration, type, block, import or name after END, and look names up in
 -- the block around them.
 use Rattle.std.proofs.Common.{◌≡◌, ℕ, zero, suc, ◌+◌, ◌<◌, ◌≤◌, inl, inr, arith, Bool, true, false, List, [], ◌∷◌, ◌++◌, Option, Some, None, refl, sym, ap, ap₂, subst}
 use Rattle.std.specs.Prelude.{Contains}
@@ -15,7 +15,7 @@ use Rattle.module_table.specs.declared.rows.Used.{Used}
 use Rattle.module_table.specs.Parts.{Fragment, Rows, no_rows, joined, nothing, token, both, with_rows, if_present, if_true}
 use Rattle.table_rules.specs.Expressions.{used}
 
--- all entries but those of uses
+-- all entries other than uses
 pub record Told : Type 0 where
   pub declared : List Declared
   pub decl_groups : List DeclGroup
@@ -42,7 +42,7 @@ beside a b = record {
   blocks = a.blocks ++ b.blocks;
 }
 
--- it is used in this block, from one token to another
+-- the uses are in this block, between two tokens
 abbrev pub UsedIn : ℕ → ℕ → ℕ → Used → Type 0
 UsedIn b low high u = (u.block ≡ b) × (low ≤ u.number) × (u.number < high)
 
@@ -71,7 +71,7 @@ q-both {p} {q} f g = record {
   ];
 }
 
--- with entries of its own, which use nothing
+-- a fragment preceded by entries without uses
 pub q-with_rows : (own : Context → ℕ → Rows) {p : Fragment} → ((c : Context) (k : ℕ) → told (own c k) ≡ untold) → ((c : Context) (k : ℕ) → (own c k).uses ≡ []) → Quiet p → Quiet (with_rows own p)
 unfolding with_rows joined
 q-with_rows own {p} n u f = record {

@@ -1,4 +1,4 @@
--- Expressions only use.
+-- Expressions only look names up.
 use Rattle.std.proofs.Common.{List, [], ◌∷◌, map, refl}
 use Rattle.ob_tree.specs.declared.expression.Expr.{Expr}
 use Rattle.ob_tree.specs.declared.expression.Selector.{Selector}

@@ -1,4 +1,4 @@
--- Statements only use.
+-- Statements only look names up.
 use Rattle.std.proofs.Common.{ℕ, None, refl}
 use Rattle.ob_tree.specs.declared.name.Qualident.{Qualident}
 use Rattle.ob_tree.specs.declared.statement.StatementSequence.{StatementSequence}

@@ -1,4 +1,4 @@
--- What is contributed of a part of a tree is known from its event sequence, whatever is after it.
+-- The entries of a fragment of a tree are determined by its event sequence, whatever follows it.
 use Rattle.std.proofs.Common.{◌≡◌, ℕ, Bool, true, false, [], ◌∷◌, ◌++◌, Option, Some, None, refl, sym, ap, ap₂, ◌∙◌, append_assoc}
 use Rattle.ob_scan.specs.declared.kind.Kind.{Kind}
 use Rattle.ob_tree.specs.Constructs.{Construct}
@@ -7,7 +7,7 @@ use Rattle.ob_tree.specs.declared.role.Role.TheVariants.{Declares, Uses}
 use Rattle.ob_tree.specs.Leaves.{kind_eq}
 use Rattle.ob_tree.specs.TreeEvents.{Events, TreeEvent, Begins, Ends, Identifier, Value, Word, construct, word, declared, used, if_present}
 
--- ---- whether an event sequence goes on with a part that may be there
+-- ---- whether an event sequence continues with an optional part
 
 abbrev pub never : Events → Bool
 never o = false

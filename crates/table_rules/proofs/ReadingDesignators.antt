@@ -1,4 +1,4 @@
--- What an element, a list, a designator and a selector contribute is known from their event sequences, if what their parts contribute is.
+-- The entries of an element, a list, a designator and a selector are determined by their event sequences, if those of their parts are.
 use Rattle.std.proofs.Common.{◌≡◌, ℕ, suc, ◌+◌, true, List, [], ◌++◌, length, map, Option, Some, None, refl, ap, ◌∙◌}
 use Rattle.std.specs.declared.boxed.Box.{Box}
 use Rattle.std.specs.declared.alloc.Global.{Global}

@@ -1,4 +1,4 @@
--- What an expression contributes is known from its event sequence.
+-- The entries of an expression are determined by its event sequence.
 use Rattle.ob_tree.specs.declared.expression.Designator.{Designator}
 use Rattle.ob_tree.specs.declared.expression.Expr.{Expr}
 use Rattle.ob_tree.specs.Expressions.{designator_events, expr_events}

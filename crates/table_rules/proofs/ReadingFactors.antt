@@ -1,4 +1,4 @@
--- What a factor contributes is known from its event sequence, if what its parts contribute is.
+-- The entries of a factor are determined by its event sequence, if those of its parts are.
 use Rattle.std.proofs.Common.{◌≡◌, ℕ, true, false, [], ◌∷◌, ◌++◌, Option, Some, None, refl, sym, ap, ◌∙◌}
 use Rattle.std.specs.declared.boxed.Box.{Box}
 use Rattle.std.specs.declared.alloc.Global.{Global}

@@ -1,4 +1,4 @@
--- What is contributed of what may be there, and of lists, is known from the event sequence.
+-- The entries of optional parts and of lists are determined by the event sequence.
 use Rattle.std.proofs.Common.{◌≡◌, Bool, true, false, List, [], ◌∷◌, ◌++◌, map, Option, Some, None, refl, sym, ap, ap₂, ◌∙◌, append_assoc}
 use Rattle.ob_scan.specs.declared.kind.Kind.{Kind}
 use Rattle.ob_tree.specs.TreeEvents.{Events, if_present, if_true, each, word}

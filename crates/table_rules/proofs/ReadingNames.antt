@@ -1,4 +1,4 @@
--- A name with its module, a label and a range of labels are known from their event sequences.
+-- A qualified name, a label and a range of labels are determined by their event sequences.
 use Rattle.std.proofs.Common.{◌≡◌, ℕ, Bool, true, false, if◌then◌else◌, List, [], ◌∷◌, ◌++◌, Option, Some, None, refl, sym, ap}
 use Rattle.ob_scan.specs.declared.kind.Kind.{Kind}
 use Rattle.ob_scan.specs.declared.kind.Kind.TheVariants as kinds
@@ -62,7 +62,7 @@ on_value (Identifier r n ∷ ms) = false
 on_value (Value l n ∷ ms) = true
 on_value (Word w ∷ ms) = false
 
--- what is made of what is contributed
+-- a construction from what is contributed
 pub r-so_made : {Z A B : Type 0} {t : Z → A} {f : Z → Events} {more : Events → Bool} {a : A} {o : Events} (told : A → B) → Reads t f more a o → Reads (λ z. told (t z)) f more (told a) o
 r-so_made told x = r-made told (λ z. z) (λ z. refl) (λ z. refl) refl refl x
 

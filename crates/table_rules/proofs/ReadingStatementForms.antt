@@ -1,4 +1,4 @@
--- What a statement of each form contributes is known from its event sequence, if what its parts contribute is.
+-- The entries of each kind of statement are determined by its event sequence, if those of its parts are.
 use Rattle.std.proofs.Common.{◌≡◌, true, false, List, [], ◌∷◌, ◌++◌, map, Option, refl, sym, ap, ap₂, ◌∙◌, append_assoc}
 use Rattle.std.specs.Prelude.{Vec}
 use Rattle.std.specs.declared.boxed.Box.{Box}

@@ -1,4 +1,4 @@
--- What a statement contributes is known from its event sequence.
+-- The entries of a statement are determined by its event sequence.
 use Rattle.std.proofs.Common.{◌≡◌, ℕ, false, List, [], ◌∷◌, ◌++◌, map, Option, Some, None, refl, sym, ap, ◌∙◌, append_assoc}
 use Rattle.std.specs.Prelude.{Vec}
 use Rattle.std.specs.declared.boxed.Box.{Box}

@@ -1,4 +1,4 @@
--- What an expression, a sum and a term contribute is known from their event sequences, if what their parts contribute is.
+-- The entries of an expression, a sum and a term are determined by their event sequences, if those of their parts are.
 use Rattle.std.proofs.Common.{◌≡◌, Bool, true, false, List, [], ◌∷◌, ◌++◌, map, Option, Some, None, refl, ap, ◌∙◌}
 use Rattle.std.specs.declared.boxed.Box.{Box}
 use Rattle.std.specs.declared.alloc.Global.{Global}

@@ -1,4 +1,4 @@
--- What a type of each form contributes is known from its event sequence.
+-- The entries of each kind of type expression are determined by its event sequence.
 use Rattle.std.proofs.Common.{◌≡◌, List, ◌++◌, map, Option, refl, sym, ap, ◌∙◌}
 use Rattle.std.specs.declared.boxed.Box.{Box}
 use Rattle.std.specs.declared.alloc.Global.{Global}

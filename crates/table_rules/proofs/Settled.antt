@@ -1,4 +1,4 @@
--- The entries of a designator's selectors are before those of what is in them.
+-- The entries of a designator's selectors precede the entries of the expressions in them.
 use Rattle.std.proofs.Common.{◌≡◌, ℕ, suc, ◌+◌, Bool, List, [], ◌∷◌, ◌++◌, length, set, map, refl, sym, ap, ◌∙◌, append_assoc, length-append, Option, arith}
 use Rattle.std.proofs.lemmas.List.{append-nil, set_at}
 use Rattle.ob_tree.specs.declared.expression.Designator.{Designator}

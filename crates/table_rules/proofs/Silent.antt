@@ -1,4 +1,4 @@
--- Parts of a tree in which no name is after an END: all but declarations of procedures and modules.
+-- Fragments that contain no name after END: all but declarations of procedures and modules.
 use Rattle.std.proofs.Common.{◌≡◌, ℕ, zero, suc, ◌+◌, ◌++◌, Bool, true, false, List, [], ◌∷◌, map, Option, Some, None, refl, sym, ap, ap₂, subst}
 use Rattle.ob_tree.specs.declared.name.OneOrMore.{OneOrMore}
 use Rattle.ob_tree.specs.declared.name.Identdef.{Identdef}

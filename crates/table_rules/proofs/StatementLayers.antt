@@ -1,4 +1,4 @@
--- What names and statements contribute, layer by layer.
+-- The entries of names and statements, layer by layer.
 use Rattle.std.proofs.Common.{◌≡◌, ℕ, Option, Some, None, true, false, refl, ap, ◌∙◌}
 use Rattle.std.specs.Prelude.{Vec}
 use Rattle.std.specs.declared.boxed.Box.{Box}
@@ -119,7 +119,7 @@ pub for_out : (f : For) → for_rows f ≡ for_shown (out-For f)
 unfolding for_rows block_rows
 for_out f = fold_out-For Fragment Fragment Fragment Fragment Fragment case_step stmt_step branch_step for_step block_step f
 
--- the same at a value that is made
+-- the same at a constructed value
 
 cased : (c : Case) (x : CaseLayer) → out-Case c ≡ x → case_rows c ≡ case_shown x
 cased c x e = case_out c ∙ ap (λ y. case_shown y) e

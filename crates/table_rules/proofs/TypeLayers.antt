@@ -1,4 +1,4 @@
--- What types contribute, layer by layer.
+-- The entries of type expressions, layer by layer.
 use Rattle.std.proofs.Common.{◌≡◌, Option, Some, None, false, refl, ap, ◌∙◌}
 use Rattle.std.specs.declared.boxed.Box.{Box}
 use Rattle.std.specs.declared.alloc.Global.{Global}
@@ -116,7 +116,7 @@ pub record_after : (r : Record) (c : Context) (s : Stage) → after (record_rows
     (advanced (added (record_row (out-Record r).base c s.number) s))))
 record_after r c s = simp (record_out r, after_tells, after_within, added_number, after_both, after_token)
 
--- the same at a value that is made
+-- the same at a constructed value
 
 formed : (t : TypeForm) (x : TypeLayer) → out-TypeForm t ≡ x → type_rows t ≡ type_shown x
 formed t x e = type_out t ∙ ap (λ y. type_shown y) e

@@ -38,7 +38,7 @@ procedure_end c k = one_end (record { number = k; of = Some (c.decl_group + 1) }
 abbrev pub module_end : Context → ℕ → Rows
 module_end c k = one_end (record { number = k; of = None })
 
--- Each step is one layer of the fold over a tree: its operands are the entries of the parts of the construct.
+-- Each `.._step` below gives the entries of a node from the entries of its children.
 
 -- DeclarationSequence = [CONST {ConstDeclaration ";"}] [TYPE {TypeDeclaration ";"}] [VAR {VariableDeclaration ";"}]
 --   {ProcedureDeclaration ";"}
@@ -88,7 +88,7 @@ module_rows m =
     both (if_present imports_rows m.imports) (
     both (declarations_rows m.declarations) (both (if_present (λ b. both token (block_rows b)) m.body) (both token (both (with_rows module_end token) token)))))))
 
--- the context of the parts of a module: its own block
+-- the context of the fragments of a module: the module's block
 abbrev pub outermost : Context
 outermost = record { block = 0; decl_group = 0; of_record = 0; is_target = false }
 

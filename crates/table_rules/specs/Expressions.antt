@@ -28,17 +28,17 @@ after_dot (Some m) k = Some (k + 2)
 abbrev pub use_row : Option ℕ → Context → ℕ → Rows
 use_row member c k = one_used (record { number = k; block = c.block; is_target = false; member = after_dot member k })
 
--- one token, an identifier that is used
+-- an identifier that the scope rule looks up
 abbrev pub used : Option ℕ → Fragment
 used member = with_rows (use_row member) token
 
--- these parts, each after one more token
+-- the fragments of all elements, each preceded by one token
 abbrev pub each_after : {X : Type 0} → (X → Fragment) → List X → Fragment
 each_after f = each (λ x. both token (f x))
 
--- Each step is one layer of the fold over a tree: its operands are the entries of the parts of the construct.
+-- Each `.._step` below gives the entries of a node from the entries of its children.
 
--- the name that an expression consists of, if it is nothing but a name, by the index of its first token
+-- the name of an expression that is a single name, as a function of the index of its first token
 abbrev pub SoleName : Type 0
 SoleName = ℕ → Option TypeName
 
@@ -46,24 +46,24 @@ SoleName = ℕ → Option TypeName
 abbrev pub no_name : SoleName
 no_name k = None
 
--- an expression: its entries, and the single name that it may be
+-- an expression: its entries, and its name if it is a single name
 pub record Phrase : Type 0 where
   pub piece : Fragment
   pub name : SoleName
 
--- a list of expressions: its entries, its length, and the single name that it may be
+-- a list of expressions: its entries, its length, and its name if it is a single name
 pub record ListPhrase : Type 0 where
   pub piece : Fragment
   pub count : ℕ
   pub name : SoleName
 
--- a selector: the name that it selects if it is a dot and a name, its step by the index of its first token, and its entries
+-- a selector: the field name if it is a dot and a name, the step as a function of the index of its first token, and its entries
 pub record SelectorPhrase : Type 0 where
   pub name : Option ℕ
   pub step : ℕ → Step
   pub piece : Fragment
 
--- a designator: its entries, which differ if it is assigned to, and the single name that it may be
+-- a designator: its entries, which differ if it is assigned to, and its name if it is a single name
 pub record DesignatorPhrase : Type 0 where
   pub piece : Bool → Fragment
   pub name : SoleName
@@ -93,7 +93,7 @@ abbrev pub name_with : List SelectorPhrase → SoleName
 name_with [] = λ k. Some (record { head = k; member = None })
 name_with (s ∷ ss) = if_single ss (dotted s.name)
 
--- the single name that a list in parentheses is, by the index of the opening parenthesis
+-- the name of a list in parentheses that is a single name, as a function of the index of the opening parenthesis
 abbrev pub sole_argument : Option (Box ListPhrase Global) → SoleName
 sole_argument None k = None
 sole_argument (Some l) k = l.value.name (k + 1)
@@ -103,7 +103,7 @@ abbrev pub selector_rows : ℕ → List SelectorPhrase → ℕ → List Selector
 selector_rows head [] k = []
 selector_rows head (s ∷ ss) k = record { of = head; step = s.step k } ∷ selector_rows head ss (k + s.piece.width)
 
--- a designator that begins at this token, and whether it is assigned to
+-- the entry of a designator that begins at this token; `is_written`: it is the left side of an assignment, or the variable of a FOR
 abbrev pub designator_row : Bool → Context → ℕ → Rows
 designator_row is_written c k = one_designator (record { head = k; block = c.block; is_written = is_written })
 
@@ -220,7 +220,7 @@ term_rows x = (term_phrase x).piece
 unfoldable pub designator_rows : Bool → Designator → Fragment
 designator_rows is_written d = (designator_phrase d).piece is_written
 
--- the single name that a list in parentheses is, by the index of the opening parenthesis
+-- the name of a list in parentheses that is a single name, as a function of the index of the opening parenthesis
 abbrev pub between : Option (Box ExprList Global) → SoleName
 between None k = None
 between (Some l) k = (list_phrase l.value).name (k + 1)

@@ -27,7 +27,7 @@ label_rows (labels.Name q) = qualident_rows q
 unfoldable pub label_range_rows : LabelRange → Fragment
 label_range_rows r = both (label_rows r.low) (if_present (λ l. both token (label_rows l)) r.high)
 
--- Each step is one layer of the fold over a tree: its operands are the entries of the parts of the construct.
+-- Each `.._step` below gives the entries of a node from the entries of its children.
 
 -- case = [LabelRange {"," LabelRange} ":" StatementSequence]
 abbrev pub case_step : Case-F Fragment Fragment Fragment Fragment Fragment → Fragment

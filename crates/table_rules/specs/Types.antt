@@ -31,11 +31,11 @@ identdef_rows i = with_rows (declared_row i.starred) (both token (if_true i.star
 unfoldable pub parameter_rows : Fragment
 parameter_rows = with_rows (declared_row false) token
 
--- a type constructor of the declared type, at this token
+-- a component of the declared type that begins at this token
 abbrev pub part_row : Part → Context → ℕ → Rows
 part_row p c k = one_part (record { declared_by = c.decl_group; number = k; part = p })
 
--- a name as the last part of the declared type, at this token
+-- the name that ends the declared type, as a component at this token
 abbrev pub name_part : Qualident → Context → ℕ → Rows
 name_part q c k = one_part (record { declared_by = c.decl_group; number = k; part = parts.Named (after_dot q.member k) })
 
@@ -95,7 +95,7 @@ base_of (Some q) k = Some (record { head = k + 2; member = after_dot q.member (k
 abbrev pub record_row : Option Qualident → Context → ℕ → Rows
 record_row base c k = one_record (record { number = k; owner = c.decl_group; base = base_of base k })
 
--- Each step is one layer of the fold over a tree: its operands are the entries of the parts of the construct.
+-- Each `.._step` below gives the entries of a node from the entries of its children.
 
 -- type = qualident | ArrayType | RecordType | PointerType | ProcedureType
 -- ArrayType = ARRAY expression {"," expression} OF type

@@ -10,7 +10,7 @@ use module_table::Table;
 use module_table::builder::TableBuilder;
 
 /// The table of a builder that has the entries of a module. They are sorted already, so nothing is sorted or copied.
-pub fn table_from(builder: TableBuilder) -> Table
+pub fn finish_table(builder: TableBuilder) -> Table
     // The entries are those of some module.
     requires { (m : Module) × (builder_rows builder ≡ rows_of m) }
     // The table has the entries of the builder.

@@ -14,7 +14,7 @@ ghost use Rattle.table_rules.specs.Naming.{IsNamed, ending_of};
 
 /// If a tree derives tokens, the identifiers of its table are those that the event sequence of the tree declares and uses, by the indices
 /// of their tokens and in order.
-pub fn counted_numbers()
+pub fn table_follows_events()
     ensures declared { (ks : List Kind) (m : Module) → Derives ks m → map (λ (d : Declared). d.number) (rows_of m).declared ≡ declared_in (module_events m) }
     ensures used { (ks : List Kind) (m : Module) → Derives ks m → map (λ (u : Used). u.number) (rows_of m).uses ≡ used_in (module_events m) }
 {}
@@ -30,17 +30,17 @@ pub fn identifiers()
 
 /// If a tree derives tokens, the names after END of its table are those of its event sequence in order, each with the identifier that it
 /// has to repeat.
-pub fn table_endings()
+pub fn end_names_follow_events()
     ensures { (ks : List Kind) (m : Module) → Derives ks m → map ending_of (rows_of m).ends ≡ endings_in (module_events m) }
 {}
 
 /// If a tree derives tokens, its table satisfies the invariants of tables of trees.
-pub fn tree_rows()
+pub fn tree_table_is_valid()
     ensures { (ks : List Kind) (m : Module) → Derives ks m → AreTreeRows (λ k. slice_get ks k ≡ Some kinds.Ident) (length ks) (rows_of m) }
 {}
 
 /// If a tree derives tokens, each of them that is an identifier is the name of the module or is in an entry of the table.
-pub fn named_identifiers()
+pub fn identifiers_have_entries()
     ensures { (ks : List Kind) (m : Module) (k : ℕ) → Derives ks m → slice_get ks k ≡ Some kinds.Ident → IsNamed (rows_of m) k }
 {}
 

@@ -8,7 +8,7 @@ use crate::digest::digest;
 use std::hash::{BuildHasher, FoldHasher, Hasher};
 
 /// The largest number of keys for which the fixed seed is used: even if all of them collide, a lookup takes a few hundred steps.
-const SMALL_TABLE: usize = 1024;
+const MAX_FIXED_SEED_KEYS: usize = 1024;
 
 /// The seed of the hashers of a table. It affects speed alone: the contents of a table are the same with each seed. Names that collide
 /// with one seed are expected to spread with another.
@@ -36,7 +36,7 @@ impl Seed {
         // For more keys it is the hasher after the digest of the text.
         ensures large { 1024 < count → result.hasher ≡ fold folding.write folding.initial (fed.u64 (digest text.now)) }
     {
-        if count > SMALL_TABLE {
+        if count > MAX_FIXED_SEED_KEYS {
             return Seed::of(text);
         }
         let hasher = FoldHasher::default();

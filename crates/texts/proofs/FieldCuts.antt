@@ -1,4 +1,4 @@
--- What was parted is written together again, and the other way round.
+-- A split at a byte, and the concatenation of its two parts.
 use Rattle.std.proofs.Common.{◌≡◌, ℕ, suc, ◌+◌, Bool, true, false, cond, eqb, eq-eqb, ltb, not, List, [], ◌∷◌, ◌++◌, length, take, drop, Option, Some, None, refl, sym, ap, ◌∙◌, arith, inl, inr}
 use Rattle.std.specs.Prelude.{option_map}
 use Rattle.std.specs.List.{position, prefix_len, list_all}
@@ -6,7 +6,7 @@ use Rattle.std.proofs.lemmas.Bool.{and_parts, cases_lt, eqb-true, lt-ltb, le-ltb
 use Rattle.std.proofs.lemmas.Bool.Decides.{nat_tests}
 use Rattle.texts.specs.Fields.{cut_at, with_first}
 
--- the two parts around a place
+-- the two parts before and after an index
 abbrev around : List ℕ → Option ℕ → Option (List ℕ × List ℕ)
 around bytes place = option_map (λ i. (take i bytes, drop (i + 1) bytes)) place
 

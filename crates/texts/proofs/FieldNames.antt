@@ -1,4 +1,4 @@
--- A name is text.
+-- A name is UTF-8.
 use Rattle.std.proofs.Common.{◌≡◌, ℕ, ◌<◌, ◌^◌, ◌++◌, Bool, true, false, not, eqb, ne_eqb, List, [], ◌∷◌, Some, refl, sym, ap, ◌∙◌, arith, inl, inr}
 use Rattle.std.specs.List.{list_all}
 use Rattle.std.specs.Char.{is_ascii_alphabetic, is_ascii_alphanumeric, is_ascii_digit}
@@ -32,7 +32,7 @@ name_is_text (b ∷ bytes) e =
     let p = and_parts _ _ e in
     IsUtf8-from_ascii (b ∷ bytes) (IsAscii-cons b bytes (letter_small b p.0) (others_ascii bytes p.1))
 
--- a byte that is in no name
+-- a byte that occurs in no name
 abbrev pub IsApart : ℕ → Type 0
 IsApart stop = is_ascii_alphanumeric stop ≡ false
 

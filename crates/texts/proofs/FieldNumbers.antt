@@ -1,4 +1,4 @@
--- A number that is read is the one that was written.
+-- The number that is read from decimal digits is the number that was written.
 use Rattle.std.proofs.Common.{◌≡◌, ℕ, zero, suc, ◌+◌, ◌-◌, ◌*◌, ◌^◌, ◌<◌, ◌≤◌, Bool, true, false, eqb, List, ◌&&◌, ◌||◌, not, length, take, get_or, Some, None, Result, Ok, Err, refl, sym, ap, ◌∙◌, arith, rules, inl, inr, drop, ◌∷◌, ◌++◌}
 use Rattle.std.specs.Result.{result_ok}
 use Rattle.std.specs.List.{list_all}
@@ -50,7 +50,7 @@ number_read {E} bs (Err e) plain h =
       | inr le ↦ rw (plain, le-ltb _ _ le) refl
     ]
 
--- one digit more is read
+-- one more digit is read
 module _ (bytes : List ℕ) (i : ℕ) (in_bytes : i < length bytes) (so_far : list_all is_ascii_digit (take i bytes) ≡ true) (digit : is_ascii_digit (get_or bytes i 0) ≡ true) where
   pub digits_still : list_all is_ascii_digit (take (i + 1) bytes) ≡ true
   digits_still = list_all_more is_ascii_digit bytes i 0 in_bytes ∙ and_from _ _ so_far digit
@@ -61,7 +61,7 @@ module _ (bytes : List ℕ) (i : ℕ) (in_bytes : i < length bytes) (so_far : li
       let is = digit_value_digit (get_or bytes i 0) (digit_range (get_or bytes i 0) digit) in
       omega arith
 
-  -- what is above 64 bits stays above them
+  -- a number above 64 bits stays above 64 bits with further digits
   pub too_much : 2 ^ 64 ≤ digits_value 10 (take (i + 1) bytes) → digits_of bytes ≡ None
   unfolding digits_of
   too_much more =
@@ -102,7 +102,7 @@ number_again n lt =
     and_from _ _ (digits_decimal own n lt) (and_from _ _ (lt-ltb _ _ (decimal_nonempty n lt)) (leads n lt)) in
     rw (ok, v, lt-ltb n (2 ^ 64) lt) refl
 
--- digits before a line end are a number, if no zero leads them
+-- digits before a line end are a number, if they have no leading zero
 pub number_stands : (text : List ℕ) (end value : ℕ) → end < length text → get_or text end 0 ≡ 10 → list_all is_ascii_digit (take end text) ≡ true → value ≡ digits_value 10 (take end text) → value < 2 ^ 64
     → 0 < end → (get_or text 0 0 ≡ 48 → end ≡ 1) → text ≡ decimal value ++ 10 ∷ drop (end + 1) text
 number_stands text end value within ends digits is fits some lead =

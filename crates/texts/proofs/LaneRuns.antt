@@ -1,4 +1,4 @@
--- From the lanes of one load to a run of bytes.
+-- From the lanes of one SIMD load to a prefix of bytes.
 use Rattle.std.proofs.Common.{◌≡◌, ℕ, zero, suc, ◌+◌, ◌%◌, ◌^◌, ◌<◌, ◌≤◌, eqb, Bool, true, false, cond, not, List, [], ◌∷◌, map, length, take, drop, get_or, replicate, Fits, w8, refl, sym, ap, ap₂, ◌∙◌, arith}
 use Rattle.std.proofs.lemmas.Bool.{agree_below, agree_below_at}
 use Rattle.std.proofs.lemmas.Simd.{map-map, zip2-map, mask_l-mod, length-chunk, chunk-fits, first_set_mask_l}
@@ -23,7 +23,7 @@ same_run : (p q : ℕ → Bool) (xs : List ℕ) → Each1 (Fits w8) xs → agree
 same_run p q [] fits all = refl
 same_run p q (x ∷ xs) fits all = rw (agree_below_at p q 256 x all fits.0.fits, same_run p q xs fits.1 all) refl
 
--- how many lanes are before the first that is marked, if the marks are those that end a run
+-- how many lanes precede the first flagged one, if the flags are set where the prefix ends
 pub run_is : (passes : ℕ → Bool) (d : List ℕ) (i : ℕ) (z : List ℕ) → i + 16 ≤ length d → ((k : ℕ) → Fits w8 (get_or d k 0))
     → (f : ℕ → ℕ) → z ≡ map f (chunk i 16 d) → agree_below (λ x. not (top 7 (f x))) passes 256 ≡ true
     → cond (eqb (mask_l (map (top 7) z) % 2 ^ 64) 0) 16 (count_trailing_zeros 64 (mask_l (map (top 7) z) % 2 ^ 64)) ≡ prefix_len passes (take 16 (drop i d))
@@ -39,7 +39,7 @@ short_by : (p : ℕ → Bool) (n : ℕ) (x : ℕ) (xs : List ℕ) (b : Bool) →
 short_by p n x xs true e long rest short = ap (λ k. 1 + k) (rest (omega (arith, short)))
 short_by p n x xs false e long rest short = refl
 
--- a run that ends within the first n elements is the whole run
+-- a prefix that ends within the first n elements is the whole prefix
 pub short_run : (p : ℕ → Bool) (n : ℕ) (xs : List ℕ) → n ≤ length xs → prefix_len p (take n xs) < n → prefix_len p (take n xs) ≡ prefix_len p xs
 short_run p zero xs long short = absurd (omega (arith, short))
 short_run p (suc n) [] long short = absurd (omega (arith, long))

@@ -1,3 +1,4 @@
+pub mod EscapeLemmas
 pub mod FieldCuts
 pub mod FieldNames
 pub mod FieldNumbers

@@ -5,7 +5,7 @@ use Rattle.std.specs.List.{list_all, prefix_len}
 use Rattle.std.proofs.lemmas.Bool.{and_parts, and_from}
 use Rattle.texts.specs.Fields.{is_name}
 
--- those that are first all pass
+-- the elements of the prefix all pass the test
 pub run_passes : (p : ℕ → Bool) (bytes : List ℕ) → list_all p (take (prefix_len p bytes) bytes) ≡ true
 run_passes p [] = refl
 run_passes p (b ∷ bytes) = by (p b) refl (run_passes p bytes)
@@ -16,7 +16,7 @@ run_passes p (b ∷ bytes) = by (p b) refl (run_passes p bytes)
         subst (λ n. list_all p (take n (b ∷ bytes)) ≡ true) (sym more) (and_from (p b) (list_all p (take (prefix_len p bytes) bytes)) e rest)
     by false e rest = refl
 
--- and are a name, if the first is a letter
+-- the prefix is a name, if its first byte is a letter
 pub run_is_name : (bytes name rest : List ℕ) (b : ℕ) → name ≡ take (prefix_len is_ascii_alphanumeric bytes) bytes → name ≡ b ∷ rest → is_ascii_alphabetic b ≡ true → is_name name ≡ true
 run_is_name bytes name rest b is parts letter =
     let all : list_all is_ascii_alphanumeric (b ∷ rest) ≡ true = subst (λ v. list_all is_ascii_alphanumeric v ≡ true) (sym is ∙ parts) (run_passes is_ascii_alphanumeric bytes) in

@@ -41,7 +41,7 @@ pub fn is_identifier(bytes: &[u8]) -> bool
 /// The number up to 2^64 - 1 that the decimal digits denote, with leading zeros or not, or `None`. Tests and evaluates each byte in one
 /// pass.
 #[tactic(auto, unfolding(crate::specs::Fields::digits_of))]
-fn digits_in(bytes: &[u8]) -> Option<u64>
+fn parse_decimal_digits(bytes: &[u8]) -> Option<u64>
     ensures { result ≡ digits_of bytes.now }
 {
     let mut value = 0u64;
@@ -57,18 +57,18 @@ fn digits_in(bytes: &[u8]) -> Option<u64>
 
 /// The number up to 2^64 - 1 that the decimal digits denote, or `None`. Leading zeros are rejected, so each number has one form.
 #[tactic(auto, unfolding(crate::specs::Fields::number_of, crate::specs::Fields::digits_of))]
-pub fn field_number(bytes: &[u8]) -> Option<u64>
+pub fn parse_field_number(bytes: &[u8]) -> Option<u64>
     ensures { result ≡ number_of bytes.now }
 {
     if !bytes.is_empty() && (bytes[0] != b'0' || bytes.len() == 1) {
-        digits_in(bytes)
+        parse_decimal_digits(bytes)
     } else {
         None
     }
 }
 
 /// The bytes as a string slice, or `None` if they are no identifier (Oberon-07 report, section 3).
-pub fn field_name(bytes: &[u8]) -> Option<&str>
+pub fn parse_field_name(bytes: &[u8]) -> Option<&str>
     ensures { option_map (λ name. name.now) result ≡ named bytes.now }
 {
     if !is_identifier(bytes) {

@@ -24,7 +24,7 @@ pub fn lanes_before_bit(bits: u64) -> usize
 
 /// The number of letters and digits before the first other byte, of the first sixteen bytes.
 #[inline(always)]
-pub(crate) fn alnum_lanes(bytes: &[u8]) -> usize
+pub(crate) fn count_alnum_lanes(bytes: &[u8]) -> usize
     requires { 16 ≤ length bytes.now }
     ensures { result ≡ prefix_len is_ascii_alphanumeric (take 16 bytes.now) }
 {

@@ -6,7 +6,7 @@ ghost use Rattle.std.specs.List.{list_all, prefix_len};
 ghost use Rattle.std.specs.Str.Parse.{digits_value};
 ghost use Rattle.texts.specs.Fields.{is_name};
 
-use crate::lanes::{LANES, alnum_lanes};
+use crate::lanes::{LANES, count_alnum_lanes};
 
 /// The number of letters and digits before the first other byte, counted byte by byte.
 fn count_alnum(text: &[u8]) -> usize
@@ -28,7 +28,7 @@ pub fn alnum_prefix_len(text: &[u8]) -> usize
     ensures within { result ≤ length text.now }
 {
     if text.len() >= LANES {
-        let letters = alnum_lanes(text);
+        let letters = count_alnum_lanes(text);
         if letters < LANES {
             return letters;
         }
@@ -98,7 +98,7 @@ fn parse_number(text: &[u8]) -> Option<(u64, &[u8])>
 }
 
 /// The two names and the number that are the first line of the text, separated by single blanks, and the text after its LF.
-pub fn parse_amount(text: &[u8]) -> Option<((&str, &str, u64), &[u8])>
+pub fn parse_names_and_number(text: &[u8]) -> Option<((&str, &str, u64), &[u8])>
     // Both names are identifiers.
     ensures names { IfSome result (λ x. (is_name x.0.0.now ≡ true) × (is_name x.0.1.now ≡ true)) }
     // The text is this line, an LF, and the rest.

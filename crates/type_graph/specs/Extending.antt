@@ -45,7 +45,7 @@ module _ {N D R : Type 0} (shape : N → Shape N D R) where
       pub some : IfSome o (Extends r)
       pub none : IfNone o ((parent : R) → Extends r parent → ⊥)
 
-    -- every memoized parent is right
+    -- each memoized parent is the parent of its record
     pub record AreParents (same : R → R → Bool) (memo : MemoTable R (Option R)) : Type 0 where
       pub each : (r : R) (o : Option R) → IsMemoized same memo r o → IsParent r o
 
@@ -95,6 +95,6 @@ module _ {N D R : Type 0} (shape : N → Shape N D R) where
     abbrev pub same_use : (R → R → Bool) → Use → Use → Bool
     same_use same a b = same a.0 b.0 && bytes_eq a.1.bytes.now b.1.bytes.now
 
-    -- every memoized field is right
+    -- each memoized field is the field that its name denotes in its record
     pub record AreFieldsMemoized {F S : Type 0} (field : R → List ℕ → Option F) (same : R → R → Bool) (found : IndexMap Use (Option F) S) : Type 0 where
       pub each : (u : Use) (o : Option F) → get (same_use same) found u ≡ Some o → IsFieldIn (λ (r : R). field r u.1.bytes.now) u.0 o

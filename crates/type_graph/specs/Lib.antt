@@ -6,3 +6,4 @@ pub mod PathOrder
 pub mod BuiltPaths
 pub mod Progress
 pub mod Memoized
+pub mod Caches

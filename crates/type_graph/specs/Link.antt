@@ -41,6 +41,6 @@ module _ {N D R : Type 0} (shape : N → Shape N D R) (pointers : Bool) where
       pub is : IsTypeEnd n end
       pub each : All (IsTypeEndOf end) visited
 
-    -- every memoized end is right
+    -- each memoized end is the end of the type that its declaration gives
     pub record AreTypeEnds (memo : MemoTable D (Option N)) : Type 0 where
       pub each : (d : D) (end : Option N) → IsMemoized same memo d end → (n m : N) → shape n ≡ shapes.Named d m → IsTypeEnd m end

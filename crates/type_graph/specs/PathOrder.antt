@@ -42,7 +42,8 @@ pub record AddsField {R : Type 0} (same : R → R → Bool) (paths : List R) (fi
   pub stays : (name : List ℕ) (slot : ℕ) → HasFieldAt before name slot → HasFieldAt after name slot
   pub added : (slot : ℕ) → position (same field.of_record) paths ≡ Some slot → HasFieldAt after field.name.now slot
 
--- the smallest index after this one whose record has a field of this name
+-- an index after this one, and no later than the first index after this one whose record has a field of this name; none only if no such
+-- record comes after this index
 pub record IsSlotAfter (es : List FieldEntry) (name : List ℕ) (slot : ℕ) (next : Option ℕ) : Type 0 where
   pub behind : IfSome next (λ (q : ℕ). slot < q)
   pub least : (k : ℕ) → slot < k → HasFieldAt es name k → IsSomeAnd next (λ (q : ℕ). q ≤ k)
@@ -70,14 +71,14 @@ module _ {N D R : Type 0} (shape : N → Shape N D R) (base : R → Option N) wh
     pub record HasAllFields (paths : List R) (es : List FieldEntry) : Type 0 where
       pub each : (slot : ℕ) (r : R) (name : List ℕ) (f : F) → slice_get paths slot ≡ Some r → field r name ≡ Some f → HasFieldAt es name slot
 
-    -- the ends of paths and the fields are right
+    -- each end is an index that the path of its record reaches, and the list has every field of the records, sorted by name and index
     pub record ArePaths (paths : List R) (ends : List ℕ) (es : List FieldEntry) : Type 0 where
       pub are_ends : AreEnds 0 paths ends
       pub are_owned : HasAllFields paths es
       pub by_name : IsSortedByName es
 
   module _ {F : Type 0} (field : R → Option F) where
-    -- a jump is right: no record from r up to the child of `parent` has a field of this name, or none from r up to `last` has
+    -- a jump from r skips no field: no record from r up to the child of `parent`, or from r up to `last`, has a field of this name
     abbrev pub IsJump : R → Jump R → Type 0
     IsJump r (jumps.Onto parent) = (last : R) × Lacks shape base field r last × Extends shape base last parent
     IsJump r (jumps.From last) = Lacks shape base field r last

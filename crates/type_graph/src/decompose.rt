@@ -1,17 +1,17 @@
 //! Builds the heavy paths of a graph's records.
-ghost use Rattle.std.specs.Prelude.{◌≡◌, ◌<◌, true, suc, length, IfOk, IfSome, OnOk};
+ghost use Rattle.std.specs.Prelude.{◌≡◌, ◌<◌, suc, length, IfOk, IfSome, OnOk};
 ghost use Rattle.std.specs.Bool.{OnTrue};
 ghost use Rattle.type_graph.specs.Extending.{AreParents};
-ghost use Rattle.type_graph.specs.Link.{AreTypeEnds};
+ghost use Rattle.type_graph.specs.Caches.{IsValidFieldCache, IsValidParentCache};
 ghost use Rattle.type_graph.specs.BuiltPaths.{AreHeavyPaths};
 ghost use Rattle.type_graph.specs.PathOrder.{AddsField, IsSortedByName, AreEnds, HasAllFields, ContinuesPath, IsPathTo};
 
+use crate::cache::{FieldCache, ParentCache};
 use crate::field_entries::{FieldEntry, sort_by_name};
 use crate::forest::concat_paths;
 use crate::graph::TypeGraph;
 use crate::listed::RecordField;
 use crate::memo::MemoTable;
-use crate::name_filter::NameFilter;
 use crate::paths::HeavyPaths;
 use crate::records::cached_parent;
 use indexmap::IndexSet;
@@ -21,7 +21,7 @@ use text_hash::Seed;
 
 /// A seed from the digest of the records (SipHash-1-3; Aumasson and Bernstein 2012), for a table of just these: records chosen to collide
 /// under one seed change the seed, whichever modules they are from.
-fn seed_of<R: Hash>(records: &[R]) -> Seed {
+fn records_seed<R: Hash>(records: &[R]) -> Seed {
     let mut digest = DefaultHasher::new();
     for record in records {
         record.hash(&mut digest);
@@ -34,7 +34,11 @@ fn distinct_records<R: Copy + Eq + Hash + Drop>(
     alloc: Global,
     listed: &[R],
 ) -> Result<IndexSet<R, Seed>, AllocError> {
-    let mut records = IndexSet::with_capacity_and_hasher(alloc, listed.len(), seed_of(listed))?;
+    let mut records = IndexSet::with_capacity_and_hasher(
+        alloc,
+        listed.len(),
+        records_seed(listed),
+    )?;
     for record in listed {
         records.insert(*record)?;
     }
@@ -44,18 +48,15 @@ fn distinct_records<R: Copy + Eq + Hash + Drop>(
 /// The indexes of the records' parents.
 fn parent_slots<G: TypeGraph>(
     graph: &G,
-    memo: &mut MemoTable<G::Declaration, Option<G::Node>>,
-    parents: &mut MemoTable<G::Record, Option<G::Record>>,
+    cache: &mut ParentCache<G::Node, G::Declaration, G::Record>,
     records: &IndexSet<G::Record, Seed>,
 ) -> Result<Vec<Option<usize>>, AllocError>
-    requires memo { AreTypeEnds (G.shape graph.now) true G.Declaration.eq memo.old }
-    requires parents { AreParents (G.shape graph.now) (G.base_of graph.now) G.Record.eq parents.old }
-    ensures memo { AreTypeEnds (G.shape graph.now) true G.Declaration.eq memo.new }
-    ensures parents { AreParents (G.shape graph.now) (G.base_of graph.now) G.Record.eq parents.new }
+    requires { IsValidParentCache (G.shape graph.now) (G.base_of graph.now) G.Declaration.eq G.Record.eq cache.old }
+    ensures { IsValidParentCache (G.shape graph.now) (G.base_of graph.now) G.Declaration.eq G.Record.eq cache.new }
 {
-    let mut places = Vec::with_capacity(memo.allocator(), records.len())?;
+    let mut places = Vec::with_capacity(cache.allocator(), records.len())?;
     for record in records.as_slice() {
-        let parent = cached_parent(graph, memo, parents, *record)?;
+        let parent = cached_parent(graph, cache, *record)?;
         let slot = match parent {
             None => None,
             Some(parent) => records.get_index_of(&parent),
@@ -82,7 +83,7 @@ fn continues_path<G: TypeGraph>(
     }
 }
 
-/// The last index of the path that contains an index, given those of the later indexes.
+/// The last index of the path that contains index `slot`, given the last indexes of the paths of all later indexes.
 fn path_end<G: TypeGraph>(
     graph: &G,
     parents: &MemoTable<G::Record, Option<G::Record>>,
@@ -128,7 +129,7 @@ fn path_ends<G: TypeGraph>(
 }
 
 /// Adds a field, if its record is in the sequence.
-fn add_field<R: Copy + Eq + Hash + Drop>(
+fn append_field_entry<R: Copy + Eq + Hash + Drop>(
     alloc: Global,
     paths: &IndexSet<R, Seed>,
     field_entries: &mut Vec<FieldEntry>,
@@ -157,7 +158,7 @@ fn collect_fields<G: TypeGraph>(
     let listed = graph.fields(alloc)?;
     let mut field_entries = Vec::with_capacity(alloc, paths.len())?;
     for field in &listed {
-        add_field(alloc, paths, &mut field_entries, field)?;
+        append_field_entry(alloc, paths, &mut field_entries, field)?;
     }
     Ok(field_entries)
 }
@@ -177,20 +178,17 @@ fn sorted_fields<G: TypeGraph>(
 }
 
 /// The sequence of the paths of these records.
-fn path_order<G: TypeGraph>(
+fn records_by_path<G: TypeGraph>(
     graph: &G,
-    memo: &mut MemoTable<G::Declaration, Option<G::Node>>,
-    parents: &mut MemoTable<G::Record, Option<G::Record>>,
+    cache: &mut ParentCache<G::Node, G::Declaration, G::Record>,
     listed: &[G::Record],
 ) -> Result<IndexSet<G::Record, Seed>, AllocError>
-    requires memo { AreTypeEnds (G.shape graph.now) true G.Declaration.eq memo.old }
-    requires parents { AreParents (G.shape graph.now) (G.base_of graph.now) G.Record.eq parents.old }
-    ensures memo { AreTypeEnds (G.shape graph.now) true G.Declaration.eq memo.new }
-    ensures parents { AreParents (G.shape graph.now) (G.base_of graph.now) G.Record.eq parents.new }
+    requires { IsValidParentCache (G.shape graph.now) (G.base_of graph.now) G.Declaration.eq G.Record.eq cache.old }
+    ensures { IsValidParentCache (G.shape graph.now) (G.base_of graph.now) G.Declaration.eq G.Record.eq cache.new }
 {
-    let alloc = memo.allocator();
+    let alloc = cache.allocator();
     let records = distinct_records(alloc, listed)?;
-    let places = parent_slots(graph, memo, parents, &records)?;
+    let places = parent_slots(graph, cache, &records)?;
     concat_paths(
         alloc,
         *records.hasher(),
@@ -202,22 +200,19 @@ fn path_order<G: TypeGraph>(
 /// The heavy paths of these records; `None` if there are no records.
 pub(crate) fn decompose<G: TypeGraph>(
     graph: &G,
-    memo: &mut MemoTable<G::Declaration, Option<G::Node>>,
-    parents: &mut MemoTable<G::Record, Option<G::Record>>,
+    cache: &mut ParentCache<G::Node, G::Declaration, G::Record>,
     listed: &[G::Record],
 ) -> Result<Option<Box<HeavyPaths<G::Record>>>, AllocError>
-    requires memo { AreTypeEnds (G.shape graph.now) true G.Declaration.eq memo.old }
-    requires parents { AreParents (G.shape graph.now) (G.base_of graph.now) G.Record.eq parents.old }
-    ensures memo { AreTypeEnds (G.shape graph.now) true G.Declaration.eq memo.new }
-    ensures parents { AreParents (G.shape graph.now) (G.base_of graph.now) G.Record.eq parents.new }
+    requires { IsValidParentCache (G.shape graph.now) (G.base_of graph.now) G.Declaration.eq G.Record.eq cache.old }
+    ensures cache { IsValidParentCache (G.shape graph.now) (G.base_of graph.now) G.Declaration.eq G.Record.eq cache.new }
     ensures paths { IfOk result (λ o. IfSome o (λ l. AreHeavyPaths (G.shape graph.now) (G.base_of graph.now) (G.field_of graph.now) l.value)) }
 {
     if listed.is_empty() {
         return Ok(None);
     }
-    let alloc = memo.allocator();
-    let records = path_order(graph, memo, parents, listed)?;
-    let ends = path_ends(graph, alloc, parents, records.as_slice())?;
+    let alloc = cache.allocator();
+    let records = records_by_path(graph, cache, listed)?;
+    let ends = path_ends(graph, alloc, &cache.parents, records.as_slice())?;
     let field_entries = sorted_fields(graph, alloc, &records)?;
     let built = HeavyPaths {
         records,
@@ -230,38 +225,29 @@ pub(crate) fn decompose<G: TypeGraph>(
 /// The heavy paths of all records of a graph.
 fn decompose_all<G: TypeGraph>(
     graph: &G,
-    memo: &mut MemoTable<G::Declaration, Option<G::Node>>,
-    parents: &mut MemoTable<G::Record, Option<G::Record>>,
+    cache: &mut ParentCache<G::Node, G::Declaration, G::Record>,
 ) -> Result<Option<Box<HeavyPaths<G::Record>>>, AllocError>
-    requires memo { AreTypeEnds (G.shape graph.now) true G.Declaration.eq memo.old }
-    requires parents { AreParents (G.shape graph.now) (G.base_of graph.now) G.Record.eq parents.old }
-    ensures memo { AreTypeEnds (G.shape graph.now) true G.Declaration.eq memo.new }
-    ensures parents { AreParents (G.shape graph.now) (G.base_of graph.now) G.Record.eq parents.new }
+    requires { IsValidParentCache (G.shape graph.now) (G.base_of graph.now) G.Declaration.eq G.Record.eq cache.old }
+    ensures cache { IsValidParentCache (G.shape graph.now) (G.base_of graph.now) G.Declaration.eq G.Record.eq cache.new }
     ensures paths { IfOk result (λ o. IfSome o (λ l. AreHeavyPaths (G.shape graph.now) (G.base_of graph.now) (G.field_of graph.now) l.value)) }
 {
-    let listed = graph.records(memo.allocator())?;
-    decompose(graph, memo, parents, listed.as_slice())
+    let listed = graph.records(cache.allocator())?;
+    decompose(graph, cache, listed.as_slice())
 }
 
-/// Builds the heavy paths once that is due. If an allocation fails there are none, and searches climb from base to base.
-pub(crate) fn decompose_if_due<G: TypeGraph>(
+/// Builds the heavy paths once enough records have been visited. If an allocation fails there are none, and searches climb from base to
+/// base.
+pub(crate) fn decompose_if_due<'a, G: TypeGraph>(
     graph: &G,
-    memo: &mut MemoTable<G::Declaration, Option<G::Node>>,
-    parents: &mut MemoTable<G::Record, Option<G::Record>>,
-    paths: &mut Option<Box<HeavyPaths<G::Record>>>,
-    name_filter: &mut NameFilter,
+    cache: &mut FieldCache<'a, G::Node, G::Declaration, G::Record, G::Field>,
 )
-    requires memo { AreTypeEnds (G.shape graph.now) true G.Declaration.eq memo.old }
-    requires parents { AreParents (G.shape graph.now) (G.base_of graph.now) G.Record.eq parents.old }
-    requires paths { IfSome paths.old (λ l. AreHeavyPaths (G.shape graph.now) (G.base_of graph.now) (G.field_of graph.now) l.value) }
-    ensures memo { AreTypeEnds (G.shape graph.now) true G.Declaration.eq memo.new }
-    ensures parents { AreParents (G.shape graph.now) (G.base_of graph.now) G.Record.eq parents.new }
-    ensures paths { IfSome paths.new (λ l. AreHeavyPaths (G.shape graph.now) (G.base_of graph.now) (G.field_of graph.now) l.value) }
+    requires { IsValidFieldCache (G.shape graph.now) (G.base_of graph.now) G.Declaration.eq G.Record.eq (G.field_of graph.now) cache.old }
+    ensures { IsValidFieldCache (G.shape graph.now) (G.base_of graph.now) G.Declaration.eq G.Record.eq (G.field_of graph.now) cache.new }
 {
-    if paths.is_some() || !name_filter.is_build_due(graph) {
+    if cache.paths.is_some() || !cache.name_filter.is_build_due(graph) {
         return;
     }
-    if let Ok(built) = decompose_all(graph, memo, parents) {
-        *paths = built;
+    if let Ok(built) = decompose_all(graph, &mut cache.parents) {
+        cache.paths = built;
     }
 }

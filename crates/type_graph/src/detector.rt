@@ -17,7 +17,7 @@ pub(crate) struct CycleDetector<R: Copy + Drop> {
 }
 
 /// A search of this many visits is long enough to ask for precomputed results.
-pub(crate) const LONG: u64 = 16;
+pub(crate) const LONG_SEARCH: u64 = 16;
 
 /// A search without visits.
 pub(crate) fn new_detector<R: Copy + Drop>(alloc: Global) -> CycleDetector<R>
@@ -58,6 +58,6 @@ pub(crate) fn visit<R: Copy + Drop>(
 }
 
 /// Whether the search is long enough to ask for precomputed results; it serves speed alone.
-pub(crate) fn is_past_limit<R: Copy + Drop>(detector: &CycleDetector<R>) -> bool {
-    detector.visited >= LONG
+pub(crate) fn is_long_search<R: Copy + Drop>(detector: &CycleDetector<R>) -> bool {
+    detector.visited >= LONG_SEARCH
 }

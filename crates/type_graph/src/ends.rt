@@ -3,13 +3,13 @@ ghost use Rattle.std.specs.Prelude.{◌≡◌, [], IfOk, IfSome, true};
 ghost use Rattle.std.specs.List.{All};
 ghost use Rattle.type_graph.specs.Link.{AreEnded, AreTypeEnds, IsTypeEnd, IsTypeEndOf};
 
-use crate::detector::{CycleDetector, LONG, closes_cycle, new_detector, visit};
+use crate::detector::{CycleDetector, LONG_SEARCH, closes_cycle, new_detector, visit};
 use crate::graph::TypeGraph;
 use crate::memo::MemoTable;
 use crate::shape::Shape;
 use std::alloc::AllocError;
 
-/// The precomputed end of a type. A search of fewer than `LONG` steps doesn't ask for it.
+/// The precomputed end of a type. A search of fewer than `LONG_SEARCH` steps doesn't ask for it.
 fn end_if_precomputed<G: TypeGraph>(
     graph: &G,
     pointers: bool,
@@ -18,15 +18,15 @@ fn end_if_precomputed<G: TypeGraph>(
 ) -> Option<Option<G::Node>>
     ensures { IfSome result (IsTypeEnd (G.shape graph.now) pointers node) }
 {
-    if steps >= LONG {
+    if steps >= LONG_SEARCH {
         graph.precomputed_end(pointers, node)
     } else {
         None
     }
 }
 
-/// Follows names, and pointers if `pointers` is set, from a type to its end, a memoized declaration or a precomputed end. `detector` records
-/// the visited declarations. Steps through names and pointers both count.
+/// Follows names, and pointers if `pointers` is set, from a type to its end, a memoized declaration or a precomputed end. `detector`
+/// records checkpoints among the visited declarations. Steps through names and pointers both count.
 fn walk<G: TypeGraph>(
     graph: &G,
     pointers: bool,
@@ -69,12 +69,11 @@ fn walk<G: TypeGraph>(
     }
 }
 
-/// Memoizes the end of these declarations, if there are at least `least` of them.
+/// Memoizes the end of these declarations.
 fn memoize_ends<G: TypeGraph>(
     graph: &G,
     pointers: bool,
     memo: &mut MemoTable<G::Declaration, Option<G::Node>>,
-    least: usize,
     checkpoints: &[G::Declaration],
     end: Option<G::Node>,
 ) -> Result<(), AllocError>
@@ -82,39 +81,10 @@ fn memoize_ends<G: TypeGraph>(
     requires checkpoints { All (IsTypeEndOf (G.shape graph.now) pointers G.Declaration.eq end) checkpoints.now }
     ensures { AreTypeEnds (G.shape graph.now) pointers G.Declaration.eq memo.new }
 {
-    if checkpoints.len() < least {
-        return Ok(());
-    }
     for declaration in checkpoints {
         memo.insert(*declaration, end)?;
     }
     Ok(())
-}
-
-/// The end of a type; memoizes it for the checkpoints of the search.
-fn find_uncached_end<G: TypeGraph>(
-    graph: &G,
-    pointers: bool,
-    memo: &mut MemoTable<G::Declaration, Option<G::Node>>,
-    least: usize,
-    detector: &mut CycleDetector<G::Declaration>,
-    from: G::Node,
-) -> Result<Option<G::Node>, AllocError>
-    requires memo { AreTypeEnds (G.shape graph.now) pointers G.Declaration.eq memo.old }
-    requires none_passed { detector.old.checkpoints.items ≡ [] }
-    ensures memo { AreTypeEnds (G.shape graph.now) pointers G.Declaration.eq memo.new }
-    ensures end { IfOk result (IsTypeEnd (G.shape graph.now) pointers from) }
-{
-    let end = walk(graph, pointers, memo, detector, from)?;
-    memoize_ends(
-        graph,
-        pointers,
-        memo,
-        least,
-        detector.checkpoints.as_slice(),
-        end,
-    )?;
-    Ok(end)
 }
 
 /// The end of a type, through names, and through pointers if `pointers` is set; `None` if the steps form a cycle. Memoizes it if the
@@ -131,5 +101,9 @@ pub(crate) fn find_end<G: TypeGraph>(
     ensures end { IfOk result (IsTypeEnd (G.shape graph.now) pointers from) }
 {
     let mut detector = new_detector(memo.allocator());
-    find_uncached_end(graph, pointers, memo, least, &mut detector, from)
+    let end = walk(graph, pointers, memo, &mut detector, from)?;
+    if detector.checkpoints.len() >= least {
+        memoize_ends(graph, pointers, memo, detector.checkpoints.as_slice(), end)?;
+    }
+    Ok(end)
 }

@@ -51,7 +51,7 @@ fn count_up_to(fields: &[FieldEntry], name: &[u8], slot: usize) -> usize
 }
 
 /// The smallest index after this one whose record has a field of this name, by binary search.
-pub(crate) fn slot_after(fields: &[FieldEntry], name: &[u8], slot: usize) -> Option<usize>
+pub(crate) fn next_slot_with_name(fields: &[FieldEntry], name: &[u8], slot: usize) -> Option<usize>
     requires { IsSortedByName fields.now }
     ensures { IsSlotAfter fields.now name.now slot result }
 {

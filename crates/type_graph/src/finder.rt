@@ -4,18 +4,19 @@ ghost use Rattle.type_graph.specs.BuiltPaths.{AreHeavyPaths};
 ghost use Rattle.type_graph.specs.Link.{IsTypeEnd};
 ghost use Rattle.type_graph.specs.Searches.{Finds, HasElement, HasTarget};
 
+use crate::cache::{FieldCache, ParentCache};
 use crate::decompose::decompose;
 use crate::ends::find_end;
 use crate::graph::TypeGraph;
 use crate::memo::MemoTable;
 use crate::name_filter::NameFilter;
-use crate::parts::{element_in, target_in};
+use crate::parts::{find_element, find_target};
 use crate::paths::HeavyPaths;
 use crate::records::find_field_at;
 use indexmap::IndexMap;
 use std::alloc::{AllocError, Global};
 use std::marker::Model;
-use text_hash::{Name, Seed};
+use text_hash::Seed;
 
 /// Searches in a graph of types. The end of a search is memoized for the declarations that it visits first, second, fourth, eighth and so
 /// on, so that few searches visit the same declarations again. Once searches for fields have climbed far, the forest of records is
@@ -25,34 +26,25 @@ pub struct Finder<'a, G: TypeGraph> {
     graph: &'a G,
     /// The ends of declarations through names.
     by_names: MemoTable<G::Declaration, Option<G::Node>>,
-    /// The ends of declarations through names and pointers.
-    by_pointers: MemoTable<G::Declaration, Option<G::Node>>,
-    /// The parents of records.
-    parents: MemoTable<G::Record, Option<G::Record>>,
-    /// The heavy paths, once searches have climbed far.
-    paths: Option<Box<HeavyPaths<G::Record>>>,
-    /// The fields that names denote in records.
-    found: IndexMap<(G::Record, Name<'a>), Option<G::Field>, Seed>,
-    /// The names that may be memoized in `found`, and how far searches have climbed.
-    name_filter: NameFilter,
+    cache: FieldCache<'a, G::Node, G::Declaration, G::Record, G::Field>,
 }
 
 impl<'a, G: TypeGraph> Model for Finder<'a, G> {
-    ghost use Rattle.std.specs.Prelude.{false, true, IfSome};
-    ghost use Rattle.type_graph.specs.Extending.{AreParents, AreFieldsMemoized};
-    ghost use Rattle.type_graph.specs.BuiltPaths.{AreHeavyPaths};
+    ghost use Rattle.std.specs.Prelude.{false};
+    ghost use Rattle.type_graph.specs.Caches.{IsValidFieldCache};
     ghost use Rattle.type_graph.specs.Link.{AreTypeEnds};
 
     ghost Value = { G };
 
     ghost view = { λ f. f.graph.now };
 
-    ghost invariant = { λ f. AreTypeEnds (G.shape f.graph.now) false G.Declaration.eq f.by_names × AreTypeEnds (G.shape f.graph.now) true G.Declaration.eq f.by_pointers × AreParents (G.shape f.graph.now) (G.base_of f.graph.now) G.Record.eq f.parents × IfSome f.paths (λ l. AreHeavyPaths (G.shape f.graph.now) (G.base_of f.graph.now) (G.field_of f.graph.now) l.value) × AreFieldsMemoized (G.shape f.graph.now) (G.base_of f.graph.now) (G.field_of f.graph.now) G.Record.eq f.found };
+    ghost invariant = { λ f. AreTypeEnds (G.shape f.graph.now) false G.Declaration.eq f.by_names × IsValidFieldCache (G.shape f.graph.now) (G.base_of f.graph.now) G.Declaration.eq G.Record.eq (G.field_of f.graph.now) f.cache };
 }
 
 impl<'a, G: TypeGraph> Finder<'a, G> {
-    /// Searches in this graph, at most `most` of them for fields whose names occur in `text`, the source. Both are for speed alone: the
-    /// author of the source could choose names that collide with a fixed seed.
+    /// A finder for this graph. `text` is the source with the names of the fields to be found, and `most` the expected number of searches.
+    /// They serve speed alone: they determine the seed of the tables, since the author of the source could choose names that collide with
+    /// a fixed seed.
     pub fn new(alloc: Global, graph: &'a G, text: &[u8], most: usize) -> Finder<'a, G>
         ensures { result ≡ graph.now }
     {
@@ -60,11 +52,15 @@ impl<'a, G: TypeGraph> Finder<'a, G> {
         Finder {
             graph,
             by_names: MemoTable::none(alloc, seed, most),
-            by_pointers: MemoTable::none(alloc, seed, most),
-            parents: MemoTable::none(alloc, seed, most),
-            paths: None,
-            found: IndexMap::with_hasher(alloc, seed),
-            name_filter: NameFilter::none(alloc),
+            cache: FieldCache {
+                parents: ParentCache {
+                    ends: MemoTable::none(alloc, seed, most),
+                    parents: MemoTable::none(alloc, seed, most),
+                },
+                paths: None,
+                fields: IndexMap::with_hasher(alloc, seed),
+                name_filter: NameFilter::none(alloc),
+            },
         }
     }
 
@@ -77,26 +73,26 @@ impl<'a, G: TypeGraph> Finder<'a, G> {
 
     /// The type of the elements of the array that a type opens to; `None` if it opens to no array.
     pub fn element(&mut self, from: G::Node) -> Result<Option<G::Node>, AllocError>
-        // The graph stays.
+        // The graph is unchanged.
         ensures graph { self.new ≡ self.old }
-        // The returned element type is right.
+        // The type opens to an array whose elements have the returned type.
         ensures found { IfOk result (λ o. IfSome o (HasElement G.Declaration.eq (G.shape self.old) from)) }
         // `None` is returned only if there is no element type.
         ensures none { IfOk result (λ o. IfNone o ((n : G.Node) → HasElement G.Declaration.eq (G.shape self.old) from n → ⊥)) }
     {
-        element_in(self.graph, &mut self.by_names, from)
+        find_element(self.graph, &mut self.by_names, from)
     }
 
     /// The target of the pointer that a type opens to; `None` if it opens to no pointer.
     pub fn target(&mut self, from: G::Node) -> Result<Option<G::Node>, AllocError>
-        // The graph stays.
+        // The graph is unchanged.
         ensures graph { self.new ≡ self.old }
-        // The returned target is right.
+        // The type opens to a pointer with the returned target.
         ensures found { IfOk result (λ o. IfSome o (HasTarget G.Declaration.eq (G.shape self.old) from)) }
         // `None` is returned only if there is no target.
         ensures none { IfOk result (λ o. IfNone o ((n : G.Node) → HasTarget G.Declaration.eq (G.shape self.old) from n → ⊥)) }
     {
-        target_in(self.graph, &mut self.by_names, from)
+        find_target(self.graph, &mut self.by_names, from)
     }
 
     /// The field that a name denotes at a type: of the record that the type opens to, through pointers, or else of that record's base.
@@ -106,50 +102,41 @@ impl<'a, G: TypeGraph> Finder<'a, G> {
         from: G::Node,
         name: &'a [u8],
     ) -> Result<Option<G::Field>, AllocError>
-        // The graph stays.
+        // The graph is unchanged.
         ensures graph { self.new ≡ self.old }
-        // The returned field is right.
+        // The name denotes the returned field at the type.
         ensures found { IfOk result (λ o. IfSome o (λ f. Finds G.Declaration.eq (G.shape self.old) (λ r. G.field_of self.old r name.now) (G.base_of self.old) [] from f)) }
         // `None` is returned only if there is no field.
         ensures none { IfOk result (λ o. IfNone o ((f : G.Field) → Finds G.Declaration.eq (G.shape self.old) (λ r. G.field_of self.old r name.now) (G.base_of self.old) [] from f → ⊥)) }
     {
-        find_field_at(
-            self.graph,
-            &mut self.by_pointers,
-            &mut self.parents,
-            &mut self.paths,
-            &mut self.found,
-            &mut self.name_filter,
-            from,
-            name,
-        )
+        find_field_at(self.graph, &mut self.cache, from, name)
     }
 
     /// The end of a type, through names, and through pointers if `pointers` is set; `None` if the steps form a cycle.
     pub fn end(&mut self, pointers: bool, from: G::Node) -> Result<Option<G::Node>, AllocError>
-        // The graph stays.
+        // The graph is unchanged.
         ensures graph { self.new ≡ self.old }
         // The result is the end of the steps, or `None` for a cycle.
         ensures end { IfOk result (IsTypeEnd (G.shape self.old) pointers from) }
     {
         if pointers {
-            find_end(self.graph, true, &mut self.by_pointers, 1, from)
+            find_end(self.graph, true, &mut self.cache.parents.ends, 1, from)
         } else {
             find_end(self.graph, false, &mut self.by_names, 1, from)
         }
     }
 
-    /// The heavy paths of these records; `None` if there are no records. Any list of records is right, but a search can jump from these
-    /// alone.
+    /// The heavy paths of these records; `None` if there are no records. Any list of records may be given, but a search can jump only from
+    /// records of the list.
     pub fn decompose(
         &mut self,
         listed: &[G::Record],
     ) -> Result<Option<Box<HeavyPaths<G::Record>>>, AllocError>
-        // The graph stays.
+        // The graph is unchanged.
         ensures graph { self.new ≡ self.old }
-        // The heavy paths are right for the graph.
+        // The result satisfies the invariant of heavy paths of this graph.
         ensures paths { IfOk result (λ o. IfSome o (λ l. AreHeavyPaths (G.shape self.old) (G.base_of self.old) (G.field_of self.old) l.value)) }
     {
-        decompose(self.graph, &mut self.by_pointers, &mut self.parents, listed)
+        decompose(self.graph, &mut self.cache.parents, listed)
     }
 }

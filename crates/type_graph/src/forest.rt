@@ -19,7 +19,7 @@ struct Subtree {
 }
 
 /// The forest before any visit.
-fn subtrees_of(alloc: Global, parents: &[Option<usize>]) -> Result<Vec<Subtree>, AllocError> {
+fn initial_subtrees(alloc: Global, parents: &[Option<usize>]) -> Result<Vec<Subtree>, AllocError> {
     let mut subtrees = Vec::with_capacity(alloc, parents.len())?;
     for parent in parents {
         subtrees.push(Subtree {
@@ -34,7 +34,7 @@ fn subtrees_of(alloc: Global, parents: &[Option<usize>]) -> Result<Vec<Subtree>,
 }
 
 /// Counts one more child.
-fn add_pending(subtrees: &mut [Subtree], parent: Option<usize>) {
+fn count_child(subtrees: &mut [Subtree], parent: Option<usize>) {
     if let Some(at) = parent
         && at < subtrees.len()
     {
@@ -45,9 +45,9 @@ fn add_pending(subtrees: &mut [Subtree], parent: Option<usize>) {
 }
 
 /// Counts the children of each record.
-fn add_all_pending(subtrees: &mut [Subtree], parents: &[Option<usize>]) {
+fn count_children(subtrees: &mut [Subtree], parents: &[Option<usize>]) {
     for parent in parents {
-        add_pending(subtrees, *parent);
+        count_child(subtrees, *parent);
     }
 }
 
@@ -118,7 +118,7 @@ fn visit_cycle(subtrees: &mut [Subtree], first: usize) {
 }
 
 /// Visits a record that the bottom-up pass didn't reach, which lies on a cycle of bases, and the other records of that cycle.
-fn visit_waiting(subtrees: &mut [Subtree], at: usize) {
+fn visit_unreached(subtrees: &mut [Subtree], at: usize) {
     if at < subtrees.len() && subtrees[at].pending > 0 {
         let mut it = subtrees[at];
         it.pending = 0;
@@ -130,14 +130,14 @@ fn visit_waiting(subtrees: &mut [Subtree], at: usize) {
 /// Visits the records of all cycles.
 fn visit_cycles(subtrees: &mut [Subtree]) {
     for at in 0..subtrees.len() {
-        visit_waiting(subtrees, at);
+        visit_unreached(subtrees, at);
     }
 }
 
 /// The forest, given the parents, with the child of the largest subtree of each record.
 fn forest(alloc: Global, parents: &[Option<usize>]) -> Result<Vec<Subtree>, AllocError> {
-    let mut subtrees = subtrees_of(alloc, parents)?;
-    add_all_pending(&mut subtrees, parents);
+    let mut subtrees = initial_subtrees(alloc, parents)?;
+    count_children(&mut subtrees, parents);
     visit_trees(alloc, &mut subtrees)?;
     visit_cycles(&mut subtrees);
     Ok(subtrees)

@@ -6,6 +6,7 @@
 //! Main type: `Finder`; each search returns exactly what the report's rules give, or nothing if they give nothing.
 #![tactic(auto)]
 
+mod cache;
 mod decompose;
 mod detector;
 mod ends;

@@ -10,14 +10,14 @@ use text_hash::Seed;
 
 /// The largest number of keys in a hash table with a fixed seed: even if all collide, a look-up takes some hundred steps. For more
 /// searches the seed is derived from the source.
-const FEW: usize = 1024;
+const FIXED_SEED_KEYS: usize = 1024;
 
-/// The largest number of keys in a hash table with a seed derived from the source, against which the numbers of other modules may still
-/// be chosen.
-const MANY: usize = 16_384;
+/// The largest number of keys in a hash table with a seed derived from the source. An author may still choose the numbers of other modules
+/// so that keys collide under this seed.
+const DERIVED_SEED_KEYS: usize = 16_384;
 
-/// A map whose keys an author may choose. The first keys are in a hash table, all others in a search tree ordered by hash. A look-up
-/// there is slower than in a hash table without collisions, but collisions don't slow it down.
+/// A map whose keys an author may choose. The first keys are in a hash table, all others in a search tree ordered by hash. A look-up in the
+/// tree is slower than in a hash table without collisions, but collisions don't slow it down.
 #[derive(Drop)]
 pub(crate) struct MemoTable<K: Copy + Eq + Hash + Drop, V: Copy + Drop> {
     few: IndexMap<K, V, Seed>,
@@ -40,7 +40,11 @@ impl<K: Copy + Eq + Hash + Drop, V: Copy + Drop> MemoTable<K, V> {
     {
         MemoTable {
             few: IndexMap::with_hasher(alloc, seed),
-            most: if searches > FEW { MANY } else { FEW },
+            most: if searches > FIXED_SEED_KEYS {
+                DERIVED_SEED_KEYS
+            } else {
+                FIXED_SEED_KEYS
+            },
             more: BTreeMap::new(alloc),
         }
     }
@@ -51,7 +55,7 @@ impl<K: Copy + Eq + Hash + Drop, V: Copy + Drop> MemoTable<K, V> {
     }
 
     /// The value of a key in the search tree.
-    fn in_order(&self, key: K) -> Option<V>
+    fn get_from_tree(&self, key: K) -> Option<V>
         ensures { IfSome result (IsMemoized K.eq self.now key) }
     {
         if self.more.is_empty() {
@@ -67,7 +71,7 @@ impl<K: Copy + Eq + Hash + Drop, V: Copy + Drop> MemoTable<K, V> {
     {
         match self.few.get(&key) {
             Some(value) => Some(*value),
-            None => self.in_order(key),
+            None => self.get_from_tree(key),
         }
     }
 

@@ -4,16 +4,16 @@ use crate::graph::TypeGraph;
 use std::alloc::Global;
 
 /// 65,536 bits, in words of 64.
-const WORDS: usize = 1024;
+const FILTER_WORDS: usize = 1024;
 
-/// The number of visits before the size of the graph is asked for.
-const FIRST: u64 = 4096;
+/// The number of visits after which `is_build_due` first asks for the size of the graph.
+const FIRST_SIZE_CHECK: u64 = 4096;
 
-/// The heavy paths are built after this many times the graph's size in visits, about the cost of building them.
-const TIMES: u64 = 4;
+/// The heavy paths are built once the visits reach this many times the graph's size, about the cost of building the paths.
+const VISITS_PER_SIZE: u64 = 4;
 
-/// A Bloom filter with one hash function (Bloom 1970), without bits before the first name. It tells that a name may have been looked up
-/// before. Unlike a hash table it takes no longer for names chosen to collide.
+/// A Bloom filter with one hash function (Bloom 1970): it tells whether a name may have been looked up before. Its bits are allocated at
+/// the first name. Names chosen to collide don't slow it down, as they slow down a hash table. It also counts visits.
 #[derive(Drop)]
 pub(crate) struct NameFilter {
     words: Vec<u64>,
@@ -39,11 +39,11 @@ impl NameFilter {
         NameFilter {
             words: Vec::new(alloc),
             visited: 0,
-            due: FIRST,
+            due: FIRST_SIZE_CHECK,
         }
     }
 
-    /// Counts a visit of a search for a name, and one more for every 64 bytes of the name, which is hashed there.
+    /// Counts a visit of a search for a name, and one more for every 64 bytes of the name, as looking the name up takes longer.
     pub(crate) fn add(&mut self, name: &[u8]) {
         let pieces = (name.len() / 64) as u64;
         self.visited = self.visited.saturating_add(1).saturating_add(pieces);
@@ -54,7 +54,7 @@ impl NameFilter {
         if self.visited < self.due {
             return false;
         }
-        let least = graph.size().saturating_mul(TIMES);
+        let least = graph.size().saturating_mul(VISITS_PER_SIZE);
         let is_due = self.visited >= least;
         self.due = if is_due {
             self.visited.saturating_mul(2)
@@ -65,9 +65,9 @@ impl NameFilter {
     }
 
     /// Allocates the bits if they are missing. Returns whether there are bits.
-    fn has_bits(&mut self, alloc: Global) -> bool {
+    fn ensure_bits(&mut self, alloc: Global) -> bool {
         if self.words.is_empty()
-            && let Ok(words) = vec![in alloc; 0_u64; WORDS]
+            && let Ok(words) = vec![in alloc; 0_u64; FILTER_WORDS]
         {
             self.words = words;
         }
@@ -76,7 +76,7 @@ impl NameFilter {
 
     /// Inserts a name. Returns whether it may have been inserted before.
     pub(crate) fn insert_name(&mut self, alloc: Global, name: &[u8]) -> bool {
-        if !self.has_bits(alloc) {
+        if !self.ensure_bits(alloc) {
             return true;
         }
         let (at, mark) = bloom_bit(name);

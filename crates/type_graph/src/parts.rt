@@ -38,7 +38,7 @@ fn target_of<N: Copy + Drop, D: Copy + Drop, R: Copy + Drop>(shape: Shape<N, D, 
 }
 
 /// The type of the elements of the array that a type opens to.
-pub(crate) fn element_in<G: TypeGraph>(
+pub(crate) fn find_element<G: TypeGraph>(
     graph: &G,
     memo: &mut MemoTable<G::Declaration, Option<G::Node>>,
     from: G::Node,
@@ -55,7 +55,7 @@ pub(crate) fn element_in<G: TypeGraph>(
 }
 
 /// The target of the pointer that a type opens to.
-pub(crate) fn target_in<G: TypeGraph>(
+pub(crate) fn find_target<G: TypeGraph>(
     graph: &G,
     memo: &mut MemoTable<G::Declaration, Option<G::Node>>,
     from: G::Node,

@@ -4,7 +4,7 @@ ghost use Rattle.type_graph.specs.BuiltPaths.{AreHeavyPaths};
 ghost use Rattle.type_graph.specs.PathOrder.{IsJump, IsSortedByName};
 ghost use Rattle.type_graph.specs.declared.shape.Shape.{Shape};
 
-use crate::field_entries::{FieldEntry, slot_after};
+use crate::field_entries::{FieldEntry, next_slot_with_name};
 use crate::jump::Jump;
 use indexmap::IndexSet;
 use std::hash::Hash;
@@ -52,7 +52,7 @@ pub fn jump_along<N: Copy + Drop, D: Copy + Drop, R: Copy + Eq + Hash + Drop, F:
         return Jump::From(record);
     }
     let end = paths.ends[slot];
-    let next = slot_after(paths.field_entries.as_slice(), name, slot);
+    let next = next_slot_with_name(paths.field_entries.as_slice(), name, slot);
     match within(next, end) {
         Some(next) => match paths.records.get_index(next) {
             Some(parent) => Jump::Onto(*parent),

@@ -1,20 +1,21 @@
 //! The records that types denote, and look-up of their fields.
 ghost use Rattle.std.specs.Prelude.{◌≡◌, ◌<◌, ◌^◌, [], true, IfOk, IfSome, IfNone, None};
 ghost use Rattle.std.specs.List.{All};
-ghost use Rattle.type_graph.specs.Extending.{shape_record, AreParents, AreFieldsOf, AreFieldsMemoized, IsParent, IsFieldIn, IsNextParent, IsRecordOf};
+ghost use Rattle.type_graph.specs.Caches.{IsValidFieldCache, IsValidParentCache};
+ghost use Rattle.type_graph.specs.Extending.{shape_record, AreFieldsOf, AreFieldsMemoized, IsParent, IsFieldIn, IsNextParent, IsRecordOf};
 ghost use Rattle.type_graph.specs.BuiltPaths.{AreHeavyPaths};
 ghost use Rattle.type_graph.specs.Link.{AreTypeEnds};
 ghost use Rattle.type_graph.specs.PathOrder.{IsJump};
 ghost use Rattle.type_graph.specs.Progress.{progress};
 ghost use Rattle.type_graph.specs.Searches.{Finds};
 
+use crate::cache::{FieldCache, ParentCache};
 use crate::decompose::decompose_if_due;
-use crate::detector::{CycleDetector, closes_cycle, is_past_limit, new_detector, visit};
+use crate::detector::{CycleDetector, closes_cycle, is_long_search, new_detector, visit};
 use crate::ends::find_end;
 use crate::graph::TypeGraph;
 use crate::jump::Jump;
 use crate::memo::MemoTable;
-use crate::name_filter::NameFilter;
 use crate::paths::{HeavyPaths, jump_along};
 use crate::shape::Shape;
 use indexmap::IndexMap;
@@ -37,7 +38,7 @@ fn shape_record<N: Copy + Drop, D: Copy + Drop, R: Copy + Drop>(shape: Shape<N, 
 
 /// The record that a type denotes through names and pointers. Memoizes the end of the type if the search has at least `least`
 /// checkpoints.
-fn record_of<G: TypeGraph>(
+fn denoted_record<G: TypeGraph>(
     graph: &G,
     memo: &mut MemoTable<G::Declaration, Option<G::Node>>,
     least: usize,
@@ -65,13 +66,13 @@ fn find_parent<G: TypeGraph>(
 {
     match graph.base(record) {
         None => Ok(None),
-        Some(base) => record_of(graph, memo, 2, base),
+        Some(base) => denoted_record(graph, memo, 2, base),
     }
 }
 
 /// The field that a name denotes in a record, if the record declares it or it is memoized. The memo table is asked only if the name may
 /// be in it.
-fn local_field<'a, G: TypeGraph>(
+fn own_or_memoized_field<'a, G: TypeGraph>(
     graph: &G,
     found: &IndexMap<(G::Record, Name<'a>), Option<G::Field>, Seed>,
     is_memoized: bool,
@@ -97,25 +98,22 @@ fn local_field<'a, G: TypeGraph>(
 /// The parent of a record, memoized, as every search through that base needs it.
 pub(crate) fn cached_parent<G: TypeGraph>(
     graph: &G,
-    memo: &mut MemoTable<G::Declaration, Option<G::Node>>,
-    parents: &mut MemoTable<G::Record, Option<G::Record>>,
+    cache: &mut ParentCache<G::Node, G::Declaration, G::Record>,
     record: G::Record,
 ) -> Result<Option<G::Record>, AllocError>
-    requires memo { AreTypeEnds (G.shape graph.now) true G.Declaration.eq memo.old }
-    requires parents { AreParents (G.shape graph.now) (G.base_of graph.now) G.Record.eq parents.old }
-    ensures memo { AreTypeEnds (G.shape graph.now) true G.Declaration.eq memo.new }
-    ensures parents { AreParents (G.shape graph.now) (G.base_of graph.now) G.Record.eq parents.new }
+    requires { IsValidParentCache (G.shape graph.now) (G.base_of graph.now) G.Declaration.eq G.Record.eq cache.old }
+    ensures cache { IsValidParentCache (G.shape graph.now) (G.base_of graph.now) G.Declaration.eq G.Record.eq cache.new }
     ensures is { IfOk result (IsParent (G.shape graph.now) (G.base_of graph.now) «record») }
 {
-    if let Some(parent) = parents.get(record) {
+    if let Some(parent) = cache.parents.get(record) {
         return Ok(parent);
     }
-    let parent = find_parent(graph, memo, record)?;
-    parents.insert(record, parent)?;
+    let parent = find_parent(graph, &mut cache.ends, record)?;
+    cache.parents.insert(record, parent)?;
     Ok(parent)
 }
 
-/// The precomputed jump from a record that lacks the field of this name. A search of fewer than `LONG` steps doesn't ask for it.
+/// The precomputed jump from a record that lacks the field of this name. A search of fewer than `LONG_SEARCH` steps doesn't ask for it.
 fn jump_if_precomputed<G: TypeGraph>(
     graph: &G,
     detector: &CycleDetector<G::Record>,
@@ -125,7 +123,7 @@ fn jump_if_precomputed<G: TypeGraph>(
     requires { G.field_of graph.now «record» name.now ≡ None }
     ensures { IsJump (G.shape graph.now) (G.base_of graph.now) (λ r. G.field_of graph.now r name.now) «record» result }
 {
-    if !is_past_limit(detector) {
+    if !is_long_search(detector) {
         return Jump::From(record);
     }
     match graph.precomputed_jump(record, name) {
@@ -135,7 +133,7 @@ fn jump_if_precomputed<G: TypeGraph>(
 }
 
 /// The jump from a record that lacks the field of this name, along its heavy path if the paths have been built.
-fn jump_from<G: TypeGraph>(
+fn next_jump<G: TypeGraph>(
     graph: &G,
     paths: &Option<Box<HeavyPaths<G::Record>>>,
     detector: &CycleDetector<G::Record>,
@@ -156,23 +154,16 @@ fn jump_from<G: TypeGraph>(
 
 /// Visits a record that lacks the field of this name. Returns an ancestor before which none has it; `None` if there is no further
 /// ancestor or the search has closed a cycle.
-fn climb<G: TypeGraph>(
+fn climb<'a, G: TypeGraph>(
     graph: &G,
-    memo: &mut MemoTable<G::Declaration, Option<G::Node>>,
-    parents: &mut MemoTable<G::Record, Option<G::Record>>,
-    paths: &mut Option<Box<HeavyPaths<G::Record>>>,
-    name_filter: &mut NameFilter,
+    cache: &mut FieldCache<'a, G::Node, G::Declaration, G::Record, G::Field>,
     detector: &mut CycleDetector<G::Record>,
     record: G::Record,
     name: &[u8],
 ) -> Result<Option<G::Record>, AllocError>
-    requires memo { AreTypeEnds (G.shape graph.now) true G.Declaration.eq memo.old }
-    requires parents { AreParents (G.shape graph.now) (G.base_of graph.now) G.Record.eq parents.old }
-    requires paths { IfSome paths.old (λ l. AreHeavyPaths (G.shape graph.now) (G.base_of graph.now) (G.field_of graph.now) l.value) }
+    requires cache { IsValidFieldCache (G.shape graph.now) (G.base_of graph.now) G.Declaration.eq G.Record.eq (G.field_of graph.now) cache.old }
     requires lacks { G.field_of graph.now «record» name.now ≡ None }
-    ensures memo { AreTypeEnds (G.shape graph.now) true G.Declaration.eq memo.new }
-    ensures parents { AreParents (G.shape graph.now) (G.base_of graph.now) G.Record.eq parents.new }
-    ensures paths { IfSome paths.new (λ l. AreHeavyPaths (G.shape graph.now) (G.base_of graph.now) (G.field_of graph.now) l.value) }
+    ensures cache { IsValidFieldCache (G.shape graph.now) (G.base_of graph.now) G.Declaration.eq G.Record.eq (G.field_of graph.now) cache.new }
     ensures next { IfOk result (IsNextParent (G.shape graph.now) (G.base_of graph.now) (λ r. G.field_of graph.now r name.now) G.Record.eq «record» detector.old.checkpoints.items detector.new.checkpoints.items) }
     ensures visited { IfOk result (λ o. IfSome o (λ _. (progress detector.old < progress detector.new) × (progress detector.new < 2 ^ 65))) }
 {
@@ -180,11 +171,11 @@ fn climb<G: TypeGraph>(
         return Ok(None);
     }
     visit(detector, record)?;
-    name_filter.add(name);
-    decompose_if_due(graph, memo, parents, paths, name_filter);
-    match jump_from(graph, paths, detector, record, name) {
+    cache.name_filter.add(name);
+    decompose_if_due(graph, cache);
+    match next_jump(graph, &cache.paths, detector, record, name) {
         Jump::Onto(parent) => Ok(Some(parent)),
-        Jump::From(last) => cached_parent(graph, memo, parents, last),
+        Jump::From(last) => cached_parent(graph, &mut cache.parents, last),
     }
 }
 
@@ -192,41 +183,30 @@ fn climb<G: TypeGraph>(
 /// records checkpoints.
 fn field_of<'a, G: TypeGraph>(
     graph: &G,
-    memo: &mut MemoTable<G::Declaration, Option<G::Node>>,
-    parents: &mut MemoTable<G::Record, Option<G::Record>>,
-    paths: &mut Option<Box<HeavyPaths<G::Record>>>,
-    name_filter: &mut NameFilter,
-    found: &IndexMap<(G::Record, Name<'a>), Option<G::Field>, Seed>,
-    is_memoized: bool,
+    cache: &mut FieldCache<'a, G::Node, G::Declaration, G::Record, G::Field>,
     detector: &mut CycleDetector<G::Record>,
     from: G::Record,
     name: &'a [u8],
 ) -> Result<Option<G::Field>, AllocError>
-    requires memo { AreTypeEnds (G.shape graph.now) true G.Declaration.eq memo.old }
-    requires parents { AreParents (G.shape graph.now) (G.base_of graph.now) G.Record.eq parents.old }
-    requires paths { IfSome paths.old (λ l. AreHeavyPaths (G.shape graph.now) (G.base_of graph.now) (G.field_of graph.now) l.value) }
-    requires found { AreFieldsMemoized (G.shape graph.now) (G.base_of graph.now) (G.field_of graph.now) G.Record.eq found.now }
+    requires cache { IsValidFieldCache (G.shape graph.now) (G.base_of graph.now) G.Declaration.eq G.Record.eq (G.field_of graph.now) cache.old }
     requires none_passed { detector.old.checkpoints.items ≡ [] }
-    ensures memo { AreTypeEnds (G.shape graph.now) true G.Declaration.eq memo.new }
-    ensures parents { AreParents (G.shape graph.now) (G.base_of graph.now) G.Record.eq parents.new }
-    ensures paths { IfSome paths.new (λ l. AreHeavyPaths (G.shape graph.now) (G.base_of graph.now) (G.field_of graph.now) l.value) }
+    ensures cache { IsValidFieldCache (G.shape graph.now) (G.base_of graph.now) G.Declaration.eq G.Record.eq (G.field_of graph.now) cache.new }
     ensures fields { IfOk result (AreFieldsOf (G.shape graph.now) (G.base_of graph.now) (λ r. G.field_of graph.now r name.now) from detector.new.checkpoints.items) }
 {
+    let alloc = cache.parents.allocator();
+    let is_memoized = cache.name_filter.insert_name(alloc, name);
     let mut record = from;
     'records: loop {
-        if let Some(field) = local_field(graph, found, is_memoized, record, name) {
-            return Ok(field);
-        }
-        match climb(
+        if let Some(field) = own_or_memoized_field(
             graph,
-            memo,
-            parents,
-            paths,
-            name_filter,
-            detector,
+            &cache.fields,
+            is_memoized,
             record,
             name,
-        )? {
+        ) {
+            return Ok(field);
+        }
+        match climb(graph, cache, detector, record, name)? {
             None => return Ok(None),
             Some(parent) => record = parent,
         }
@@ -252,116 +232,61 @@ fn memoize_field<'a, G: TypeGraph>(
 }
 
 /// The field that a name denotes in a record; memoizes it for the record and the checkpoints of the search.
-fn search_field<'a, G: TypeGraph>(
+fn find_and_memoize_field<'a, G: TypeGraph>(
     graph: &G,
-    memo: &mut MemoTable<G::Declaration, Option<G::Node>>,
-    parents: &mut MemoTable<G::Record, Option<G::Record>>,
-    paths: &mut Option<Box<HeavyPaths<G::Record>>>,
-    found: &mut IndexMap<(G::Record, Name<'a>), Option<G::Field>, Seed>,
-    name_filter: &mut NameFilter,
+    cache: &mut FieldCache<'a, G::Node, G::Declaration, G::Record, G::Field>,
     detector: &mut CycleDetector<G::Record>,
     from: G::Record,
     name: &'a [u8],
 ) -> Result<Option<G::Field>, AllocError>
-    requires memo { AreTypeEnds (G.shape graph.now) true G.Declaration.eq memo.old }
-    requires parents { AreParents (G.shape graph.now) (G.base_of graph.now) G.Record.eq parents.old }
-    requires paths { IfSome paths.old (λ l. AreHeavyPaths (G.shape graph.now) (G.base_of graph.now) (G.field_of graph.now) l.value) }
-    requires found { AreFieldsMemoized (G.shape graph.now) (G.base_of graph.now) (G.field_of graph.now) G.Record.eq found.old }
+    requires cache { IsValidFieldCache (G.shape graph.now) (G.base_of graph.now) G.Declaration.eq G.Record.eq (G.field_of graph.now) cache.old }
     requires none_passed { detector.old.checkpoints.items ≡ [] }
-    ensures memo { AreTypeEnds (G.shape graph.now) true G.Declaration.eq memo.new }
-    ensures parents { AreParents (G.shape graph.now) (G.base_of graph.now) G.Record.eq parents.new }
-    ensures paths { IfSome paths.new (λ l. AreHeavyPaths (G.shape graph.now) (G.base_of graph.now) (G.field_of graph.now) l.value) }
-    ensures found { AreFieldsMemoized (G.shape graph.now) (G.base_of graph.now) (G.field_of graph.now) G.Record.eq found.new }
+    ensures cache { IsValidFieldCache (G.shape graph.now) (G.base_of graph.now) G.Declaration.eq G.Record.eq (G.field_of graph.now) cache.new }
     ensures is { IfOk result (IsFieldIn (G.shape graph.now) (G.base_of graph.now) (λ r. G.field_of graph.now r name.now) from) }
 {
-    let is_memoized = name_filter.insert_name(memo.allocator(), name);
-    let field = field_of(
+    let field = field_of(graph, cache, detector, from, name)?;
+    memoize_field(
         graph,
-        memo,
-        parents,
-        paths,
-        name_filter,
-        found,
-        is_memoized,
-        detector,
-        from,
+        &mut cache.fields,
+        detector.checkpoints.as_slice(),
         name,
+        field,
     )?;
-    memoize_field(graph, found, detector.checkpoints.as_slice(), name, field)?;
     Ok(field)
 }
 
 /// The field that a name denotes in a record: its own without memoizing it, or else an inherited one.
-fn lookup_field<'a, G: TypeGraph>(
+fn find_field_in_record<'a, G: TypeGraph>(
     graph: &G,
-    memo: &mut MemoTable<G::Declaration, Option<G::Node>>,
-    parents: &mut MemoTable<G::Record, Option<G::Record>>,
-    paths: &mut Option<Box<HeavyPaths<G::Record>>>,
-    found: &mut IndexMap<(G::Record, Name<'a>), Option<G::Field>, Seed>,
-    name_filter: &mut NameFilter,
+    cache: &mut FieldCache<'a, G::Node, G::Declaration, G::Record, G::Field>,
     from: G::Record,
     name: &'a [u8],
 ) -> Result<Option<G::Field>, AllocError>
-    requires memo { AreTypeEnds (G.shape graph.now) true G.Declaration.eq memo.old }
-    requires parents { AreParents (G.shape graph.now) (G.base_of graph.now) G.Record.eq parents.old }
-    requires paths { IfSome paths.old (λ l. AreHeavyPaths (G.shape graph.now) (G.base_of graph.now) (G.field_of graph.now) l.value) }
-    requires found { AreFieldsMemoized (G.shape graph.now) (G.base_of graph.now) (G.field_of graph.now) G.Record.eq found.old }
-    ensures memo { AreTypeEnds (G.shape graph.now) true G.Declaration.eq memo.new }
-    ensures parents { AreParents (G.shape graph.now) (G.base_of graph.now) G.Record.eq parents.new }
-    ensures paths { IfSome paths.new (λ l. AreHeavyPaths (G.shape graph.now) (G.base_of graph.now) (G.field_of graph.now) l.value) }
-    ensures found { AreFieldsMemoized (G.shape graph.now) (G.base_of graph.now) (G.field_of graph.now) G.Record.eq found.new }
+    requires { IsValidFieldCache (G.shape graph.now) (G.base_of graph.now) G.Declaration.eq G.Record.eq (G.field_of graph.now) cache.old }
+    ensures cache { IsValidFieldCache (G.shape graph.now) (G.base_of graph.now) G.Declaration.eq G.Record.eq (G.field_of graph.now) cache.new }
     ensures is { IfOk result (IsFieldIn (G.shape graph.now) (G.base_of graph.now) (λ r. G.field_of graph.now r name.now) from) }
 {
     if let Some(field) = graph.field(from, name) {
         return Ok(Some(field));
     }
-    let mut detector = new_detector(memo.allocator());
-    search_field(
-        graph,
-        memo,
-        parents,
-        paths,
-        found,
-        name_filter,
-        &mut detector,
-        from,
-        name,
-    )
+    let mut detector = new_detector(cache.parents.allocator());
+    find_and_memoize_field(graph, cache, &mut detector, from, name)
 }
 
 /// The field that a name denotes at a type: of the record that the type denotes, or else of that record's base.
 pub(crate) fn find_field_at<'a, G: TypeGraph>(
     graph: &G,
-    memo: &mut MemoTable<G::Declaration, Option<G::Node>>,
-    parents: &mut MemoTable<G::Record, Option<G::Record>>,
-    paths: &mut Option<Box<HeavyPaths<G::Record>>>,
-    found: &mut IndexMap<(G::Record, Name<'a>), Option<G::Field>, Seed>,
-    name_filter: &mut NameFilter,
+    cache: &mut FieldCache<'a, G::Node, G::Declaration, G::Record, G::Field>,
     from: G::Node,
     name: &'a [u8],
 ) -> Result<Option<G::Field>, AllocError>
-    requires memo { AreTypeEnds (G.shape graph.now) true G.Declaration.eq memo.old }
-    requires parents { AreParents (G.shape graph.now) (G.base_of graph.now) G.Record.eq parents.old }
-    requires paths { IfSome paths.old (λ l. AreHeavyPaths (G.shape graph.now) (G.base_of graph.now) (G.field_of graph.now) l.value) }
-    requires found { AreFieldsMemoized (G.shape graph.now) (G.base_of graph.now) (G.field_of graph.now) G.Record.eq found.old }
-    ensures memo { AreTypeEnds (G.shape graph.now) true G.Declaration.eq memo.new }
-    ensures parents { AreParents (G.shape graph.now) (G.base_of graph.now) G.Record.eq parents.new }
-    ensures paths { IfSome paths.new (λ l. AreHeavyPaths (G.shape graph.now) (G.base_of graph.now) (G.field_of graph.now) l.value) }
-    ensures fields { AreFieldsMemoized (G.shape graph.now) (G.base_of graph.now) (G.field_of graph.now) G.Record.eq found.new }
+    requires { IsValidFieldCache (G.shape graph.now) (G.base_of graph.now) G.Declaration.eq G.Record.eq (G.field_of graph.now) cache.old }
+    ensures cache { IsValidFieldCache (G.shape graph.now) (G.base_of graph.now) G.Declaration.eq G.Record.eq (G.field_of graph.now) cache.new }
     ensures found { IfOk result (λ o. IfSome o (λ f. Finds G.Declaration.eq (G.shape graph.now) (λ r. G.field_of graph.now r name.now) (G.base_of graph.now) [] from f)) }
     ensures none { IfOk result (λ o. IfNone o ((f : G.Field) → Finds G.Declaration.eq (G.shape graph.now) (λ r. G.field_of graph.now r name.now) (G.base_of graph.now) [] from f → ⊥)) }
 {
-    match record_of(graph, memo, 1, from)? {
+    match denoted_record(graph, &mut cache.parents.ends, 1, from)? {
         None => Ok(None),
-        Some(record) => lookup_field(
-            graph,
-            memo,
-            parents,
-            paths,
-            found,
-            name_filter,
-            record,
-            name,
-        ),
+        Some(record) => find_field_in_record(graph, cache, record, name),
     }
 }

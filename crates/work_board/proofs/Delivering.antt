@@ -1,4 +1,4 @@
--- A board with one entry more.
+-- A scheduler with one more entry.
 use Rattle.std.proofs.Common.{◌≡◌, ◌<◌, ◌≤◌, ◌+◌, ℕ, zero, suc, Bool, true, false, List, length, map, set, refl, sym, ap, ◌∙◌, subst, arith, inl, inr}
 use Rattle.std.specs.Prelude.{Option, None, Some, is_some, slice_index}
 use Rattle.std.proofs.lemmas.Bool.{cases_eq}

@@ -1,4 +1,4 @@
--- From a module that isn't delivered imports lead on to such modules, until one is ready.
+-- From an undelivered module a path of undelivered imports leads to a module that is ready.
 use Rattle.std.proofs.Common.{◌≡◌, ◌<◌, ◌+◌, ℕ, zero, suc, true, false, List, [], ◌∷◌, ◌++◌, length, refl, sym, ap, ◌∙◌, subst, arith, inl, inr, length-append}
 use Rattle.std.specs.Prelude.{Contains, ◌⊎◌, nat_eq}
 use Rattle.std.specs.List.{IsDistinct, list_any}
@@ -17,13 +17,13 @@ none_twice : IsDistinct nat_eq []
 unfolding IsDistinct
 none_twice = tt
 
--- a chain with one import more
+-- a path with one more import
 chain_more : (imports : List (List ℕ)) (m : ℕ) (more : List ℕ) (v w : ℕ) → IsChain imports m more v → RowLeads imports v w → IsChain imports m (more ++ v ∷ []) w
 chain_more imports m [] v w chain leads = (chain, leads)
 chain_more imports m (n ∷ more) v w chain leads = (chain.0, chain_more imports n more v w chain.1 leads)
 
 module _ {E : Type 0} (g : Modules) (graph : IsGraph g) (acyclic : IsAcyclic g.imports) (c : Core E) (size : length c.entries ≡ length g.names) (idle : IsIdle c) (none : (n : ℕ) → IsReady g.imports c n → ⊥) where
-  -- all of a row are delivered, or one isn't
+  -- all modules of a list are delivered, or one isn't
   open_in : (row : List ℕ) → ((w : ℕ) → Contains row w → has_entry c.entries w ≡ true) ⊎ ((w : ℕ) × Contains row w × (has_entry c.entries w ≡ false))
   open_in [] = inl (λ w h. no_member w h)
   open_in (x ∷ row) = elim (cases_Bool (has_entry c.entries x)) [
@@ -49,7 +49,7 @@ module _ {E : Type 0} (g : Modules) (graph : IsGraph g) (acyclic : IsAcyclic g.i
     | inr found ↦ found
   ]
 
-  -- the modules that were met differ and each reaches this one, so no more than there are were met
+  -- the visited modules differ, and each reaches the current one, so at most as many were visited as there are
   descend : (fuel : ℕ) (met : List ℕ) → IsDistinct nat_eq met → (v : ℕ) → ((x : ℕ) → Contains met x → (x < length g.names) × Reaches g.imports x v)
       → v < length g.names → has_entry c.entries v ≡ false → length g.names < length met + fuel → ⊥
   descend zero met apart v reach lt missing long =

@@ -1,4 +1,4 @@
--- A board with one module more claimed.
+-- A scheduler with one more claimed module.
 use Rattle.std.proofs.Common.{◌≡◌, ◌<◌, ℕ, Bool, true, List, length, set, sym, ap, ◌∙◌, subst, arith, inl, inr}
 use Rattle.std.specs.Prelude.{◌↔◌, Option, slice_index}
 use Rattle.std.proofs.lemmas.Bool.{cases_eq}

@@ -1,4 +1,4 @@
--- Rows of marks.
+-- Lists of flags.
 use Rattle.std.proofs.Common.{◌≡◌, ◌<◌, ◌+◌, ℕ, Bool, true, false, List, [], ◌∷◌, ◌++◌, length, take, drop, set, refl, sym, ap, ◌∙◌, arith, inl, inr, get_or}
 use Rattle.std.specs.Prelude.{◌⊎◌, ◌↔◌, ◌||◌, Vec}
 use Rattle.std.specs.declared.alloc.Global.{Global}
@@ -17,7 +17,7 @@ restored len new old same long =
     let none : drop (length new) old ≡ [] = drop_all (length new) old (omega arith) in
     rw (none, append-nil new) (take_all len new (omega arith))
 
--- one more is met
+-- one more module is added
 pub met_more : (reached : List (List Bool)) (row : List ℕ) (i : ℕ) → i < length row → (w : ℕ) → get_or row i 0 ≡ w → (v : ℕ)
     → IsReachedBy reached (take (i + 1) row) v ↔ (IsReachedBy reached (take i row) v ⊎ ((w ≡ v) ⊎ (marked (list_at reached w) v ≡ true)))
 met_more reached row i lt w is v =

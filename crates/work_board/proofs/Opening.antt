@@ -1,4 +1,4 @@
--- A new board.
+-- A new scheduler.
 use Rattle.std.proofs.Common.{◌≡◌, ◌<◌, ℕ, zero, suc, Bool, false, List, [], ◌∷◌, length, map, refl, sym, ap, ◌∙◌, arith, inl, inr, get_or}
 use Rattle.std.specs.Prelude.{Option, None, is_some, slice_index, replicate}
 use Rattle.std.proofs.lemmas.Bool.{cases_lt}

@@ -1,4 +1,4 @@
--- The numbers of names in the order of the names.
+-- The numbers of names, sorted by name.
 use Rattle.std.proofs.Common.{◌≡◌, ◌<◌, ◌≤◌, ◌+◌, ℕ, zero, suc, Bool, false, List, [], ◌∷◌, length, get_or, refl, subst, sym, ◌∙◌, arith, inl, inr}
 use Rattle.std.specs.Prelude.{All, Contains, Option}
 use Rattle.std.specs.List.{flat_map, range_with_len}
@@ -32,7 +32,7 @@ no_mark flags none v = elim (cases_lt v (length flags)) [
   | inr past ↦ get_or_past flags v false past
 ]
 
--- where there is no mark they share nothing
+-- if no flag is set, no part is shared
 pub shares_none : {E X : Type 0} (f : E → X) (flags : List Bool) (entries : List (Option E)) (order : List ℕ) → ((v : ℕ) → 0 ≤ v → v < length flags → get_or flags v false ≡ false)
     → flat_map (share_at f flags entries) order ≡ []
 shares_none f flags entries [] none = refl

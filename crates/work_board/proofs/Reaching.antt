@@ -1,4 +1,4 @@
--- What a claimed module reaches.
+-- The modules that a claimed module reaches.
 use Rattle.std.proofs.Common.{◌≡◌, ◌<◌, ℕ, Bool, true, false, List, [], ◌∷◌, length, refl, sym, ap, ◌∙◌, subst, arith, inl, inr}
 use Rattle.std.specs.Prelude.{◌↔◌, Option, slice_index}
 use Rattle.work_board.specs.declared.state.State.{State}
@@ -37,7 +37,7 @@ module _ {E : Type 0} (is_of : List ℕ → E → Type 0) (g : Modules) (waiting
   reaches_there graph abandoned n v claimed r =
       chain_there graph n v r.0 (sym (claimed_is is_of g waiting states reached spare entries kept abandoned n) ∙ claimed) r.1
 
-  -- the row of an import that is delivered
+  -- the flags of an import that is delivered
   import_marks : IsGraph g → (n : ℕ) → n < length g.names → slice_index waiting n ≡ 0 → (w : ℕ) → RowLeads g.imports n w → (v : ℕ) → v < length g.names
       → (marked (list_at reached w) v ≡ true) ↔ Reaches g.imports w v
   import_marks graph n below zero w leads v lt =
@@ -47,7 +47,7 @@ module _ {E : Type 0} (is_of : List ℕ → E → Type 0) (g : Modules) (waiting
   from_chain graph n below zero v lt [] leads = (v, leads, inl refl)
   from_chain graph n below zero v lt (w ∷ more) chain = (w, chain.0, inr ((import_marks graph n below zero w chain.0 v lt).1 (more, chain.1)))
 
-  -- of a module without open imports
+  -- the flags of a module without undelivered imports
   pub meets : IsGraph g → (n : ℕ) → n < length g.names → slice_index waiting n ≡ 0 → (v : ℕ) → v < length g.names → IsReachedBy reached (list_at g.imports n) v ↔ Reaches g.imports n v
   meets graph n below zero v lt = (
     (λ met. elim met.2 [
@@ -59,7 +59,7 @@ module _ {E : Type 0} (is_of : List ℕ → E → Type 0) (g : Modules) (waiting
     (λ r. from_chain graph n below zero v lt r.0 r.1),
   )
 
-  -- the parts that the row of a claimed module tells
+  -- the shared parts that the flags of a claimed module select
   pub shares_told : {X : Type 0} (f : E → X) → IsGraph g → (abandoned : Bool) (n : ℕ) → taken (state_at states n) ≡ true → (order : List ℕ) → IsNameOrder g.names order → (parts : List X) → parts ≡ flat_map (share_at f (list_at reached n) entries) order
       → AreShares f g (core_of entries states abandoned) n parts
   shares_told f graph abandoned n is_taken order by_name parts are =

@@ -1,4 +1,4 @@
--- One import less is open for a module.
+-- A module with one undelivered import fewer.
 use Rattle.std.proofs.Common.{◌≡◌, ◌<◌, ◌+◌, ◌-◌, ℕ, zero, suc, List, length, take, set, refl, sym, ◌∙◌, arith, inl, inr, get_or}
 use Rattle.std.specs.Prelude.{slice_index}
 use Rattle.std.proofs.lemmas.Bool.{cases_eq}

@@ -1,4 +1,4 @@
--- A board whose workers are gone.
+-- A scheduler after `take_back`, when no worker is left.
 use Rattle.std.proofs.Common.{◌≡◌, ℕ, Bool, true, false, List, length, map, refl, sym, ap, ◌∙◌, arith}
 use Rattle.std.specs.Prelude.{Option, None, is_some, slice_index}
 use Rattle.std.proofs.lemmas.List.{ext_get_or, length-map}
@@ -21,7 +21,7 @@ taken_let_go Free k there fits_state = sym fits_state.1
 taken_let_go Claimed k there fits_state = sym fits_state.1
 taken_let_go Delivered k there fits_state = sym fits_state.1
 
--- what is still taken was taken before
+-- a module that is still claimed or delivered was so before
 taken_before : (s : State) → taken (freed_claim s) ≡ true → taken s ≡ true
 taken_before Waiting is_so = cc
 taken_before Free is_so = cc
@@ -31,7 +31,7 @@ taken_before Delivered is_so = refl
 pub state_let_go : (states : List State) (n : ℕ) → state_at (map freed_claim states) n ≡ freed_claim (state_at states n)
 state_let_go states n = get_or-map freed_claim states n Waiting
 
--- what is claimed in a core that was taken back is delivered
+-- a module that is claimed after `take_back` is delivered
 pub back_idle : {E : Type 0} (c : Core E) → IsIdle (taken_back c)
 back_idle c n claimed = sym (get_or-map is_some c.entries n None) ∙ claimed
 

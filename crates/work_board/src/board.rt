@@ -6,7 +6,7 @@ ghost use Rattle.work_board.specs.Graphs.{lists, list_at, times_in, IsAcyclic, R
 ghost use Rattle.work_board.specs.Cores.{abandoned_after, has_entry, is_claimed, new_core, share_at, shared_part, taken_back, AreOf, AreShares, IsClaim, IsDelivery, IsIdle, IsOver, IsReady, IsRefusal};
 ghost use Rattle.work_board.specs.Keeping.{freed, freed_claim, state_at, taken, IsFit, IsChosenClaim};
 
-use crate::flags::{clear_row, clear_rows, fill_row};
+use crate::flags::{cleared_flag_lists, cleared_flags, replace_reached_flags};
 use crate::scans::{any_marked, first_free};
 use crate::state::State;
 use crate::{BoardFault, Claim, Graph, NamedTree, WorkEntry};
@@ -89,8 +89,9 @@ fn state_of(states: &[State], place: usize) -> State
     }
 }
 
-/// Counts one import less for each of these modules, one of whose imports was delivered. A module without open imports becomes free.
-fn count_delivered(waiting: &mut [u32], states: &mut [State], importers: &[u32])
+/// Decrements the number of undelivered imports of each of these importers, once for each occurrence in the list. An importer all of
+/// whose imports are delivered becomes free.
+fn decrement_waiting(waiting: &mut [u32], states: &mut [State], importers: &[u32])
     requires size { length states.old ≡ length waiting.old }
     requires within { All (λ m. m < length waiting.old) importers.now }
     requires counted { (m : ℕ) → m < length waiting.old → times_in m importers.now ≤ slice_index waiting.old m }
@@ -107,7 +108,7 @@ fn count_delivered(waiting: &mut [u32], states: &mut [State], importers: &[u32])
     }
 }
 
-fn no_entries<E: WorkEntry>(alloc: Global, count: usize) -> Result<Vec<Option<E>>, AllocError>
+fn empty_entries<E: WorkEntry>(alloc: Global, count: usize) -> Result<Vec<Option<E>>, AllocError>
     ensures { IfOk result (λ entries. entries.items ≡ replicate count None) }
 {
     let mut entries = Vec::with_capacity(alloc, count)?;
@@ -118,7 +119,7 @@ fn no_entries<E: WorkEntry>(alloc: Global, count: usize) -> Result<Vec<Option<E>
 }
 
 /// For each module how many imports it has.
-fn counts_of(alloc: Global, graph: &Graph) -> Result<Vec<u32>, AllocError>
+fn import_counts(alloc: Global, graph: &Graph) -> Result<Vec<u32>, AllocError>
     ensures size { IfOk result (λ counts. length counts.items ≡ length graph.now.names) }
     ensures counts { IfOk result (λ counts. (m : ℕ) → m < length graph.now.names → slice_index counts.items m ≡ length (list_at graph.now.imports m)) }
 {
@@ -132,7 +133,7 @@ fn counts_of(alloc: Global, graph: &Graph) -> Result<Vec<u32>, AllocError>
 }
 
 /// The initial state of a module that has this number of imports.
-fn state_for(count: u32) -> State
+fn initial_module_state(count: u32) -> State
     ensures { result ≡ freed State.Waiting count }
 {
     if count == 0 {
@@ -143,12 +144,12 @@ fn state_for(count: u32) -> State
 }
 
 /// The initial states: a module without imports is free.
-fn states_of(alloc: Global, counts: &[u32]) -> Result<Vec<State>, AllocError>
+fn initial_states(alloc: Global, counts: &[u32]) -> Result<Vec<State>, AllocError>
     ensures { IfOk result (λ states. states.items ≡ map (freed State.Waiting) counts.now) }
 {
     let mut states = Vec::with_capacity(alloc, counts.len())?;
     for count in counts {
-        states.push(state_for(*count))?;
+        states.push(initial_module_state(*count))?;
     }
     Ok(states)
 }
@@ -165,7 +166,7 @@ fn free_all_claimed(states: &mut [State])
 }
 
 /// Appends the shared part of the entry, if there is one.
-fn push_shared_part<E: WorkEntry>(
+fn append_shared_part<E: WorkEntry>(
     parts: &mut Vec<Arc<E::Shared>>,
     entry: &Option<E>,
 ) -> Result<(), AllocError>
@@ -181,7 +182,7 @@ fn push_shared_part<E: WorkEntry>(
 }
 
 /// The shared parts of those modules of `order` whose flag is set.
-fn marked_shared_parts<E: WorkEntry>(
+fn flagged_shared_parts<E: WorkEntry>(
     alloc: Global,
     flags: &[bool],
     entries: &[Option<E>],
@@ -195,14 +196,14 @@ fn marked_shared_parts<E: WorkEntry>(
     for number in order {
         let place = *number as usize;
         if flags[place] {
-            push_shared_part(&mut parts, &entries[place])?;
+            append_shared_part(&mut parts, &entries[place])?;
         }
     }
     Ok(parts)
 }
 
 /// The shared parts of those modules of `order` whose flag is set. If no flag is set, it doesn't visit the modules one by one.
-fn shares<E: WorkEntry>(
+fn shared_parts<E: WorkEntry>(
     alloc: Global,
     flags: &[bool],
     entries: &[Option<E>],
@@ -215,7 +216,7 @@ fn shares<E: WorkEntry>(
     if !any_marked(flags, 0, flags.len()) {
         return Ok(Vec::new(alloc));
     }
-    marked_shared_parts(alloc, flags, entries, order)
+    flagged_shared_parts(alloc, flags, entries, order)
 }
 
 /// The flags of the module with this number.
@@ -248,11 +249,11 @@ impl<'g, T: NamedTree, E: WorkEntry> Board<'g, T, E> {
     {
         graph.invariants();
         let count = graph.modules() as usize;
-        let waiting = counts_of(alloc, graph)?;
-        let states = states_of(alloc, waiting.as_slice())?;
-        let reached = clear_rows(alloc, count)?;
-        let spare = clear_row(alloc, count)?;
-        let entries = no_entries(alloc, count)?;
+        let waiting = import_counts(alloc, graph)?;
+        let states = initial_states(alloc, waiting.as_slice())?;
+        let reached = cleared_flag_lists(alloc, count)?;
+        let spare = cleared_flags(alloc, count)?;
+        let entries = empty_entries(alloc, count)?;
         Ok(Board {
             graph,
             entries,
@@ -267,7 +268,7 @@ impl<'g, T: NamedTree, E: WorkEntry> Board<'g, T, E> {
 
     /// The invariant of a scheduler.
     pub fn invariants(&self)
-        // There is an entry, or its place, for each module of the graph.
+        // There is a slot for an entry for each module of the graph.
         ensures size { length self.now.entries ≡ length T.graph.names }
         // Each entry is the entry of its module, by name.
         ensures own { AreOf E.is_of T.graph.names self.now.entries }
@@ -295,7 +296,7 @@ impl<'g, T: NamedTree, E: WorkEntry> Board<'g, T, E> {
     /// Fails with `NotClaimed` for a module that isn't claimed, and with `Memory`.
     pub fn interfaces(&self, number: u32) -> Result<Vec<Arc<E::Shared>>, BoardFault>
         // They are the shared parts of exactly the modules that the module reaches, sorted by name.
-        ensures shares { IfOk result (λ parts. AreShares E.shared_of T.graph self.now number (map arc_value parts.items)) }
+        ensures shared_parts { IfOk result (λ parts. AreShares E.shared_of T.graph self.now number (map arc_value parts.items)) }
         // The module is claimed.
         ensures claimed { IfOk result (λ parts. is_claimed self.now number ≡ true) }
         // The error is `NotClaimed` for a module that isn't claimed, or else `Memory`.
@@ -306,7 +307,7 @@ impl<'g, T: NamedTree, E: WorkEntry> Board<'g, T, E> {
         }
         self.graph.invariants();
         let flags = flags_at(self.reached.as_slice(), number as usize);
-        Ok(shares(
+        Ok(shared_parts(
             *self.entries.allocator(),
             flags,
             self.entries.as_slice(),
@@ -325,19 +326,19 @@ impl<'g, T: NamedTree, E: WorkEntry> Board<'g, T, E> {
         self.graph.invariants();
         let claim = choose_claim(self.states.as_slice());
         if let Claim::Module { number } = claim {
-            self.hold(number);
+            self.claim_ready(number);
         }
         claim
     }
 
     /// Claims a ready module, and sets the flags of the modules that it reaches.
-    fn hold(&mut self, number: u32)
+    fn claim_ready(&mut self, number: u32)
         requires { IsReady T.graph.imports self.old number }
         ensures { self.new ≡ record self.old { claimed = slice_set self.old.claimed number true } }
     {
         self.graph.invariants();
         let place = number as usize;
-        fill_row(
+        replace_reached_flags(
             &mut self.reached,
             &mut self.spare,
             place,
@@ -347,7 +348,7 @@ impl<'g, T: NamedTree, E: WorkEntry> Board<'g, T, E> {
     }
 
     /// Why this entry can't be delivered; none if it can.
-    fn refusal(&self, number: u32, entry: &E) -> Option<BoardFault>
+    fn delivery_fault(&self, number: u32, entry: &E) -> Option<BoardFault>
         ensures fits_state { IsRefusal T.graph.names (E.name_of entry.now) self.now number result }
         ensures kept { E.is_of (E.name_of entry.now) entry.now }
         ensures within { result ≡ None → number < length T.graph.names }
@@ -379,20 +380,21 @@ impl<'g, T: NamedTree, E: WorkEntry> Board<'g, T, E> {
         let place = number as usize;
         self.entries[place] = Some(entry);
         self.states[place] = State::Delivered;
-        count_delivered(
+        decrement_waiting(
             self.waiting.as_mut_slice(),
             self.states.as_mut_slice(),
             self.graph.importers_of(number),
         );
     }
 
-    /// Delivers the entry of a claimed module. Otherwise returns the entry, and changes nothing.
-    /// Fails with `NotClaimed`, then with `Twice` for a delivered module, then with `WrongModule` for an entry of a module of another name.
+    /// Delivers the entry of a claimed module. After an error returns the entry, and changes nothing.
+    /// Fails with `NotClaimed` if the module isn't claimed, with `Twice` if it is delivered, and otherwise with `WrongModule` if the entry
+    /// is that of a module of another name.
     pub fn deliver(&mut self, number: u32, entry: E) -> Result<(), (BoardFault, E)>
         // The entry is stored, or returned with the first of these errors while nothing changes.
         ensures { IsDelivery T.graph.names (E.name_of entry) entry number self.old result self.new }
     {
-        match self.refusal(number, &entry) {
+        match self.delivery_fault(number, &entry) {
             Some(fault) => Err((fault, entry)),
             None => {
                 self.store(number, entry);
@@ -426,7 +428,7 @@ impl<'g, T: NamedTree, E: WorkEntry> Board<'g, T, E> {
     pub fn gather(self) -> Vec<Option<E>>
         // They are the entries of the scheduler.
         ensures entries { result.items ≡ self.entry.entries }
-        // There is one place for each module of the graph.
+        // There is a slot for each module of the graph.
         ensures size { length result.items ≡ length T.graph.names }
         // Each entry is the entry of its module, by name.
         ensures own { AreOf E.is_of T.graph.names result.items }

@@ -26,7 +26,7 @@ fn clear(flags: &mut [bool])
 }
 
 /// Sets the flags of the modules of `row` and of all modules that they reach, and clears the others.
-pub(crate) fn unite(flags: &mut [bool], reached: &[Vec<bool>], row: &[u32])
+pub(crate) fn set_reached_flags(flags: &mut [bool], reached: &[Vec<bool>], row: &[u32])
     requires width { (n : ℕ) → n < length reached.now → length (list_at (lists reached.now) n) ≡ length flags.old }
     requires size { length reached.now ≡ length flags.old }
     requires within { All (λ w. w < length flags.old) row.now }
@@ -40,7 +40,7 @@ pub(crate) fn unite(flags: &mut [bool], reached: &[Vec<bool>], row: &[u32])
 }
 
 /// Sets the flags at `place` to the modules of `row` and all modules that they reach. They are built in `spare`, which is then swapped in.
-pub(crate) fn fill_row(
+pub(crate) fn replace_reached_flags(
     reached: &mut Vec<Vec<bool>>,
     spare: &mut Vec<bool>,
     place: usize,
@@ -56,12 +56,12 @@ pub(crate) fn fill_row(
     ensures size { vec_len reached.new ≡ vec_len reached.old }
     ensures spare { vec_len spare.new ≡ vec_len spare.old }
 {
-    unite(spare.as_mut_slice(), reached.as_slice(), row);
+    set_reached_flags(spare.as_mut_slice(), reached.as_slice(), row);
     mem::swap(spare, &mut reached[place]);
 }
 
 /// As many cleared flags as `count`.
-pub(crate) fn clear_row(alloc: Global, count: usize) -> Result<Vec<bool>, AllocError>
+pub(crate) fn cleared_flags(alloc: Global, count: usize) -> Result<Vec<bool>, AllocError>
     ensures { IfOk result (λ flags. flags.items ≡ replicate count false) }
 {
     let flags = vec![in alloc; false; count]?;
@@ -69,12 +69,12 @@ pub(crate) fn clear_row(alloc: Global, count: usize) -> Result<Vec<bool>, AllocE
 }
 
 /// As many lists of `count` cleared flags as `count`.
-pub(crate) fn clear_rows(alloc: Global, count: usize) -> Result<Vec<Vec<bool>>, AllocError>
+pub(crate) fn cleared_flag_lists(alloc: Global, count: usize) -> Result<Vec<Vec<bool>>, AllocError>
     ensures { IfOk result (λ rows. lists rows.items ≡ replicate count (replicate count false)) }
 {
     let mut rows = Vec::with_capacity(alloc, count)?;
     for _ in 0..count {
-        rows.push(clear_row(alloc, count)?)?;
+        rows.push(cleared_flags(alloc, count)?)?;
     }
     Ok(rows)
 }

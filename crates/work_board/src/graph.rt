@@ -8,10 +8,10 @@ use std::alloc::{AllocError, Global};
 use std::marker::Model;
 
 /// The largest number of modules of a graph.
-const MOST_MODULES: usize = 4096;
+const MAX_MODULES: usize = 4096;
 
 /// The largest number of imports of a module, repeated ones counted.
-const MOST_IMPORTS: usize = 65536;
+const MAX_IMPORTS: usize = 65536;
 
 /// The modules of a tree by number: their names, what each imports, and what imports each. A graph has at most 4,096 modules, each with at
 /// most 65,536 imports, which may repeat.
@@ -53,7 +53,7 @@ fn empty_lists(alloc: Global, count: usize) -> Result<Vec<Vec<u32>>, AllocError>
 }
 
 /// Appends a number to the list at this index.
-fn push_at(rows: &mut Vec<Vec<u32>>, place: usize, by: u32) -> Result<(), AllocError>
+fn append_at(rows: &mut Vec<Vec<u32>>, place: usize, by: u32) -> Result<(), AllocError>
     requires { place < vec_len rows.old }
     ensures size { OnOk result (length (lists rows.new.items) ≡ length (lists rows.old.items)) }
     ensures rows { OnOk result (lists rows.new.items ≡ slice_set (lists rows.old.items) place (list_at (lists rows.old.items) place ++ by ∷ [])) }
@@ -71,7 +71,7 @@ fn add_importer(rows: &mut Vec<Vec<u32>>, row: &[u32], by: u32) -> Result<(), Al
     ensures within { OnOk result ((k : ℕ) → by < k → ((n : ℕ) → All (λ w. w < k) (list_at (lists rows.old.items) n)) → (n : ℕ) → All (λ w. w < k) (list_at (lists rows.new.items) n)) }
 {
     for imported in row {
-        push_at(rows, *imported as usize, by)?;
+        append_at(rows, *imported as usize, by)?;
     }
     Ok(())
 }
@@ -106,12 +106,12 @@ fn all_below(row: &[u32], count: usize) -> bool
     row.iter().all(|number| (*number as usize) < count)
 }
 
-/// Whether each list has at most `MOST_IMPORTS` numbers, all of them less than the count.
-fn are_rows(rows: &[Vec<u32>], count: usize) -> bool
+/// Whether each list has at most `MAX_IMPORTS` numbers, all of them less than the count.
+fn are_valid_imports(rows: &[Vec<u32>], count: usize) -> bool
     ensures { IsTrue result ↔ AreRows (lists rows.now) count }
 {
     for row in rows {
-        if row.len() > MOST_IMPORTS || !all_below(row.as_slice(), count) {
+        if row.len() > MAX_IMPORTS || !all_below(row.as_slice(), count) {
             return false;
         }
     }
@@ -152,7 +152,7 @@ impl Graph {
         ensures { IsTrue result ↔ IsGraph (record { names = map string_bytes names.now; imports = lists imports.now }) }
     {
         let count = names.len();
-        count <= MOST_MODULES && imports.len() == count && are_rows(imports, count)
+        count <= MAX_MODULES && imports.len() == count && are_valid_imports(imports, count)
     }
 
     /// The graph of these names and imports, both by module number. Fails if an allocation fails.

@@ -1,4 +1,4 @@
-//! Fast scans: over blocks of modules without a free one, which are most in a large tree, and over flags none of which is set.
+//! Fast scans. Most blocks of modules in a large tree have no free module, and often no flag of a list is set.
 ghost use Rattle.std.specs.Prelude.{◌≡◌, ◌<◌, ◌≤◌, ◌↔◌, ℕ, false, length, IsTrue};
 ghost use Rattle.work_board.specs.Marks.{marked};
 ghost use Rattle.work_board.specs.Keeping.{state_at};
@@ -42,7 +42,7 @@ fn any_free(states: &[State], from: usize, to: usize) -> bool
     found
 }
 
-/// The number of the first module after the leading blocks without a free module.
+/// The number of modules in the leading blocks that have no free module.
 fn skip_blocks(states: &[State]) -> usize
     ensures within { result ≤ length states.now }
     ensures passed { (k : ℕ) → k < result → state_at states.now k ≡ State.Free → ⊥ }

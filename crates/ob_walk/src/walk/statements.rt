@@ -67,7 +67,7 @@ fn walk_stmt(out: &mut Items, stmt: &Stmt)
             out.emit(Item::Word);
             walk_branch(out, first);
             walk_branches(out, rest);
-            walk_otherwise(out, otherwise);
+            walk_else(out, otherwise);
             out.emit(Item::Word);
         }
         Stmt::Case(chosen, first, rest) => {
@@ -97,7 +97,7 @@ fn walk_stmt(out: &mut Items, stmt: &Stmt)
 /// Emits ELSE and its statements.
 #[cycle(statements)]
 #[tactic(auto, using(crate::proofs::StatementWalks::statement_items))]
-fn walk_otherwise(out: &mut Items, otherwise: &Option<Box<StatementSequence>>)
+fn walk_else(out: &mut Items, otherwise: &Option<Box<StatementSequence>>)
     ensures { out.new ≡ with_items out.old (items_of (if_present (λ b. word kinds.Else ++ block_events b.value) otherwise.now)) }
 {
     match otherwise {

@@ -7,18 +7,18 @@ ghost use Rattle.table_rules.specs.Statements.{qualident_rows};
 ghost use Rattle.table_rules.specs.Types.{base_of, identdef_rows, parameter_rows, in_record, name_part, part_row, record_row, type_name_rows};
 ghost use Rattle.module_table.specs.Parts.{both, if_present, token};
 
-use crate::walk::uses::{member_at, walk_qualident};
+use crate::walk::uses::{append_qualident, member_at};
 use module_table::builder::{Context, TableBuilder};
 use module_table::{Declared, Part, Record as RecordRow, TypeName, TypePart, Used};
 use ob_tree::name::{Identdef, Qualident};
 
-/// Appends a declared identifier, which an asterisk exports.
+/// Appends a declared identifier, with whether it has the export mark `*`.
 #[tactic(auto, using(crate::proofs::TypeLayers::names_made))]
-pub fn walk_identdef(builder: &mut TableBuilder, context: Context, name: Identdef)
+pub fn append_identdef(builder: &mut TableBuilder, context: Context, name: Identdef)
     requires { builder.old.number + identdef_width name < 2 ^ 32 }
-    // Exactly the entries of this production, unless an allocation fails.
+    // Exactly the entry of the identifier is appended, unless an allocation fails.
     ensures stage { PerformsStep (after (identdef_rows name) context) builder.old builder.new }
-    // The builder is advanced by its tokens.
+    // The identifier is consumed, with its export mark, if it has one.
     ensures number { builder.new.number ≡ builder.old.number + identdef_width name }
 {
     let number = builder.number;
@@ -36,11 +36,11 @@ pub fn walk_identdef(builder: &mut TableBuilder, context: Context, name: Identde
 /// Appends the name of a parameter, which is never exported.
 #[inline(always)]
 #[tactic(auto, using(crate::proofs::TypeLayers::names_made))]
-pub fn walk_parameter(builder: &mut TableBuilder, context: Context)
+pub fn append_parameter(builder: &mut TableBuilder, context: Context)
     requires { builder.old.number + 1 < 2 ^ 32 }
-    // Exactly these entries are appended, unless an allocation fails.
+    // Exactly the entry of the parameter is appended, unless an allocation fails.
     ensures stage { PerformsStep (after parameter_rows context) builder.old builder.new }
-    // The builder is advanced by these tokens.
+    // One token is consumed.
     ensures number { builder.new.number ≡ builder.old.number + 1 }
 {
     let number = builder.number;
@@ -52,10 +52,10 @@ pub fn walk_parameter(builder: &mut TableBuilder, context: Context)
     builder.advance()
 }
 
-/// Appends a type constructor, which begins with the next token. The builder is not advanced.
+/// Appends a component of a type expression that begins with the next token. The builder is not advanced.
 #[tactic(auto, using(crate::proofs::TypeLayers::names_made))]
-pub fn add_part_row(builder: &mut TableBuilder, context: Context, part: Part)
-    // Exactly these entries are appended, unless an allocation fails.
+pub fn add_type_component(builder: &mut TableBuilder, context: Context, part: Part)
+    // Exactly the entry of the component is appended, unless an allocation fails.
     ensures stage { PerformsStep (λ s. added (part_row part context s.number) s) builder.old builder.new }
     // The builder is not advanced.
     ensures number { builder.new.number ≡ builder.old.number }
@@ -68,11 +68,11 @@ pub fn add_part_row(builder: &mut TableBuilder, context: Context, part: Part)
     })
 }
 
-/// Appends a name as the last part of a type, which begins with the next token. The builder is not advanced.
+/// Appends the name that ends a type expression, as a component that begins with the next token. The builder is not advanced.
 #[tactic(auto, using(crate::proofs::TypeLayers::names_made))]
 pub fn add_type_name(builder: &mut TableBuilder, context: Context, name: Qualident)
     requires { builder.old.number + name_width name.member < 2 ^ 32 }
-    // Exactly these entries are appended, unless an allocation fails.
+    // Exactly the entry of the name is appended, unless an allocation fails.
     ensures stage { PerformsStep (λ s. added (name_part name context s.number) s) builder.old builder.new }
     // The builder is not advanced.
     ensures number { builder.new.number ≡ builder.old.number }
@@ -89,11 +89,11 @@ pub fn add_type_name(builder: &mut TableBuilder, context: Context, name: Qualide
 /// Appends a name as a type. An unqualified name directly after POINTER TO may be declared later: it is the target of a pointer.
 #[inline(always)]
 #[tactic(auto, using(crate::proofs::TypeLayers::names_made))]
-pub fn walk_type_name(builder: &mut TableBuilder, context: Context, name: Qualident)
+pub fn append_type_name(builder: &mut TableBuilder, context: Context, name: Qualident)
     requires { builder.old.number + name_width name.member < 2 ^ 32 }
-    // Exactly these entries are appended, unless an allocation fails.
+    // Exactly the entries of the name are appended, unless an allocation fails.
     ensures stage { PerformsStep (after (type_name_rows name) context) builder.old builder.new }
-    // The builder is advanced by these tokens.
+    // The tokens of the name are consumed.
     ensures number { builder.new.number ≡ builder.old.number + name_width name.member }
 {
     add_type_name(builder, context, name);
@@ -119,8 +119,8 @@ pub fn walk_type_name(builder: &mut TableBuilder, context: Context, name: Qualid
     }
 }
 
-/// The context of a type, which is the target of a pointer or not.
-pub fn type_from(context: Context, is_target: bool) -> Context
+/// The context of a type expression, with whether POINTER TO directly precedes it.
+pub fn type_context(context: Context, is_target: bool) -> Context
     ensures { result ≡ record { block = context.block; decl_group = context.decl_group; of_record = context.of_record; is_target = is_target } }
 {
     Context {
@@ -129,7 +129,7 @@ pub fn type_from(context: Context, is_target: bool) -> Context
     }
 }
 
-/// The name of the base of the record whose RECORD has this number.
+/// The name of the base of the record whose RECORD keyword has this token number.
 #[inline(always)]
 #[tactic(auto, using(module_table::proofs::Steps::steps))]
 fn base_name(base: Option<Qualident>, number: u32) -> Option<TypeName>
@@ -151,7 +151,7 @@ fn base_name(base: Option<Qualident>, number: u32) -> Option<TypeName>
 #[tactic(auto, using(crate::proofs::TypeLayers::names_made))]
 pub fn add_record(builder: &mut TableBuilder, context: Context, base: Option<Qualident>)
     requires { builder.old.number + 1 + base_width base < 2 ^ 32 }
-    // Exactly these entries are appended, unless an allocation fails.
+    // Exactly the entry of the record is appended, unless an allocation fails.
     ensures stage { PerformsStep (λ s. added (record_row base context s.number) s) builder.old builder.new }
     // The builder is not advanced.
     ensures number { builder.new.number ≡ builder.old.number }
@@ -165,7 +165,7 @@ pub fn add_record(builder: &mut TableBuilder, context: Context, base: Option<Qua
     })
 }
 
-/// The context of the fields of the record whose RECORD has this number.
+/// The context of the fields of the record whose RECORD keyword has this token number.
 pub fn record_context(context: Context, number: u32) -> Context
     ensures { result ≡ in_record context number }
 {
@@ -179,18 +179,18 @@ pub fn record_context(context: Context, number: u32) -> Context
 /// Appends the name of the base in parentheses, if the record has one.
 #[inline(always)]
 #[tactic(auto, using(crate::proofs::TypeLayers::names_made))]
-pub fn walk_base(builder: &mut TableBuilder, context: Context, base: Option<Qualident>)
+pub fn append_base(builder: &mut TableBuilder, context: Context, base: Option<Qualident>)
     requires { builder.old.number + base_width base < 2 ^ 32 }
-    // Exactly these entries are appended, unless an allocation fails.
+    // Exactly the entry of the name is appended, if there is a base, unless an allocation fails.
     ensures stage { PerformsStep (after (if_present (λ q. both token (both (qualident_rows q) token)) base) context) builder.old builder.new }
-    // The builder is advanced by these tokens.
+    // The tokens of the base and its parentheses are consumed, if there is a base.
     ensures number { builder.new.number ≡ builder.old.number + base_width base }
 {
     match base {
         None => {}
         Some(base) => {
             builder.advance();
-            walk_qualident(builder, context, base);
+            append_qualident(builder, context, base);
             builder.advance();
         }
     }

@@ -1,4 +1,4 @@
-//! The entries of names that are resolved.
+//! The entries of names that the scope rule looks up.
 
 ghost use Rattle.std.specs.Prelude.{◌≡◌, ◌+◌, ◌<◌, ◌≤◌, ◌^◌};
 ghost use Rattle.ob_tree.specs.Widths.{name_width};
@@ -26,9 +26,9 @@ pub(crate) fn member_at(member: Option<u32>, head: u32) -> Option<u32>
 pub fn append_use(builder: &mut TableBuilder, context: Context, member: Option<u32>)
     requires advanced { builder.old.number + 1 < 2 ^ 32 }
     requires member { builder.old.number + name_width member ≤ 2 ^ 32 }
-    // Exactly these entries are appended, unless an allocation fails.
+    // Exactly the entry of the use is appended, unless an allocation fails.
     ensures stage { PerformsStep (after (used member) context) builder.old builder.new }
-    // The builder is advanced by these tokens.
+    // One token is consumed.
     ensures number { builder.new.number ≡ builder.old.number + 1 }
 {
     let number = builder.number;
@@ -44,11 +44,11 @@ pub fn append_use(builder: &mut TableBuilder, context: Context, member: Option<u
 
 /// Appends a use of a qualified identifier.
 #[tactic(auto, using(crate::proofs::StatementLayers::labels_made))]
-pub fn walk_qualident(builder: &mut TableBuilder, context: Context, name: Qualident)
+pub fn append_qualident(builder: &mut TableBuilder, context: Context, name: Qualident)
     requires { builder.old.number + name_width name.member < 2 ^ 32 }
-    // Exactly these entries are appended, unless an allocation fails.
+    // Exactly the entry of the use is appended, unless an allocation fails.
     ensures stage { PerformsStep (after (qualident_rows name) context) builder.old builder.new }
-    // The builder is advanced by these tokens.
+    // The tokens of the qualified identifier are consumed.
     ensures number { builder.new.number ≡ builder.old.number + name_width name.member }
 {
     append_use(builder, context, name.member);
@@ -63,11 +63,11 @@ pub fn walk_qualident(builder: &mut TableBuilder, context: Context, name: Qualid
 
 /// Appends the variable of a FOR statement, which is written.
 #[tactic(auto, using(crate::proofs::StatementLayers::labels_made))]
-pub fn walk_for_variable(builder: &mut TableBuilder, context: Context)
+pub fn append_for_variable(builder: &mut TableBuilder, context: Context)
     requires { builder.old.number + 1 < 2 ^ 32 }
-    // Exactly these entries are appended, unless an allocation fails.
+    // Exactly the two entries of the variable are appended, unless an allocation fails.
     ensures stage { PerformsStep (after variable_rows context) builder.old builder.new }
-    // The builder is advanced by these tokens.
+    // One token is consumed.
     ensures number { builder.new.number ≡ builder.old.number + 1 }
 {
     let head = builder.number;

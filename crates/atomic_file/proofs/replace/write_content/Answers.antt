@@ -1,4 +1,4 @@
--- What the call returned is the value of each arm.
+-- The result of the call is the value of each match arm.
 use Rattle.atomic_file.proofs.replace.write_content.Goals as goal
 
 pub returns-in-Ok-clause-returned : goal.returns-in-Ok-clause-returned

@@ -10,7 +10,7 @@ Appends-then (Some xs) None c x y p q = absurd p
 Appends-then (Some xs) (Some ys) None x y p q = absurd q
 Appends-then (Some xs) (Some ys) (Some zs) x y p q = rw (q, p) (append_assoc xs x y)
 
--- what is left after k bytes more
+-- what is left after k more bytes
 split_more : (bytes done rest : List ℕ) (k : ℕ) → bytes ≡ done ++ rest → bytes ≡ (done ++ take k rest) ++ take (length rest - k) (drop k rest)
 split_more bytes done rest k e =
     rw (take_all (length rest - k) (drop k rest) (omega (arith, length-drop k rest)), append_assoc, take-append-drop k rest) e

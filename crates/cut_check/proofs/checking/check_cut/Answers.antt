@@ -2,7 +2,7 @@ use Rattle.std.proofs.Common.{◌≡◌, ◌<◌, ◌≤◌, ◌∙◌, length, 
 use Rattle.std.proofs.lemmas.Bool.{both_ways, false≢true}
 use Rattle.cut_net.specs.Pins.{IsFlowWithPins}
 use Rattle.cut_net.specs.Lines.{removed_by, flow_by}
-use Rattle.cut_check.specs.Matched.{AreMatched}
+use Rattle.cut_check.specs.MatchedLines.{AreMatched}
 use Rattle.cut_check.specs.Verdicts.{HasCut, IsCutVerdict}
 use Rattle.cut_check.proofs.Parts.{AllMatched, read_modules, are_weights, are_weights_back, by_flow, flows, from_chain, if_ok, marks, stray_at, to_chain}
 use Rattle.cut_check.proofs.checking.check_cut.Goals as goal
@@ -57,8 +57,8 @@ returns-then-branch-clause-exact c =
       to_chain net printed c.deref-5.result.now p c.deref-6.result.now (c.deref-6.ensures.value ∙ c.in_ok-allowed.ensures) c.args.from c.args.to (c.in_ok-has_chain.ensures.0 c.if-branch.true),
     )
 
-pub returns-then-not-has_weights-clause-exact : goal.returns-then-not-has_weights-clause-exact
-returns-then-not-has_weights-clause-exact c =
+pub returns-then-not-has_right_weights-clause-exact : goal.returns-then-not-has_right_weights-clause-exact
+returns-then-not-has_right_weights-clause-exact c =
     let net = c.args.net.now in
     let printed = c.args.cut.now.imports.items in
     let printed_count = c.in_ok-printed.printed.count in
@@ -80,7 +80,7 @@ returns-then-not-has_weights-clause-exact c =
         no_chain = λ chain. both_ways c.in_ok-has_chain.field-0 c.if-branch.false
             (c.in_ok-has_chain.ensures.1 (from_chain net printed c.deref-5.result.now p c.deref-6.result.now (c.deref-6.ensures.value ∙ c.in_ok-allowed.ensures) c.args.from c.args.to chain));
       },
-      λ h. false≢true ((c.if-not-has_weights.ensures x marked).1 (weighs h)),
+      λ h. false≢true ((c.if-not-has_right_weights.ensures x marked).1 (weighs h)),
     )
 
 pub returns-clause-exact : goal.returns-clause-exact
@@ -102,7 +102,7 @@ returns-clause-exact c =
     let f = subst (AllMatched net flow) (sym c.deref-8.ensures.value) all_flow in
     let x = removed_by printed in
     let marked = marks net printed c.deref-7.result.now w in
-    let weighs = are_weights net printed c.deref-7.result.now w total ((c.if-not-has_weights.ensures x marked).0 refl) in
+    let weighs = are_weights net printed c.deref-7.result.now w total ((c.if-not-has_right_weights.ensures x marked).0 refl) in
     let cut : HasCut net c.args.from c.args.to printed flow = record {
       read = record { printed_in_order = all.in_order; flow_in_order = all_flow.in_order };
       no_chain = λ chain. both_ways c.in_ok-has_chain.field-0 c.if-branch.false

@@ -7,8 +7,8 @@ use Rattle.cut_check.specs.Reaching.{AreArcs}
 use Rattle.cut_check.proofs.ChainPaths.{arcs_between, chain_from_path, marked_by_chain}
 use Rattle.cut_check.proofs.checking.has_chain.Goals as goal
 
-pub marks-requires-clause-between : goal.marks-requires-clause-between
-marks-requires-clause-between c =
+pub flag_reachable-requires-clause-between : goal.flag_reachable-requires-clause-between
+flag_reachable-requires-clause-between c =
     rw c.deref.ensures.value (arcs_between c.imports.result.now c.args.allowed.now c.nodes.result c.in_ok-arcs.arcs.items c.in_ok-arcs.ensures
     (rw (c.imports.ensures, c.nodes.ensures) c.invariants.ensures.network.between))
 

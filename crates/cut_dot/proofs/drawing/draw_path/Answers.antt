@@ -14,4 +14,4 @@ returns-clause-run g c =
     let net = c.args.net.now in
     let path = c.args.path.now in
     let imports : c.deref.result.now ≡ path_imports net path = c.deref.ensures.value ∙ c.in-Ok.ensures ∙ ap (λ (v : List Priced). filter (is_step path) v) c.imports.ensures in
-    rw (c.nothing.ensures.removed, c.nothing.ensures.flow, imports) at c.draw_imports.ensures.run
+    rw (c.empty_cut.ensures.removed, c.empty_cut.ensures.flow, imports) at c.draw_imports.ensures.run

@@ -30,4 +30,4 @@ returns-clause-same c p =
     let past = c.loop-next-test.false in
     let from_one = c.loop-next.invariant.from_one in
     let behind : length path ≤ k - 1 + 1 = omega arith in
-    subst (λ (v : List Edge). Contains c.sort_all.new.edges.items p ↔ Contains v p) (all_steps path c.loop-next.found.items (k - 1) behind c.loop-next.invariant.so_far) (c.sort_all.ensures.same p)
+    subst (λ (v : List Edge). Contains c.sort_and_dedup.new.edges.items p ↔ Contains v p) (all_steps path c.loop-next.found.items (k - 1) behind c.loop-next.invariant.so_far) (c.sort_and_dedup.ensures.same p)

@@ -6,8 +6,8 @@ use Rattle.cut_net.specs.WellFormed.{AreBetween}
 use Rattle.cut_net.proofs.Networks.{ends_once, few_moved, few_moved_names, net_is}
 use Rattle.cut_net.proofs.numbering.sorted_lists.Goals as goal
 
-pub numbered-requires-clause-few : goal.numbered-requires-clause-few
-numbered-requires-clause-few c =
+pub numbered_imports-requires-clause-few : goal.numbered_imports-requires-clause-few
+numbered_imports-requires-clause-few c =
     let same = rw c.as_slice.ensures.keys at c.in_ok-names.ensures.same in
     rw c.as_slice-2.ensures.value (few_moved_names _ _ same c.requires.built.1.few_names)
 

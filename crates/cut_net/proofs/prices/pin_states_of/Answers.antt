@@ -11,4 +11,4 @@ loop-number-preserved c claim same =
     c.in_ok-push.ensures.items
     ∙ mapped_next (λ i. changed_state (pin_state_of c.args.net.now i) (claim i)) c.args.net.now.imports c.loop-number.pin_states.items c.loop-number.number missing_item c.pin_state_after.result
     (c.loop-number.invariant claim same) lt
-    (stood c.args.net.now claim c.imports-imports.result.now c.pins.result.now c.args.changes.now c.loop-number.number c.line_of-pin.result c.pin_state_after.result c.imports-imports.ensures c.pins.ensures c.line_of-pin.ensures changes c.pin_state_after.ensures)
+    (stood c.args.net.now claim c.imports-imports.result.now c.pins.result.now c.args.changes.now c.loop-number.number c.find_import-pin.result c.pin_state_after.result c.imports-imports.ensures c.pins.ensures c.find_import-pin.ensures changes c.pin_state_after.ensures)

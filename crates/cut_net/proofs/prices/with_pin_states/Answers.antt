@@ -24,8 +24,8 @@ with_pins-requires-clause-pins c =
     (c.in_ok-names.ensures ∙ ap texts c.as_slice.ensures.value ∙ ap (λ (n : Network). n.names) c.net.view_is) c.imports.ensures c.imports-2.ensures c.in_ok-imports.ensures c.in_ok-pins.ensures in
     subst ArePins (sym is) (keeps_pins net pin_state c.invariants.ensures.network (let light = c.requires.light in omega arith))
 
-pub imports_as-requires : goal.imports_as-requires
-imports_as-requires c = grind (arith, common_steps)
+pub imports_with_states-requires : goal.imports_with_states-requires
+imports_with_states-requires c = grind (arith, common_steps)
 
-pub pins_as-requires : goal.pins_as-requires
-pins_as-requires c = grind (arith, common_steps)
+pub pins_of_states-requires : goal.pins_of_states-requires
+pins_of_states-requires c = grind (arith, common_steps)

@@ -1,10 +1,10 @@
--- The part is a network, pins and all.
+-- The subnetwork satisfies the invariant of networks, also for its pins.
 use Rattle.std.proofs.Common.{ℕ, Bool, List, subst}
 use Rattle.cut_net.specs.declared.priced.Priced.{Priced}
 use Rattle.cut_net.specs.Network.{Network, texts}
 use Rattle.cut_net.specs.WellFormed.{IsNetwork}
 use Rattle.cut_net.specs.Pins.{ArePins}
-use Rattle.cut_part.specs.Marks.{with_ends, IsNumbering, IsPart}
+use Rattle.cut_part.specs.Marks.{with_ends, IsNumbering, IsSubnetwork}
 use Rattle.cut_part.proofs.Parts.{is_network, is_part, numbers_low}
 use Rattle.cut_part.proofs.PinnedParts.{are_pins}
 use Rattle.cut_part.proofs.part.between.Goals as goal
@@ -13,11 +13,11 @@ use Rattle.cut_part.proofs.part.between.Goals.{In_ok-names, In_ok-numbers}
 abbrev network_of : List (List ℕ) → List Priced → List Priced → Network
 network_of names imports pins = record { names = names; imports = imports; pins = pins }
 
--- what the names and the lines of the part make
+-- what the names and the lines of the subnetwork make
 record IsMade (net : Network) (a b : ℕ) (marks : List Bool) (numbers new_numbers : List ℕ) (made : Network) : Type 0 where
   network : IsNetwork made
   pins : ArePins made
-  part : IsPart net a b marks numbers new_numbers made
+  part : IsSubnetwork net a b marks numbers new_numbers made
 
 renumbering_with_ends : (c : In_ok-numbers) → IsNumbering (with_ends c.in_ok-marks.marks.items c.args.from c.args.to) c.in_ok-numbers.numbers.items c.in_ok-numbers.new_numbers.items
 renumbering_with_ends c = subst (λ (v : List Bool). IsNumbering (with_ends v c.args.from c.args.to) c.in_ok-numbers.numbers.items c.in_ok-numbers.new_numbers.items) c.deref.ensures.value c.in_ok-numbers.ensures

@@ -6,14 +6,14 @@ use Rattle.cut_part.proofs.Adding.{from_in, to_in}
 use Rattle.std.proofs.lemmas.Grind.{common_steps}
 use Rattle.cut_part.proofs.part.imports_in_net.Goals as goal
 
-pub line_in_net-requires-clause-from : goal.line_in_net-requires-clause-from
-line_in_net-requires-clause-from c = from_in c.args.lines.now (length c.args.numbers.now) c.loop-line.line-index c.requires c.loop-line-test.true
+pub import_in_net-requires-clause-from : goal.import_in_net-requires-clause-from
+import_in_net-requires-clause-from c = from_in c.args.lines.now (length c.args.numbers.now) c.loop-line.line-index c.requires c.loop-line-test.true
 
-pub line_in_net-requires-clause-to : goal.line_in_net-requires-clause-to
-line_in_net-requires-clause-to c = to_in c.args.lines.now (length c.args.numbers.now) c.loop-line.line-index c.requires c.loop-line-test.true
+pub import_in_net-requires-clause-to : goal.import_in_net-requires-clause-to
+import_in_net-requires-clause-to c = to_in c.args.lines.now (length c.args.numbers.now) c.loop-line.line-index c.requires c.loop-line-test.true
 
 pub loop-line-preserved : goal.loop-line-preserved
-loop-line-preserved c = rw (c.in_ok-push.ensures.items, c.line_in_net.ensures, c.loop-line.invariant)
+loop-line-preserved c = rw (c.in_ok-push.ensures.items, c.import_in_net.ensures, c.loop-line.invariant)
     (sym (map_more (renumbered (λ m. get_or c.args.numbers.now m 0)) c.args.lines.now c.loop-line.line-index missing_item c.loop-line-test.true))
 
 pub returns : goal.returns

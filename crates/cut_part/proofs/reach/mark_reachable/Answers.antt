@@ -23,11 +23,11 @@ loop-importer-init c =
       spreading = rw (placed, c.in_ok-marks.ensures.items_if_clones_equal (λ y same. same)) (spreading_starts c.args.imports.now c.args.start c.args.modules c.requires.start);
     }
 
-pub follow-requires-clause-between : goal.follow-requires-clause-between
-follow-requires-clause-between c = subst (AreBetween c.args.imports.now) (sym c.loop-importer.invariant.size) c.requires.between
+pub flag_imported-requires-clause-between : goal.flag_imported-requires-clause-between
+flag_imported-requires-clause-between c = subst (AreBetween c.args.imports.now) (sym c.loop-importer.invariant.size) c.requires.between
 
-pub follow-requires-clause-linked : goal.follow-requires-clause-linked
-follow-requires-clause-linked c =
+pub flag_imported-requires-clause-linked : goal.flag_imported-requires-clause-linked
+flag_imported-requires-clause-linked c =
     let imports = c.args.imports.now in
     let t = c.in_ok-linked.linked in
     let linked = c.in_ok-linked.ensures (λ k. (import_in imports k).from) (λ k x list l here gives.
@@ -35,8 +35,8 @@ follow-requires-clause-linked c =
     is ∙ ap (λ (i : Priced). i.from) (sym (get_or_default imports k missing_item x l ∙ here))) in
     subst (λ (n : ℕ). AreImportLists imports n t.last.items t.before.items (length imports)) (sym c.loop-importer.invariant.size) linked
 
-pub follow-requires-clause-importer : goal.follow-requires-clause-importer
-follow-requires-clause-importer c =
+pub flag_imported-requires-clause-importer : goal.flag_imported-requires-clause-importer
+flag_imported-requires-clause-importer c =
     let popped : c.loop-importer.waiting.items ≡ c.pop.new.self.items ++ c.in-Some.importer ∷ [] = rw c.in-Some.is at c.pop.ensures.items in
     let ok = c.loop-importer.marks.ok.0 in
     let within = last_low c.loop-importer.marks.items c.loop-importer.waiting.items _ _ c.loop-importer.invariant.spreading.spread.waits popped in

@@ -9,5 +9,5 @@ returns-in-Some-clause-needed c =
 
 pub returns-clause-needed : goal.returns-clause-needed
 returns-clause-needed c =
-    are_needed c.args.net.now c.invariants.ensures.network c.invariants.ensures.pins c.args.from.now c.args.to.now c.in_ok-from.from c.in_ok-to.to (answer_claim c.as_answer.result)
-    c.in_ok-from.ensures c.in_ok-to.ensures c.as_answer.ensures.answer
+    are_needed c.args.net.now c.invariants.ensures.network c.invariants.ensures.pins c.args.from.now c.args.to.now c.in_ok-from.from c.in_ok-to.to (answer_claim c.answer_of_cut.result)
+    c.in_ok-from.ensures c.in_ok-to.ensures c.answer_of_cut.ensures.answer

@@ -3,7 +3,7 @@ use Rattle.std.specs.Prelude.{filter, map}
 use Rattle.residual_graph.specs.Flows.{DifferInFlowOnly, IsBalanced}
 use Rattle.residual_graph.specs.Graphs.{Graph, AreReached}
 use Rattle.cut_solve.specs.MaximumFlow.{IsMaximumFlow}
-use Rattle.cut_solve.specs.Lines.{empty_of, has_flow, flow_line}
+use Rattle.cut_solve.specs.Lines.{arc_without_flow, has_flow, flow_line}
 use Rattle.cut_solve.proofs.Answering.{greatest_for}
 use Rattle.cut_solve.proofs.Flowing.{empty_balanced, same_imports}
 use Rattle.cut_plain.proofs.solver.solve.Goals as goal
@@ -17,7 +17,7 @@ pub minimum_cut-requires-clause-greatest : goal.minimum_cut-requires-clause-grea
 minimum_cut-requires-clause-greatest c =
     let net = c.args.net.now in
     let arcs = c.maximum_flow.new.graph.arcs in
-    let graph_is : c.in_ok-graph.graph.arcs ≡ map empty_of net.imports = ap (λ (g : Graph). g.arcs) c.in_ok-graph.ensures in
+    let graph_is : c.in_ok-graph.graph.arcs ≡ map arc_without_flow net.imports = ap (λ (g : Graph). g.arcs) c.in_ok-graph.ensures in
     let same = same_imports net.imports arcs (subst (λ v. DifferInFlowOnly v arcs) graph_is c.in_ok-source_side.ensures.same) in
     let nodes : c.maximum_flow.new.graph.nodes ≡ length net.names = c.in_ok-source_side.ensures.nodes ∙ ap (λ (g : Graph). g.nodes) c.in_ok-graph.ensures in
     let source_side = c.in_ok-source_side.source_side.reached_flags.items in

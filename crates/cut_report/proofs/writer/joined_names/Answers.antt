@@ -6,7 +6,7 @@ use Rattle.cut_report.proofs.writer.joined_names.Goals as goal
 
 pub loop-k-preserved : goal.loop-k-preserved
 loop-k-preserved c =
-    c.in_ok-push_word.ensures ∙ rw (c.loop-k.invariant, c.name.ensures) (sym (words_next (name_of c.args.net.now) c.args.modules.now c.loop-k.k 0 c.loop-k-test.true))
+    c.in_ok-append_word.ensures ∙ rw (c.loop-k.invariant, c.name.ensures) (sym (words_next (name_of c.args.net.now) c.args.modules.now c.loop-k.k 0 c.loop-k-test.true))
 
 pub returns : goal.returns
 returns c = grind (arith, common_steps)

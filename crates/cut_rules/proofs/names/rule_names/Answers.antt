@@ -1,4 +1,4 @@
--- Piece after piece.
+-- The names after each piece.
 use Rattle.std.proofs.Common.{◌+◌, ◌++◌, ◌∷◌, [], ℕ, eqb, length, refl, sym, subst, arith, rules, tests}
 use Rattle.std.proofs.lemmas.List.{length_push}
 use Rattle.std.proofs.lemmas.Option.{slice_get_read}
@@ -19,16 +19,16 @@ loop-piece-init c = record {
   noted = subst (AreNotedWithin c.args.net.now (pieces_of c.args.bytes.now) 0) (sym c.with_hasher-names.ensures.empty) (none_noted c.args.net.now (pieces_of c.args.bytes.now));
 }
 
-pub loop-piece-preserved-in-Some-rule_in : goal.loop-piece-preserved-in-Some-rule_in
-loop-piece-preserved-in-Some-rule_in c =
+pub loop-piece-preserved-in-Some-parse_rule_names : goal.loop-piece-preserved-in-Some-parse_rule_names
+loop-piece-preserved-in-Some-parse_rule_names c =
     let turn = YieldsList-turn (YieldsList-at c.into_iter-piece-iterator.ensures.into_iter_gives
     (YieldsList-from_slice_split _ (λ b. eqb b 10) c.args.bytes.now c.split-piece-items.ensures.rest c.split-piece-items.ensures.done c.split-piece-items.ensures.closure (λ x b q k. search (rules, tests))))
     c.loop-piece.yielded _ c.loop-piece.yielded_by _ _ c.in-Some.piece c.in-Some.is c.next.ensures.steps in
     let pieces = pieces_of c.args.bytes.now in
     let count = length c.loop-piece.yielded in
     let at = piece_here pieces count c.in-Some.piece.now (slice_get_read pieces _ count c.in-Some.piece.now refl turn.0 turn.1) in
-    let rule = c.in-Some-rule_in.rule in
-    let here = sym c.in-Some-rule_in.ensures in
+    let rule = c.in-Some-parse_rule_names.rule in
+    let here = sym c.in-Some-parse_rule_names.ensures in
     let (lines, elements, long) = c.loop-piece.invariant.counted in
     let added = c.in_ok-add_names.ensures in
     let next = length_push c.loop-piece.yielded c.in-Some.piece in

@@ -1,6 +1,6 @@
 use Rattle.std.proofs.Common.{◌<◌, ℕ, List, length, arith, subst}
 use Rattle.std.proofs.lemmas.List.{take_all}
-use Rattle.cut_rules.specs.Judged.{IsMarkSet}
+use Rattle.cut_rules.specs.Judged.{IsFlagSet}
 use Rattle.cut_rules.proofs.NodeMarks.{mark_next}
 use Rattle.cut_rules.proofs.rule_search.set_flags.Goals as goal
 
@@ -20,4 +20,4 @@ loop-node-preserved c =
 pub returns-clause-flags : goal.returns-clause-flags
 returns-clause-flags c =
     let past = c.loop-node-test.false in
-    λ v. subst (λ (l : List ℕ). IsMarkSet l c.args.value c.args.flags.now.items c.loop-node.flags.items v) (take_all c.loop-node.node-index c.args.nodes.now (omega arith)) (c.loop-node.invariant.flags v)
+    λ v. subst (λ (l : List ℕ). IsFlagSet l c.args.value c.args.flags.now.items c.loop-node.flags.items v) (take_all c.loop-node.node-index c.args.nodes.now (omega arith)) (c.loop-node.invariant.flags v)

@@ -3,10 +3,10 @@ use Rattle.std.specs.Prelude.{◌==◌, ◌↔◌, Contains, if◌then◌else◌
 use Rattle.std.specs.String.{string_bytes}
 use Rattle.std.proofs.lemmas.List.Elements.{Contains-get_or}
 use Rattle.std.proofs.lemmas.Result.{err_from_is_err_and}
-use Rattle.text_escape.specs.Places.{style_of, writer_style}
+use Rattle.texts.specs.Places.{style_of, writer_style}
 use Rattle.digraph.specs.declared.edge.Edge.{Edge}
 use Rattle.cut_net.specs.Network.{missing_item}
-use Rattle.cut_rules.specs.Judged.{IsCounted}
+use Rattle.cut_rules.specs.Judged.{IsUnallowed}
 use Rattle.cut_rules.specs.Verdicts.{is_clean, stale_of}
 use Rattle.cut_rules.proofs.Ending.{clean_is, empty_is, ended, stale_lines, stopped_at_end, stopped_at_stale, violations_front}
 use Rattle.cut_rules.proofs.verdict.write_verdict.Goals as goal
@@ -30,7 +30,7 @@ write_rules-requires-clause-graph g c =
     record {
       is_graph = c.in-Ok-graph_of.ensures.graph;
       nodes = (let nodes = c.in-Ok-graph_of.ensures.nodes in let names = c.nodes.ensures in let ok = c.in-Ok-graph_of.graph.after.ok in omega arith);
-      counted = λ p. subst (λ (es : List Edge). Contains es p ↔ IsCounted c.args.net.now c.args.rules.now.allowed.items p) (sym edges) (counted p);
+      counted = λ p. subst (λ (es : List Edge). Contains es p ↔ IsUnallowed c.args.net.now c.args.rules.now.allowed.items p) (sym edges) (counted p);
     }
 
 pub returns-in_err-error_prefix-clause-prefix : goal.returns-in_err-error_prefix-clause-prefix
@@ -59,7 +59,7 @@ returns-in_err-write_fully-clause-prefix g c =
       | else-not-error_prefix w ↦ clean_is (c.in_ok-error_prefix.ensures.written files pieces elements).0 c.args.rules.now.stale.items c.in_ok-error_prefix.error_prefix (length c.args.rules.now.stale.items == 0) c.if-not-error_prefix.clean (c.in_ok-error_prefix.ensures.written files pieces elements).2 refl
           (w.clean-is ∙ ap not w.if-not-error_prefix.false ∙ ap (λ (b : Bool). if b then false else (length c.args.rules.now.stale.items == 0)) (sym w.if-not-error_prefix.false))
     ])
-    c.rest_of.result.now (c.rest_of.ensures ∙ ap (λ (t : List ℕ). if c.if-not-error_prefix.clean then codes "yes" ++ 10 ∷ [] else t) c.as_str.ensures.value) c.in_err-write_fully.ensures.writes vs stale are_vs are_stale)
+    c.final_bytes.result.now (c.final_bytes.ensures ∙ ap (λ (t : List ℕ). if c.if-not-error_prefix.clean then codes "yes" ++ 10 ∷ [] else t) c.as_str.ensures.value) c.in_err-write_fully.ensures.writes vs stale are_vs are_stale)
 
 pub returns-clause-exact : goal.returns-clause-exact
 returns-clause-exact g c = λ files pieces elements.
@@ -76,6 +76,6 @@ returns-clause-exact g c = λ files pieces elements.
       clean,
       ended (style_of c.args.style) (writer_style c.new.result) c.new.ensures c.args.net.now c.args.sites.now files pieces c.args.rules.now elements (string_bytes c.new-2.result) c.new-2.ensures.bytes c.in_ok-error_prefix.error_prefix (g.S.Sink.taken c.args.sink.now)
           (g.S.Sink.taken c.write_rules.new.sink) (string_bytes c.write_rules.new.lines.text) (c.in_ok-error_prefix.ensures.written files pieces elements) (g.S.Sink.taken c.write_stale.new.sink) (g.S.Sink.taken c.write_fully.new.sink) (string_bytes c.write_stale.new.lines.text)
-          c.in_ok-write_stale.ensures.written c.if-not-error_prefix.clean clean (Ok tt) c.rest_of.result.now
-          (c.rest_of.ensures ∙ ap (λ (t : List ℕ). if c.if-not-error_prefix.clean then codes "yes" ++ 10 ∷ [] else t) c.as_str.ensures.value) c.in_ok-write_fully.ensures.writes,
+          c.in_ok-write_stale.ensures.written c.if-not-error_prefix.clean clean (Ok tt) c.final_bytes.result.now
+          (c.final_bytes.ensures ∙ ap (λ (t : List ℕ). if c.if-not-error_prefix.clean then codes "yes" ++ 10 ∷ [] else t) c.as_str.ensures.value) c.in_ok-write_fully.ensures.writes,
     )

@@ -5,7 +5,7 @@ use Rattle.cut_net.specs.Lines.{removed_by, IsCutAnswer}
 use Rattle.cut_net.specs.Cuts.{leaves, Chain, IsCheapest, Outside}
 use Rattle.cut_net.specs.WellFormed.{AreBetween}
 use Rattle.residual_graph.specs.Graphs.{is_flagged}
-use Rattle.cut_solve.specs.Lines.{is_printed}
+use Rattle.cut_solve.specs.Lines.{is_reported_import}
 use Rattle.cut_solve.proofs.Answering.{answered, cheapest}
 use Rattle.cut_solve.proofs.Listing.{kept_within}
 use Rattle.cut_solve.proofs.cutting.minimum_cut.Goals as goal
@@ -31,7 +31,7 @@ reported_imports-requires-clause-sink_side c =
 pub weight_of-weight-requires : goal.weight_of-weight-requires
 weight_of-weight-requires c =
     let imports = c.imports-imports.result.now in
-    let most = kept_within (is_printed c.args.source_side.now c.deref.result.now) imports in
+    let most = kept_within (is_reported_import c.args.source_side.now c.deref.result.now) imports in
     let fits : sum_by (λ (i : Priced). i.amount) imports < 18446744073709551616 = subst (λ v. sum_by (λ (i : Priced). i.amount) v < 18446744073709551616) (sym c.imports-imports.ensures) c.invariants.ensures.network.fits in
     subst (λ v. sum_by (λ (i : Priced). i.amount) v < 18446744073709551616) (sym (c.deref-2.ensures.value ∙ c.in_ok-printed.ensures)) (omega arith)
 
@@ -39,8 +39,8 @@ chains : (c : goal.After-drop-sink_side-2) →
     (m : ℕ) → (is_flagged c.in_ok-sink_side.sink_side.items m ≡ true) ↔ Chain c.args.net.now.imports (Outside (leaves (is_flagged c.args.source_side.now))) m c.args.to
 chains c = subst (λ v. (m : ℕ) → (is_flagged c.in_ok-sink_side.sink_side.items m ≡ true) ↔ Chain v (Outside (leaves (is_flagged c.args.source_side.now))) m c.args.to) c.imports-imports.ensures c.in_ok-sink_side.ensures.sink_side
 
-printed_is : (c : goal.After-drop-sink_side-2) → c.in_ok-printed.printed.items ≡ filter (is_printed c.args.source_side.now c.in_ok-sink_side.sink_side.items) c.args.net.now.imports
-printed_is c = c.in_ok-printed.ensures ∙ ap (λ (v : List Bool). filter (is_printed c.args.source_side.now v) c.imports-imports.result.now) c.deref.ensures.value ∙ ap (filter (is_printed c.args.source_side.now c.in_ok-sink_side.sink_side.items)) c.imports-imports.ensures
+printed_is : (c : goal.After-drop-sink_side-2) → c.in_ok-printed.printed.items ≡ filter (is_reported_import c.args.source_side.now c.in_ok-sink_side.sink_side.items) c.args.net.now.imports
+printed_is c = c.in_ok-printed.ensures ∙ ap (λ (v : List Bool). filter (is_reported_import c.args.source_side.now v) c.imports-imports.result.now) c.deref.ensures.value ∙ ap (filter (is_reported_import c.args.source_side.now c.in_ok-sink_side.sink_side.items)) c.imports-imports.ensures
 
 pub returns-clause-answer : goal.returns-clause-answer
 returns-clause-answer c =

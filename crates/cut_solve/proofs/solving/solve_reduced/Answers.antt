@@ -11,8 +11,8 @@ reduced-requires-clause-between g c =
     subst (AreBetween s.imports.items) (sym c.nodes.ensures)
     (below_between net c.args.ends.0 c.args.ends.1 c.invariants.ensures.network s.imports.items s.source s.sink (start_below net c.args.ends.0 c.args.ends.1 s.imports.items s.source s.sink c.in_ok-start.ensures))
 
-pub with_new_ledger-requires-clause-start : goal.with_new_ledger-requires-clause-start
-with_new_ledger-requires-clause-start g c κs within =
+pub solve_with_new_ledger-requires-clause-start : goal.solve_with_new_ledger-requires-clause-start
+solve_with_new_ledger-requires-clause-start g c κs within =
     let net = c.args.net.now in
     let a = c.args.ends.0 in
     let b = c.args.ends.1 in
@@ -22,7 +22,7 @@ with_new_ledger-requires-clause-start g c κs within =
     subst (λ (m : ℕ). HasReducedWeights net a b low.imports.items m low.sink) (sym c.in_ok-lower.ensures.source)
     (subst (λ (m : ℕ). HasReducedWeights net a b low.imports.items s.source m) (sym c.in_ok-lower.ensures.sink) below)
 
-pub with_new_ledger-requires-2-clause-start : goal.with_new_ledger-requires-2-clause-start
-with_new_ledger-requires-2-clause-start g c κs within =
+pub solve_with_new_ledger-requires-2-clause-start : goal.solve_with_new_ledger-requires-2-clause-start
+solve_with_new_ledger-requires-2-clause-start g c κs within =
     let s = c.in_ok-start.start in
     start_below c.args.net.now c.args.ends.0 c.args.ends.1 s.imports.items s.source s.sink c.in_ok-start.ensures

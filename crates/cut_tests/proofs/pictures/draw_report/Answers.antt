@@ -4,16 +4,16 @@ use Rattle.cut_net.specs.declared.answer.Answer.TheVariants as answers
 use Rattle.cut_net.specs.Answers.{answer_claim}
 use Rattle.cut_net.specs.Lines.{IsAscending}
 use Rattle.cut_net.specs.Network.{Network}
-use Rattle.cut_report.specs.ReportText.{MaySay}
+use Rattle.cut_report.specs.ReportText.{IsWellFormedAnswer}
 use Rattle.cut_dot.specs.Pictures.{answer_flow, answer_removed}
 use Rattle.cut_tests.proofs.pictures.draw_report.Goals as goal
 
 -- the lines of an answer that a report may give ascend
-removed_ascend : (net : Network) (answer : Answer) → MaySay net (answer_claim answer) → IsAscending (answer_removed answer)
+removed_ascend : (net : Network) (answer : Answer) → IsWellFormedAnswer net (answer_claim answer) → IsAscending (answer_removed answer)
 removed_ascend net (answers.Cut cut) says = says.printed_in_order
 removed_ascend net (answers.Blocked chain) says = λ j k d lt within. absurd (omega arith)
 
-flow_ascends : (net : Network) (answer : Answer) → MaySay net (answer_claim answer) → IsAscending (answer_flow answer)
+flow_ascends : (net : Network) (answer : Answer) → IsWellFormedAnswer net (answer_claim answer) → IsAscending (answer_flow answer)
 flow_ascends net (answers.Cut cut) says = says.flow_in_order
 flow_ascends net (answers.Blocked chain) says = λ j k d lt within. absurd (omega arith)
 

@@ -1,4 +1,4 @@
--- The endless nodes, and the cycle among them.
+-- The cycle core, and the canonical cycle in it.
 use Rattle.std.proofs.Common.{◌≡◌, ℕ, ◌<◌, true, length, arith, subst}
 use Rattle.std.proofs.lemmas.List.Elements.{All-weaker}
 use Rattle.digraph.specs.Marks.{marked}

@@ -1,4 +1,4 @@
--- Turned at the least number.
+-- The list is rotated at its smallest number.
 use Rattle.digraph.proofs.Walks.{turned_at}
 use Rattle.digraph.proofs.named.rotate_to_min.Goals as goal
 

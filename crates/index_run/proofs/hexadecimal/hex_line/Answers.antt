@@ -22,20 +22,20 @@ loop-rest-preserved g c =
       gathered = (
         so_far.0 ++ part,
         part_more c.args.bytes.now so_far.0 rest c.min-end.result so_far.1,
-        joined _ _ _ [] (encode_lower so_far.0) (encode_lower part) (string_bytes c.loop-rest.text) (string_bytes c.push_digits.new.text) (encode_lower (so_far.0 ++ part)) (digits_of_both so_far.0 part) so_far.2
-            c.in_ok-push_digits.ensures.gathered,
+        joined _ _ _ [] (encode_lower so_far.0) (encode_lower part) (string_bytes c.loop-rest.text) (string_bytes c.write_digits.new.text) (encode_lower (so_far.0 ++ part)) (digits_of_both so_far.0 part) so_far.2
+            c.in_ok-write_digits.ensures.gathered,
       );
       failures = search rules;
     }
 
-pub returns-in_err-push_digits-clause-writes : goal.returns-in_err-push_digits-clause-writes
-returns-in_err-push_digits-clause-writes g c =
+pub returns-in_err-write_digits-clause-writes : goal.returns-in_err-write_digits-clause-writes
+returns-in_err-write_digits-clause-writes g c =
     let p = err_from_is_err_and c.from_residual.result c.from_residual.ensures.1 in
     let so_far = c.loop-rest.invariant.gathered in
     let rest = c.loop-rest.rest.now in
     let k = c.min-end.result in
     rw p.1 (front_joined _ _ _ [] (encode_lower so_far.0) (encode_lower (take k rest)) (string_bytes c.loop-rest.text) (encode_lower (drop k rest) ++ 10 ∷ []) _
-    (line_around c.args.bytes.now so_far.0 rest (10 ∷ []) k so_far.1) so_far.2 c.in_err-push_digits.ensures.error_prefix)
+    (line_around c.args.bytes.now so_far.0 rest (10 ∷ []) k so_far.1) so_far.2 c.in_err-write_digits.ensures.error_prefix)
 
 pub returns-in_default-clause-writes : goal.returns-in_default-clause-writes
 returns-in_default-clause-writes g c =

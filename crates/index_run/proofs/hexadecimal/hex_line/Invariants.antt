@@ -1,4 +1,4 @@
--- What was put and what is in hand are the digits of the bytes so far.
+-- The written bytes and the buffered ones are the digits of the bytes so far.
 use Rattle.std.proofs.Common.{◌≡◌, ℕ, List, ◌++◌, length}
 use Rattle.std.specs.String.{string_bytes}
 use Rattle.hex.specs.Hex.{encode_lower}

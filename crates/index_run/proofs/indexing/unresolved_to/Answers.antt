@@ -1,7 +1,7 @@
 use Rattle.std.proofs.Common.{Err, inl, map, refl}
 use Rattle.std.proofs.lemmas.Result.{err_from_is_err_and}
 use Rattle.ob_board.specs.Unresolved.{unresolved_model}
-use Rattle.text_escape.specs.Places.{style_of}
+use Rattle.texts.specs.Places.{style_of}
 use Rattle.index_run.specs.IndexRuns.{unresolved_lines, IsUnresolvedRun, IsUnresolvedText}
 use Rattle.oscip_run.specs.declared.fault.RunFault.{RunFault}
 use Rattle.oscip_run.proofs.CheckRuns.{refused_tree, Keeps-same}

@@ -5,26 +5,26 @@ use Rattle.std.proofs.lemmas.Result.{err_from_is_err_and}
 use Rattle.ob_board.specs.Unresolved.{unresolved_model}
 use Rattle.ob_board.specs.declared.unresolved.Unresolved.{Unresolved}
 use Rattle.byte_sink.specs.Sinks.{AppendsPrefix}
-use Rattle.text_escape.specs.Places.{style_of}
+use Rattle.texts.specs.Places.{style_of}
 use Rattle.byte_sink.specs.Pieces.{WritesAllBut}
 use Rattle.byte_sink.proofs.Joining.{front_joined, joined, lines, lines_around, lines_more, puts_then}
 use Rattle.index_run.specs.IndexRuns.{unresolved_line}
 use Rattle.index_run.proofs.indexing.write_lines.Goals as goal
 
-pub returns-in_err-gather_line-clause-writes : goal.returns-in_err-gather_line-clause-writes
-returns-in_err-gather_line-clause-writes g c =
+pub returns-in_err-write_line-clause-writes : goal.returns-in_err-write_line-clause-writes
+returns-in_err-write_line-clause-writes g c =
     let p = err_from_is_err_and c.from_residual.result c.from_residual.ensures.1 in
     let around = lines_around unresolved_model (unresolved_line (style_of c.args.style)) c.args.rows.now c.loop-row.row-index c.row-item.result c.loop-row-test.true in
-    let error_prefix = subst (λ (row : Unresolved). AppendsPrefix (g.S.Sink.taken c.loop-row.sink) (g.S.Sink.taken c.gather_line.new.sink) (string_bytes c.loop-row.text ++ unresolved_line (style_of c.args.style) (unresolved_model row))) c.row-item.is (rw c.loop-row.invariant.style at c.in_err-gather_line.ensures.error_prefix) in
+    let error_prefix = subst (λ (row : Unresolved). AppendsPrefix (g.S.Sink.taken c.loop-row.sink) (g.S.Sink.taken c.write_line.new.sink) (string_bytes c.loop-row.text ++ unresolved_line (style_of c.args.style) (unresolved_model row))) c.row-item.is (rw c.loop-row.invariant.style at c.in_err-write_line.ensures.error_prefix) in
     rw p.1 (front_joined _ _ _ [] _ _ _ _ _ around c.loop-row.invariant.gathered error_prefix)
 
 pub loop-row-preserved : goal.loop-row-preserved
 loop-row-preserved g c =
     let more = lines_more unresolved_model (unresolved_line (style_of c.args.style)) c.args.rows.now c.loop-row.row-index c.row-item.result c.loop-row-test.true in
-    let gathered = subst (λ (row : Unresolved). WritesAllBut (g.S.Sink.taken c.loop-row.sink) (g.S.Sink.taken c.gather_line.new.sink) (string_bytes c.loop-row.text ++ unresolved_line (style_of c.args.style) (unresolved_model row)) (string_bytes c.gather_line.new.text)) c.row-item.is (rw c.loop-row.invariant.style at c.in_ok-gather_line.ensures.gathered) in
+    let gathered = subst (λ (row : Unresolved). WritesAllBut (g.S.Sink.taken c.loop-row.sink) (g.S.Sink.taken c.write_line.new.sink) (string_bytes c.loop-row.text ++ unresolved_line (style_of c.args.style) (unresolved_model row)) (string_bytes c.write_line.new.text)) c.row-item.is (rw c.loop-row.invariant.style at c.in_ok-write_line.ensures.gathered) in
     record {
       gathered = joined _ _ _ [] _ _ _ _ _ more c.loop-row.invariant.gathered gathered;
-      style = c.in_ok-gather_line.ensures.style ∙ c.loop-row.invariant.style;
+      style = c.in_ok-write_line.ensures.style ∙ c.loop-row.invariant.style;
       failures = search rules;
     }
 

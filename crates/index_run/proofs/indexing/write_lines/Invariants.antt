@@ -1,8 +1,8 @@
--- What was put and what is in hand are the lines so far.
+-- The written bytes and the buffered ones are the lines so far.
 use Rattle.std.proofs.Common.{◌≡◌, take, map}
 use Rattle.std.specs.String.{string_bytes}
 use Rattle.ob_board.specs.Unresolved.{unresolved_model}
-use Rattle.text_escape.specs.Places.{style_of, writer_style}
+use Rattle.texts.specs.Places.{style_of, writer_style}
 use Rattle.byte_sink.specs.Pieces.{WritesAllBut}
 use Rattle.index_run.specs.IndexRuns.{unresolved_lines}
 use Rattle.index_run.proofs.indexing.write_lines.Given as goal

@@ -1,4 +1,4 @@
--- The records so far are put.
+-- The records so far are written.
 use Rattle.std.proofs.Common.{◌≡◌, ◌++◌, ℕ}
 use Rattle.std.specs.Global.{Vec}
 use Rattle.std.specs.List.{flat_map}

@@ -1,4 +1,4 @@
--- The documents so far are put, and the writer goes on.
+-- The documents so far are written, and the writer is open.
 use Rattle.std.proofs.Common.{◌≡◌, ◌++◌, None}
 use Rattle.std.specs.Io.KnownBytes.{Appends}
 use Rattle.std.specs.List.{flat_map}

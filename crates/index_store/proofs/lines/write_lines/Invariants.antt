@@ -1,8 +1,8 @@
--- What was put and what is gathered are the lines of the places so far.
+-- The written bytes and the buffered ones are the lines of the locations so far.
 use Rattle.std.proofs.Common.{◌≡◌, ℕ, List, ◌++◌, map, take}
 use Rattle.std.specs.Io.KnownBytes.{Appends}
 use Rattle.std.specs.String.{string_bytes}
-use Rattle.text_escape.specs.Places.{style_of, writer_style}
+use Rattle.texts.specs.Places.{style_of, writer_style}
 use Rattle.index_store.specs.Queries.{location_model}
 use Rattle.index_store.specs.Lines.{location_lines}
 use Rattle.index_store.proofs.lines.write_lines.Given as goal

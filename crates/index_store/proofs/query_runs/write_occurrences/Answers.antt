@@ -1,7 +1,7 @@
 use Rattle.std.proofs.Common.{Some, None, [], map, refl}
 use Rattle.std.proofs.KnownBytes.{Appends-nil}
 use Rattle.std.proofs.lemmas.Result.{err_from_is_err_and}
-use Rattle.text_escape.specs.Places.{style_of}
+use Rattle.texts.specs.Places.{style_of}
 use Rattle.index_store.specs.Queries.{location_model}
 use Rattle.index_store.specs.Lines.{location_lines}
 use Rattle.index_store.proofs.Runs.{answer, error_prefix, refused_path}

@@ -1,7 +1,7 @@
 use Rattle.std.proofs.Common.{◌++◌, Some, None, [], codes, refl}
 use Rattle.std.proofs.KnownBytes.{Appends-nil}
 use Rattle.std.proofs.lemmas.Result.{err_from_is_err_and}
-use Rattle.text_escape.specs.Escapes.{escaped}
+use Rattle.texts.specs.Escapes.{escaped}
 use Rattle.index_store.proofs.SymbolLaws.{symbol_at_text}
 use Rattle.index_store.proofs.TellingRuns.{lacking_symbol, told_front}
 use Rattle.index_store.proofs.query_runs.write_symbol_at.Goals as goal

@@ -1,6 +1,6 @@
 use Rattle.std.proofs.lemmas.Result.{err_from_is_err_and}
 use Rattle.std.specs.Prelude.{option_copied}
-use Rattle.text_escape.specs.Places.{style_of}
+use Rattle.texts.specs.Places.{style_of}
 use Rattle.byte_sink.proofs.Joining.{puts_then}
 use Rattle.index_store.proofs.SymbolLaws.{listed_there, texts_there}
 use Rattle.index_store.proofs.symbols.write_definitions.Goals as goal

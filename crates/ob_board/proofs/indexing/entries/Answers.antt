@@ -5,8 +5,8 @@ use Rattle.ob_board.specs.Entries.{entry_model}
 use Rattle.ob_board.proofs.EntryHanding.{entries_told}
 use Rattle.ob_board.proofs.indexing.entries.Goals as goal
 
-pub entries_in-entries-requires-clause-seen : goal.entries_in-entries-requires-clause-seen
-entries_in-entries-requires-clause-seen g c =
+pub entries_of_parts-entries-requires-clause-seen : goal.entries_of_parts-entries-requires-clause-seen
+entries_of_parts-entries-requires-clause-seen g c =
     let (files, of) = c.in_ok-tree.ensures.parts in
     λ ranges lives. parts_seen c.args.sources.now files c.in_ok-tree.tree.modules.items of.all c.in_ok-tree.tree.graph of.kept
 

@@ -7,8 +7,8 @@ use Rattle.ob_board.specs.Indexes.{IsBuiltFrom}
 use Rattle.ob_board.proofs.EntryHanding.{externals_of_tree, index_told, same_externals}
 use Rattle.ob_board.proofs.indexing.index_tree.Goals as goal
 
-pub index_of-requires : goal.index_of-requires
-index_of-requires g c = subst (λ (rows : List SymbolModel). AreExternalRows rows) (sym (same_externals c.in_ok-entries.entries.items))
+pub assemble_index-requires : goal.assemble_index-requires
+assemble_index-requires g c = subst (λ (rows : List SymbolModel). AreExternalRows rows) (sym (same_externals c.in_ok-entries.entries.items))
     (externals_of_tree c.args.sources.now _ (map entry_model c.in_ok-entries.entries.items) c.in_ok-entries.ensures.exact)
 
 pub returns-clause-exact : goal.returns-clause-exact

@@ -3,7 +3,7 @@ use Rattle.std.specs.Prelude.{slice_index}
 use Rattle.std.specs.Arc.{arc_value}
 use Rattle.std.specs.String.{string_bytes}
 use Rattle.std.proofs.lemmas.List.{map-append, take_more}
-use Rattle.ob_board.specs.Unresolved.{unresolved_model, AreUnresolvedRows, IsRow, UnresolvedModel}
+use Rattle.ob_board.specs.Unresolved.{unresolved_model, AreUnresolvedRows, IsUnresolvedAt, UnresolvedModel}
 use Rattle.ob_board.proofs.Rowing.{rows_more}
 use Rattle.ob_board.proofs.rows.rows_of.Goals as goal
 
@@ -22,4 +22,4 @@ loop-number-preserved c =
     ap (map unresolved_model) c.in_ok-push.ensures.items ∙ map-append unresolved_model c.loop-number.rows.items (c.in_ok-row_of.field-0 ∷ []) in
     subst (λ (rows : List UnresolvedModel). AreUnresolvedRows path bytes ts (take (i + 1) ks) rows) (sym pushed)
     (subst (λ (xs : List ℕ). AreUnresolvedRows path bytes ts xs (before ++ row ∷ [])) (sym more)
-    (rows_more path bytes ts (take i ks) before (slice_index ks i) row c.loop-number.invariant (subst (λ (p : List ℕ). IsRow p bytes ts (slice_index ks i) row) same c.in_ok-row_of.ensures)))
+    (rows_more path bytes ts (take i ks) before (slice_index ks i) row c.loop-number.invariant (subst (λ (p : List ℕ). IsUnresolvedAt p bytes ts (slice_index ks i) row) same c.in_ok-row_of.ensures)))

@@ -6,8 +6,8 @@ use Rattle.ob_board.proofs.SeenFiles.{parts_seen}
 use Rattle.ob_board.proofs.RecordHanding.{records_told}
 use Rattle.ob_board.proofs.writing.tree_records.Goals as goal
 
-pub records_in-gathered-requires-clause-seen : goal.records_in-gathered-requires-clause-seen
-records_in-gathered-requires-clause-seen g c =
+pub records_of_parts-gathered-requires-clause-seen : goal.records_of_parts-gathered-requires-clause-seen
+records_of_parts-gathered-requires-clause-seen g c =
     let (files, of) = c.in_ok-tree.ensures.parts in
     λ ranges lives. parts_seen c.args.sources.now files c.in_ok-tree.tree.modules.items of.all c.in_ok-tree.tree.graph of.kept
 

@@ -5,8 +5,8 @@ use Rattle.ob_board.specs.Indexes.{tool_metadata}
 use Rattle.ob_board.proofs.RecordHanding.{externals_gathered, written_told}
 use Rattle.ob_board.proofs.writing.written_index.Goals as goal
 
-pub parts_of-requires : goal.parts_of-requires
-parts_of-requires g c = externals_gathered _ _ _ _ c.in_ok-gathered.ensures.exact
+pub make_encoded_index-requires : goal.make_encoded_index-requires
+make_encoded_index-requires g c = externals_gathered _ _ _ _ c.in_ok-gathered.ensures.exact
 
 pub returns-clause-exact : goal.returns-clause-exact
 returns-clause-exact g c =

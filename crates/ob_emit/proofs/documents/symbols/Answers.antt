@@ -1,4 +1,4 @@
--- What stands for a name of an external module is a name, and a row more is the next reference's.
+-- A token that denotes a name of an external module is an identifier. Each iteration adds the next reference.
 use Rattle.std.proofs.Common.{ap, map}
 use Rattle.scip_index.specs.Plain.{symbol_model}
 use Rattle.ob_emit.specs.Documents.{symbol_row}

@@ -1,4 +1,4 @@
--- What is found near is what is found among all.
+-- The entry that is found from the hint is the one that a search finds.
 use Rattle.std.proofs.Common.{List, sym, ap, subst, ◌∙◌}
 use Rattle.std.specs.Prelude.{◌==◌, find}
 use Rattle.module_table.specs.declared.rows.Declared.{Declared}

@@ -1,4 +1,4 @@
--- The row at the place that is found.
+-- The entry at the index that is found.
 use Rattle.module_table.proofs.SearchResult.{none_among, placed_is, placed_within}
 use Rattle.ob_emit.proofs.hinted_lookup.row_by_hint.Goals as goal
 

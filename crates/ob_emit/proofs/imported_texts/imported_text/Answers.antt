@@ -1,4 +1,4 @@
--- The names of what the module declares.
+-- The names of the module's declarations are valid.
 use Rattle.std.proofs.Common.{◌≡◌, ℕ, List, Option, String, Global, sym, ap, ◌∙◌, subst}
 use Rattle.std.specs.Prelude.{IfOk}
 use Rattle.std.specs.Option.{option_map}

@@ -1,4 +1,4 @@
--- The module's text, and the name behind it.
+-- The module's symbol string, and the name after it.
 use Rattle.std.proofs.Common.{◌≡◌, ◌++◌, ℕ, List, Some, sym, ap, ◌∙◌, subst}
 use Rattle.std.specs.Borrow.{Bor}
 use Rattle.std.specs.Prelude.{slice_get}
@@ -23,7 +23,7 @@ pub returns : goal.returns
 returns c = λ prefix.
     let w = c.args.types.now in
     let there : slice_get w.rows.imports c.args.item ≡ Some c.in-Some.import.now = sym c.import_at.ensures ∙ ap (option_map (λ (i : Bor Import). i.now)) c.in-Some.is in
-    external_text_is w c.args.item c.args.name.now c.in-Some.import.now c.args.outside.now (string_bytes c.in_ok-out.out) (string_bytes c.push_step.new.out) there
+    external_text_is w c.args.item c.args.name.now c.in-Some.import.now c.args.outside.now (string_bytes c.in_ok-out.out) (string_bytes c.append_simple_descriptor.new.out) there
     prefix
     (c.in_ok-out.ensures ∙ ap (λ (x : List ℕ). c.args.outside.now ++ path_text (module_path x)) c.text.ensures)
-    (c.in_ok-push_step.ensures ∙ ap (λ (x : List ℕ). string_bytes c.in_ok-out.out ++ canonical_descriptor_text (descriptor Term x)) c.name_of.ensures)
+    (c.in_ok-append_simple_descriptor.ensures ∙ ap (λ (x : List ℕ). string_bytes c.in_ok-out.out ++ canonical_descriptor_text (descriptor Term x)) c.name_of.ensures)

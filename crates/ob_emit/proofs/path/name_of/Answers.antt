@@ -1,4 +1,4 @@
--- A name is a text.
+-- A name is valid UTF-8.
 use Rattle.ob_emit.proofs.Naming.{name_is_text}
 use Rattle.ob_emit.proofs.path.name_of.Goals as goal
 

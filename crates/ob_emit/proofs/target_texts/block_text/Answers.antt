@@ -1,4 +1,4 @@
--- The module's name, and those of what it declares.
+-- The name of the module, and the names of its declarations.
 use Rattle.std.proofs.Common.{sym, ap, ◌∙◌, subst}
 use Rattle.ob_types.specs.World.{text}
 use Rattle.ob_emit.specs.Named.{IsName}

@@ -1,4 +1,4 @@
--- One text more.
+-- One symbol string more.
 use Rattle.std.proofs.Common.{◌≡◌, ℕ, List, length, map, get_or, false, Some, sym, ap, ◌∙◌, subst, arith}
 use Rattle.std.specs.Prelude.{slice_get}
 use Rattle.std.specs.Option.{option_map}

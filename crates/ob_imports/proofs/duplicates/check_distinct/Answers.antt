@@ -1,4 +1,4 @@
--- No two next to each other in order, or the first two.
+-- No two adjacent names of the sorted list are equal, or the first two that are.
 use Rattle.std.proofs.Common.{◌≡◌, ℕ, ◌+◌, ◌<◌, ◌≤◌, List, [], get_or, length, ◌∙◌, arith, subst}
 use Rattle.std.specs.Prelude.{IsPermutation}
 use Rattle.std.specs.String.{string_bytes}

@@ -1,4 +1,4 @@
--- The names of each file are known.
+-- The table has the names of each file.
 use Rattle.std.proofs.Common.{arith, sym}
 use Rattle.ob_imports.specs.Files.{file_of, files_of}
 use Rattle.digraph.proofs.Members.{in_map}
@@ -6,8 +6,8 @@ use Rattle.ob_imports.proofs.Nodes.{node_of_one}
 use Rattle.std.proofs.lemmas.Grind.{common_steps}
 use Rattle.ob_imports.proofs.edges.all_edges.Goals as goal
 
-pub add_pairs-requires-clause-known : goal.add_pairs-requires-clause-known
-add_pairs-requires-clause-known c n node =
+pub append_edges-requires-clause-known : goal.append_edges-requires-clause-known
+append_edges-requires-clause-known c n node =
     c.requires.known n (node_of_one (files_of c.args.parsed.now) (file_of c.file-item.result) n
     (in_map file_of c.args.parsed.now c.file-item.result (c.loop-file.file-index, c.loop-file-test.true, sym c.file-item.is)) node)
 

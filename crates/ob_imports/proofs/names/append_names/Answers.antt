@@ -1,4 +1,4 @@
--- One name more.
+-- One more name.
 use Rattle.std.proofs.Common.{◌∙◌}
 use Rattle.ob_imports.specs.Names.{texts}
 use Rattle.ob_imports.proofs.Places.{put_more}

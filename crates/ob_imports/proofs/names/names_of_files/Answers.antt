@@ -1,4 +1,4 @@
--- A new table has the files' names alone.
+-- A new table has exactly the names of the files' modules.
 use Rattle.std.proofs.Common.{◌∙◌, refl}
 use Rattle.std.proofs.lemmas.List.{nil_from_length}
 use Rattle.ob_imports.proofs.names.names_of_files.Goals as goal

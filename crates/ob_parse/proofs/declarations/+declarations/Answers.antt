@@ -1,34 +1,34 @@
 use Rattle.std.proofs.Common.{sym, ◌∙◌, arith, refl}
 use Rattle.ob_scan.specs.declared.kind.Kind.TheVariants as kinds
 use Rattle.ob_tree.specs.Declaring.{procedure_events, declarations_events}
-use Rattle.ob_parse.specs.Lookahead.{is_word}
-use Rattle.ob_parse.specs.Combinators.{limit_at}
-use Rattle.ob_parse.specs.ReadNames.{identdef_after}
-use Rattle.ob_parse.specs.ReadModules.{procedure_at, declarations_with, procedure_named, procedure_with, procedures_with}
-use Rattle.ob_parse.specs.ReadExpressions.{expr_at}
-use Rattle.ob_parse.specs.ReadTypes.{type_at}
-use Rattle.ob_parse.proofs.Sound.{expr_at_sound, type_at_sound}
-use Rattle.ob_parse.proofs.Loops.{has_begun, has_not_begun, const_shortens, type_decl_shortens, variable_shortens}
+use Rattle.ob_grammar.specs.Lookahead.{is_word}
+use Rattle.ob_grammar.specs.Combinators.{limit_at}
+use Rattle.ob_grammar.specs.ReadNames.{identdef_after}
+use Rattle.ob_grammar.specs.ReadModules.{procedure_at, declarations_with, procedure_named, procedure_with, procedures_with}
+use Rattle.ob_grammar.specs.ReadExpressions.{expr_at}
+use Rattle.ob_grammar.specs.ReadTypes.{type_at}
+use Rattle.ob_grammar.proofs.Sound.{expr_at_sound, type_at_sound}
+use Rattle.ob_grammar.proofs.Loops.{has_begun, has_not_begun, const_shortens, type_decl_shortens, variable_shortens}
 use Rattle.ob_tree.proofs.DeclarationLayers.{declaring_made, declarations_made}
 use Rattle.ob_tree.proofs.NameLayers.{names_made}
-use Rattle.ob_parse.proofs.Stars.{star_read}
+use Rattle.ob_grammar.proofs.Stars.{star_read}
 use Rattle.ob_parse.proofs.Boxes.{gives_boxed}
-use Rattle.ob_parse.proofs.Repetitions.{procedures}
-use Rattle.ob_parse.proofs.LoopEnds.{stopped}
-use Rattle.ob_parse.proofs.Turns.{turn_shorter, turn_kept, turn_failed, turns_done}
+use Rattle.ob_grammar.proofs.Repetitions.{procedures}
+use Rattle.ob_grammar.proofs.LoopEnds.{stopped}
+use Rattle.ob_grammar.proofs.Turns.{turn_shorter, turn_kept, turn_failed, turns_done}
 use Rattle.ob_parse.proofs.declarations.+declarations.Goals as goal
 
 pub procedures-more-smaller : goal.procedures-more-smaller
 procedures-more-smaller t c =
-    turn_shorter c.args.tokens.now (procedures c.args.depth) c.ended_procedure.result (λ b. b.value) c.more.here c.more.here _ _ _ (has_begun (is_word kinds.Procedure) _ (sym c.is_at.ensures ∙ c.more-test.true)) c.ended_procedure.ensures c.in_ok-here.ensures
+    turn_shorter c.args.tokens.now (procedures c.args.depth) c.procedure_with_semicolon.result (λ b. b.value) c.more.here c.more.here _ _ _ (has_begun (is_word kinds.Procedure) _ (sym c.is_at.ensures ∙ c.more-test.true)) c.procedure_with_semicolon.ensures c.in_ok-here.ensures
 
 pub procedures-more-preserved : goal.procedures-more-preserved
 procedures-more-preserved t c =
-    turn_kept c.args.tokens.now (procedures c.args.depth) c.ended_procedure.result (λ b. b.value) c.more.here c.more.here _ _ _ _ (has_begun (is_word kinds.Procedure) _ (sym c.is_at.ensures ∙ c.more-test.true)) c.ended_procedure.ensures c.in_ok-here.ensures c.more.invariant
+    turn_kept c.args.tokens.now (procedures c.args.depth) c.procedure_with_semicolon.result (λ b. b.value) c.more.here c.more.here _ _ _ _ (has_begun (is_word kinds.Procedure) _ (sym c.is_at.ensures ∙ c.more-test.true)) c.procedure_with_semicolon.ensures c.in_ok-here.ensures c.more.invariant
 
 pub procedures-returns-in_err-here : goal.procedures-returns-in_err-here
 procedures-returns-in_err-here t c =
-    stopped _ _ _ _ _ c.from_residual.ensures.1 (turn_failed c.args.tokens.now (procedures c.args.depth) c.ended_procedure.result (λ b. b.value) c.more.here c.more.here _ _ c.in_err-here.field-0.0 _ (has_begun (is_word kinds.Procedure) _ (sym c.is_at.ensures ∙ c.more-test.true)) c.ended_procedure.ensures c.in_err-here.ensures c.more.invariant)
+    stopped _ _ _ _ _ c.from_residual.ensures.1 (turn_failed c.args.tokens.now (procedures c.args.depth) c.procedure_with_semicolon.result (λ b. b.value) c.more.here c.more.here _ _ c.in_err-here.field-0.0 _ (has_begun (is_word kinds.Procedure) _ (sym c.is_at.ensures ∙ c.more-test.true)) c.procedure_with_semicolon.ensures c.in_err-here.ensures c.more.invariant)
 
 pub procedures-returns : goal.procedures-returns
 procedures-returns t c =

@@ -1,14 +1,14 @@
 use Rattle.std.proofs.Common.{◌+◌, ◌*◌, length}
-use Rattle.ob_parse.specs.AgreesWith.{remaining}
-use Rattle.ob_parse.proofs.Repetitions.{procedures}
-use Rattle.ob_parse.proofs.Turns.{AreTurnsRead}
+use Rattle.ob_grammar.specs.AgreesWith.{remaining}
+use Rattle.ob_grammar.proofs.Repetitions.{procedures}
+use Rattle.ob_grammar.proofs.Turns.{AreTurnsRead}
 use Rattle.ob_parse.proofs.declarations.+declarations.Given as goal
 
 abbrev pub decreases-procedure : goal.decreases-procedure
 decreases-procedure l = 16 * l.depth + 0
 
-abbrev pub decreases-ended_procedure : goal.decreases-ended_procedure
-decreases-ended_procedure l = 16 * l.depth + 1
+abbrev pub decreases-procedure_with_semicolon : goal.decreases-procedure_with_semicolon
+decreases-procedure_with_semicolon l = 16 * l.depth + 1
 
 abbrev pub decreases-procedures : goal.decreases-procedures
 decreases-procedures l = 16 * l.depth + 2
@@ -16,8 +16,8 @@ decreases-procedures l = 16 * l.depth + 2
 abbrev pub decreases-declarations : goal.decreases-declarations
 decreases-declarations l = 16 * l.depth + 3
 
-abbrev pub decreases-remainder : goal.decreases-remainder
-decreases-remainder l = 16 * l.depth + 4
+abbrev pub decreases-procedure_remainder : goal.decreases-procedure_remainder
+decreases-procedure_remainder l = 16 * l.depth + 4
 
 abbrev pub decreases-procedure_within : goal.decreases-procedure_within
 decreases-procedure_within l = 16 * l.depth + 5

@@ -1,10 +1,10 @@
 use Rattle.std.proofs.Common.{◌≡◌, ◌++◌, length}
 use Rattle.ob_scan.specs.declared.kind.Kind.TheVariants as kinds
 use Rattle.ob_tree.specs.TreeEvents.{each, word}
-use Rattle.ob_parse.specs.Combinators.{begins, many}
-use Rattle.ob_parse.specs.ReadModules.{is_identifier, with_semicolon}
-use Rattle.ob_parse.specs.AgreesWith.{remaining}
-use Rattle.ob_parse.proofs.Loops.{with_front}
+use Rattle.ob_grammar.specs.Combinators.{begins, many}
+use Rattle.ob_grammar.specs.ReadModules.{is_identifier, with_semicolon}
+use Rattle.ob_grammar.specs.AgreesWith.{remaining}
+use Rattle.ob_grammar.proofs.Loops.{with_front}
 use Rattle.ob_parse.proofs.declarations.declared.Given as goal
 
 abbrev pub invariant-more : goal.invariant-more

@@ -2,17 +2,17 @@ use Rattle.std.proofs.Common.{refl, sym, ap, ◌∙◌, arith}
 use Rattle.ob_scan.specs.declared.kind.Kind.TheVariants as kinds
 use Rattle.ob_tree.specs.declared.token.Leaf.TheVariants as leafs
 use Rattle.ob_tree.specs.Expressions.{expr_events, element_events, element_list_events, expr_list_events, sum_events}
-use Rattle.ob_parse.specs.Combinators.{limit_at, name_at, several, unless}
-use Rattle.ob_parse.specs.AgreesWith.{with_remaining, skipped}
-use Rattle.ob_parse.specs.ReadExpressions.{selector_first, element_with, selector_with, expr_at, designator_with, expr_with, factor_with, negated_at, sum_with, term_with}
-use Rattle.ob_parse.proofs.Loops.{has_begun, has_not_begun}
+use Rattle.ob_grammar.specs.Combinators.{limit_at, name_at, several, unless}
+use Rattle.ob_grammar.specs.AgreesWith.{with_remaining, skipped}
+use Rattle.ob_grammar.specs.ReadExpressions.{selector_first, element_with, selector_with, expr_at, designator_with, expr_with, factor_with, negated_at, sum_with, term_with}
+use Rattle.ob_grammar.proofs.Loops.{has_begun, has_not_begun}
 use Rattle.ob_tree.proofs.ExpressionLayers.{expressions_made, sum_made, term_out, element_made, element_list_made, expr_list_made, designator_out, value_made, nil_made, true_made, false_made, set_made, name_made, group_made, index_made, target_made, arguments_made}
 use Rattle.ob_parse.proofs.Boxes.{gives_boxed}
-use Rattle.ob_parse.proofs.Somes.{gives_some, not_closed}
-use Rattle.ob_parse.proofs.Repetitions.{expressions, elements, selectors, factor_operations, term_operations}
-use Rattle.ob_parse.proofs.LoopEnds.{stopped}
-use Rattle.ob_parse.proofs.Turns.{turn_shorter, turn_kept, turn_failed, turns_done, operation_shorter, operation_kept, operation_failed, operations_done}
-use Rattle.ob_parse.proofs.Lookaheads.{leaf_stands, word_stands, factor_seen, selector_seen}
+use Rattle.ob_grammar.proofs.Somes.{gives_some, not_closed}
+use Rattle.ob_grammar.proofs.Repetitions.{expressions, elements, selectors, factor_operations, term_operations}
+use Rattle.ob_grammar.proofs.LoopEnds.{stopped}
+use Rattle.ob_grammar.proofs.Turns.{turn_shorter, turn_kept, turn_failed, turns_done, operation_shorter, operation_kept, operation_failed, operations_done}
+use Rattle.ob_grammar.proofs.Lookaheads.{leaf_stands, word_stands, factor_seen, selector_seen}
 use Rattle.ob_parse.proofs.expressions.+expressions.Goals as goal
 
 pub more_factors-more-smaller : goal.more_factors-more-smaller
@@ -137,7 +137,7 @@ unfolding several
 expression_list-returns t c = gives_boxed c.args.tokens.now expr_list_events _ _ c.boxed.result _ c.boxed.ensures.of c.boxed.ensures.refused (rw (c.in_ok-first.ensures, c.in_ok-rest.ensures, expr_list_made (record { first = c.into_inner.result; rest = c.in_ok-rest.rest }), c.into_inner.ensures) refl)
 
 pub factor-returns-in-Some-Name-default : goal.factor-returns-in-Some-Name-default
-factor-returns-in-Some-Name-default t c = rw (factor_seen c.args.depth _ _ (leaf_stands c.args.tokens.now _ c.args.input c.in-Some-Name-default.rest _ (leafs.Name c.in-Some-Name-default.number) c.in-Some-Name-default.is c.in-Some-Name-default.field-0-0-is c.next.ensures.read)) c.named.ensures
+factor-returns-in-Some-Name-default t c = rw (factor_seen c.args.depth _ _ (leaf_stands c.args.tokens.now _ c.args.input c.in-Some-Name-default.rest _ (leafs.Name c.in-Some-Name-default.number) c.in-Some-Name-default.is c.in-Some-Name-default.field-0-0-is c.next.ensures.read)) c.named_factor.ensures
 
 pub factor-returns-in-Some-Value-default : goal.factor-returns-in-Some-Value-default
 factor-returns-in-Some-Value-default t c = rw (factor_seen c.args.depth _ _ (leaf_stands c.args.tokens.now _ c.args.input c.in-Some-Value-default.rest _ (leafs.Value c.in-Some-Value-default.literal c.in-Some-Value-default.number) c.in-Some-Value-default.is c.in-Some-Value-default.field-0-0-is c.next.ensures.read), value_made c.in-Some-Value-default.literal c.in-Some-Value-default.number) refl
@@ -149,7 +149,7 @@ pub factor-returns-in-Some-Word-LeftBrace-default : goal.factor-returns-in-Some-
 factor-returns-in-Some-Word-LeftBrace-default t c = rw (factor_seen c.args.depth _ _ (word_stands c.args.tokens.now _ c.args.input c.in-Some-Word-LeftBrace-default.rest _ _ kinds.LeftBrace c.in-Some-Word-LeftBrace-default.is c.in-Some-Word-LeftBrace-default.field-0-0-is c.in-Some-Word-LeftBrace-default.field-0-0-0-is c.next.ensures.read)) c.set.ensures
 
 pub factor-returns-in-Some-Word-LeftParen-default : goal.factor-returns-in-Some-Word-LeftParen-default
-factor-returns-in-Some-Word-LeftParen-default t c = rw (factor_seen c.args.depth _ _ (word_stands c.args.tokens.now _ c.args.input c.in-Some-Word-LeftParen-default.rest _ _ kinds.LeftParen c.in-Some-Word-LeftParen-default.is c.in-Some-Word-LeftParen-default.field-0-0-is c.in-Some-Word-LeftParen-default.field-0-0-0-is c.next.ensures.read)) c.group.ensures
+factor-returns-in-Some-Word-LeftParen-default t c = rw (factor_seen c.args.depth _ _ (word_stands c.args.tokens.now _ c.args.input c.in-Some-Word-LeftParen-default.rest _ _ kinds.LeftParen c.in-Some-Word-LeftParen-default.is c.in-Some-Word-LeftParen-default.field-0-0-is c.in-Some-Word-LeftParen-default.field-0-0-0-is c.next.ensures.read)) c.parenthesized_factor.ensures
 
 pub factor-returns-in-Some-Word-Nil-default : goal.factor-returns-in-Some-Word-Nil-default
 factor-returns-in-Some-Word-Nil-default t c = rw (factor_seen c.args.depth _ _ (word_stands c.args.tokens.now _ c.args.input c.in-Some-Word-Nil-default.rest _ _ kinds.Nil c.in-Some-Word-Nil-default.is c.in-Some-Word-Nil-default.field-0-0-is c.in-Some-Word-Nil-default.field-0-0-0-is c.next.ensures.read), nil_made) refl
@@ -164,14 +164,14 @@ pub factor-returns-in_default : goal.factor-returns-in_default
 unfolding factor_with
 factor-returns-in_default t c = grind (arith, expressions_made)
 
-pub group-returns : goal.group-returns
-group-returns t c = rw (c.in_ok-inner.ensures, c.in_ok-rest.ensures.read, group_made c.in_ok-inner.inner) refl
+pub parenthesized_factor-returns : goal.parenthesized_factor-returns
+parenthesized_factor-returns t c = rw (c.in_ok-inner.ensures, c.in_ok-rest.ensures.read, group_made c.in_ok-inner.inner) refl
 
 pub index-returns : goal.index-returns
 index-returns t c = rw (c.in_ok-list.ensures, c.in_ok-rest.ensures.read, index_made c.in_ok-list.list) refl
 
-pub named-returns : goal.named-returns
-named-returns t c = rw (c.in_ok-designator.ensures, name_made c.in_ok-designator.designator) refl
+pub named_factor-returns : goal.named_factor-returns
+named_factor-returns t c = rw (c.in_ok-designator.ensures, name_made c.in_ok-designator.designator) refl
 
 pub negated-returns : goal.negated-returns
 unfolding negated_at limit_at

@@ -1,7 +1,7 @@
 use Rattle.std.proofs.Common.{◌+◌, ◌*◌, length}
-use Rattle.ob_parse.specs.AgreesWith.{remaining}
-use Rattle.ob_parse.proofs.Repetitions.{elements, expressions, factor_operations, selectors, term_operations}
-use Rattle.ob_parse.proofs.Turns.{AreOperationsRead, AreTurnsRead}
+use Rattle.ob_grammar.specs.AgreesWith.{remaining}
+use Rattle.ob_grammar.proofs.Repetitions.{elements, expressions, factor_operations, selectors, term_operations}
+use Rattle.ob_grammar.proofs.Turns.{AreOperationsRead, AreTurnsRead}
 use Rattle.ob_parse.proofs.expressions.+expressions.Given as goal
 
 abbrev pub decreases-expression : goal.decreases-expression
@@ -61,14 +61,14 @@ decreases-index l = 16 * l.depth + 4
 abbrev pub decreases-call : goal.decreases-call
 decreases-call l = 16 * l.depth + 4
 
-abbrev pub decreases-named : goal.decreases-named
-decreases-named l = 16 * l.depth + 8
+abbrev pub decreases-named_factor : goal.decreases-named_factor
+decreases-named_factor l = 16 * l.depth + 8
 
 abbrev pub decreases-set : goal.decreases-set
 decreases-set l = 16 * l.depth + 8
 
-abbrev pub decreases-group : goal.decreases-group
-decreases-group l = 16 * l.depth + 8
+abbrev pub decreases-parenthesized_factor : goal.decreases-parenthesized_factor
+decreases-parenthesized_factor l = 16 * l.depth + 8
 
 abbrev pub decreases-sum : goal.decreases-sum
 decreases-sum l = 16 * l.depth + 13

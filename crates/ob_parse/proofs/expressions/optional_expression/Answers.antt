@@ -1,7 +1,7 @@
 use Rattle.std.proofs.Common.{sym}
 use Rattle.ob_tree.specs.Expressions.{expr_events}
-use Rattle.ob_parse.specs.Combinators.{accept_at}
-use Rattle.ob_parse.proofs.Somes.{gives_some}
+use Rattle.ob_grammar.specs.Combinators.{accept_at}
+use Rattle.ob_grammar.proofs.Somes.{gives_some}
 use Rattle.ob_parse.proofs.expressions.optional_expression.Goals as goal
 
 pub returns-in-Some : goal.returns-in-Some

@@ -1,7 +1,7 @@
 use Rattle.std.proofs.Common.{length}
-use Rattle.ob_parse.specs.AgreesWith.{remaining}
-use Rattle.ob_parse.proofs.Repetitions.{label_ranges}
-use Rattle.ob_parse.proofs.Turns.{AreTurnsRead}
+use Rattle.ob_grammar.specs.AgreesWith.{remaining}
+use Rattle.ob_grammar.proofs.Repetitions.{label_ranges}
+use Rattle.ob_grammar.proofs.Turns.{AreTurnsRead}
 use Rattle.ob_parse.proofs.labels.more_label_ranges.Given as goal
 
 abbrev pub invariant-more : goal.invariant-more

@@ -1,5 +1,5 @@
 use Rattle.ob_tree.proofs.DeclarationLayers.{declaring_made}
-use Rattle.ob_parse.specs.ReadModules.{module_at, module_after_name}
+use Rattle.ob_grammar.specs.ReadModules.{module_at, module_after_name}
 use Rattle.std.proofs.Common.{arith}
 use Rattle.ob_tree.specs.Declaring.{module_events}
 use Rattle.ob_parse.proofs.Boxes.{gives_boxed}

@@ -1,9 +1,9 @@
 use Rattle.std.proofs.Common.{sym, ap, ◌∙◌}
 use Rattle.ob_scan.specs.declared.kind.Kind.TheVariants as kinds
-use Rattle.ob_parse.specs.AgreesWith.{skipped}
-use Rattle.ob_parse.proofs.Repetitions.{parameter_names}
-use Rattle.ob_parse.proofs.LoopEnds.{stopped}
-use Rattle.ob_parse.proofs.Turns.{turn_shorter, turn_kept, turn_failed, turns_done}
+use Rattle.ob_grammar.specs.AgreesWith.{skipped}
+use Rattle.ob_grammar.proofs.Repetitions.{parameter_names}
+use Rattle.ob_grammar.proofs.LoopEnds.{stopped}
+use Rattle.ob_grammar.proofs.Turns.{turn_shorter, turn_kept, turn_failed, turns_done}
 use Rattle.ob_parse.proofs.parameters.more_names.Goals as goal
 
 pub more-smaller : goal.more-smaller

@@ -1,11 +1,11 @@
 use Rattle.std.proofs.Common.{◌<◌, length, sym, ap, ◌∙◌, arith}
 use Rattle.ob_scan.specs.declared.kind.Kind.TheVariants as kinds
 use Rattle.ob_tree.specs.TreeEvents.{times}
-use Rattle.ob_parse.specs.Combinators.{many, accept_at, expect_at}
-use Rattle.ob_parse.specs.AgreesWith.{remaining, skipped}
-use Rattle.ob_parse.proofs.Loops.{is_done}
-use Rattle.ob_parse.proofs.LoopEnds.{ends, stopped}
-use Rattle.ob_parse.proofs.Arrays.{array_of, array_advances, fewer, one_more, few_ahead}
+use Rattle.ob_grammar.specs.Combinators.{many, accept_at, expect_at}
+use Rattle.ob_grammar.specs.AgreesWith.{remaining, skipped}
+use Rattle.ob_grammar.proofs.Loops.{is_done}
+use Rattle.ob_grammar.proofs.LoopEnds.{ends, stopped}
+use Rattle.ob_grammar.proofs.Arrays.{array_of, array_advances, fewer, one_more, few_ahead}
 use Rattle.ob_parse.proofs.parameters.open_arrays.Goals as goal
 
 pub more-smaller : goal.more-smaller

@@ -1,8 +1,8 @@
 use Rattle.std.proofs.Common.{sym}
 use Rattle.ob_scan.specs.declared.kind.Kind.TheVariants as kinds
 use Rattle.ob_tree.specs.Names.{qualident_events}
-use Rattle.ob_parse.specs.Combinators.{accept_at}
-use Rattle.ob_parse.proofs.Somes.{gives_some}
+use Rattle.ob_grammar.specs.Combinators.{accept_at}
+use Rattle.ob_grammar.proofs.Somes.{gives_some}
 use Rattle.ob_parse.proofs.parameters.result_type.Goals as goal
 
 pub returns-in-Some : goal.returns-in-Some

@@ -1,5 +1,5 @@
 use Rattle.ob_tree.proofs.TypeLayers.{types_made}
-use Rattle.ob_parse.specs.ReadTypes.{section_at}
+use Rattle.ob_grammar.specs.ReadTypes.{section_at}
 use Rattle.std.proofs.Common.{arith}
 use Rattle.ob_parse.proofs.parameters.section.Goals as goal
 

@@ -4,28 +4,28 @@ use Rattle.ob_scan.specs.declared.token.Token.{Token}
 use Rattle.ob_tree.specs.Declaring.{module_events}
 use Rattle.ob_tree.specs.Derives.{Derives}
 use Rattle.ob_tree.specs.TreeEvents.{Events}
-use Rattle.ob_parse.specs.AgreesWith.{Fails}
-use Rattle.ob_parse.specs.Parsed.{IsOneTree, kinds_of, read_left}
-use Rattle.ob_parse.proofs.OneTree.{one_tree, why_none, endings_are_known, tokens_placed, few_tokens}
+use Rattle.ob_grammar.specs.AgreesWith.{Fails}
+use Rattle.ob_grammar.specs.Parsed.{IsOneTree, kinds_of, read_as_module}
+use Rattle.ob_grammar.proofs.OneTree.{one_tree, why_none, endings_are_known, tokens_placed, few_tokens}
 use Rattle.ob_parse.proofs.parser.parse.Goals as goal
 
-pub tree_of-requires : goal.tree_of-requires
-tree_of-requires c =
+pub parse_before_end_check-requires : goal.parse_before_end_check-requires
+parse_before_end_check-requires c =
     let in_text = spelled_in_text c.args.bytes.now c.args.tokens.now c.requires.1 in
     omega (arith, in_text.few, c.requires.0, ap length c.as_slice-tokens.ensures)
 
 pub returns-in-Err-clause-fault : goal.returns-in-Err-clause-fault
 returns-in-Err-clause-fault c =
     let in_text = spelled_in_text c.args.bytes.now c.args.tokens.now c.requires.1 in
-    let stopped : Fails {Y = Events} c.args.tokens.now c.in-Err.stop (read_left c.args.tokens.now) = subst (λ (ts : List Token). Fails {Y = Events} ts c.in-Err.stop (read_left ts)) c.as_slice-tokens.ensures c.in-Err.ensures in
-    rw (c.fault_of.ensures, c.as_slice-tokens.ensures) (why_none c.args.bytes.now c.args.tokens.now c.in-Err.stop (omega (arith, in_text.few, c.requires.0)) stopped)
+    let stopped : Fails {Y = Events} c.args.tokens.now c.in-Err.stop (read_as_module c.args.tokens.now) = subst (λ (ts : List Token). Fails {Y = Events} ts c.in-Err.stop (read_as_module ts)) c.as_slice-tokens.ensures c.in-Err.ensures in
+    rw (c.stop_fault.ensures, c.as_slice-tokens.ensures) (why_none c.args.bytes.now c.args.tokens.now c.in-Err.stop (omega (arith, in_text.few, c.requires.0)) stopped)
 
-pub wrong_end-requires-clause-in_range : goal.wrong_end-requires-clause-in_range
-wrong_end-requires-clause-in_range c =
+pub first_wrong_end-requires-clause-in_range : goal.first_wrong_end-requires-clause-in_range
+first_wrong_end-requires-clause-in_range c =
     rw (c.as_slice.ensures.value, c.in_ok-ends.ensures, c.deref.ensures) (endings_are_known c.as_slice-tokens.result.now (module_events c.in-Ok.tree.value) c.in-Ok.ensures)
 
-pub wrong_end-requires-clause-in_text : goal.wrong_end-requires-clause-in_text
-wrong_end-requires-clause-in_text c = rw c.as_slice-tokens.ensures (tokens_placed c.args.bytes.now c.args.tokens.now (spelled_in_text c.args.bytes.now c.args.tokens.now c.requires.1))
+pub first_wrong_end-requires-clause-in_text : goal.first_wrong_end-requires-clause-in_text
+first_wrong_end-requires-clause-in_text c = rw c.as_slice-tokens.ensures (tokens_placed c.args.bytes.now c.args.tokens.now (spelled_in_text c.args.bytes.now c.args.tokens.now c.requires.1))
 
 pub returns-in-None-clause-tree : goal.returns-in-None-clause-tree
 returns-in-None-clause-tree c = rw c.into_inner.ensures (record {

@@ -2,19 +2,19 @@ use Rattle.std.proofs.Common.{sym, ap, ◌∙◌, arith, refl}
 use Rattle.ob_scan.specs.declared.kind.Kind.TheVariants as kinds
 use Rattle.ob_tree.specs.declared.token.Leaf.TheVariants as leafs
 use Rattle.ob_tree.specs.Statements.{branch_events, case_events, stmt_events, block_events}
-use Rattle.ob_parse.specs.Combinators.{accept_at, name_at, several}
-use Rattle.ob_parse.specs.AgreesWith.{skipped, remaining}
-use Rattle.ob_parse.specs.ReadStatements.{branch_with, case_with, statement_at, block_with, cases_with, for_with, if_with, repeat_with, statement_with, while_with, block_at, label_first}
+use Rattle.ob_grammar.specs.Combinators.{accept_at, name_at, several}
+use Rattle.ob_grammar.specs.AgreesWith.{skipped, remaining}
+use Rattle.ob_grammar.specs.ReadStatements.{branch_with, case_with, statement_at, block_with, cases_with, for_with, if_with, repeat_with, statement_with, while_with, block_at, label_first}
 use Rattle.ob_parse.proofs.StatementSteps.{made}
 use Rattle.ob_parse.proofs.Boxes.{gives_boxed}
-use Rattle.ob_parse.proofs.Somes.{gives_some}
-use Rattle.ob_parse.proofs.Repetitions.{statements, branches, cases}
-use Rattle.ob_parse.proofs.LoopEnds.{stopped}
-use Rattle.ob_parse.proofs.Turns.{turn_shorter, turn_kept, turn_failed, turns_done}
-use Rattle.ob_parse.specs.ReadExpressions.{expr_at}
-use Rattle.ob_parse.proofs.Loops.{has_begun, has_not_begun}
+use Rattle.ob_grammar.proofs.Somes.{gives_some}
+use Rattle.ob_grammar.proofs.Repetitions.{statements, branches, cases}
+use Rattle.ob_grammar.proofs.LoopEnds.{stopped}
+use Rattle.ob_grammar.proofs.Turns.{turn_shorter, turn_kept, turn_failed, turns_done}
+use Rattle.ob_grammar.specs.ReadExpressions.{expr_at}
+use Rattle.ob_grammar.proofs.Loops.{has_begun, has_not_begun}
 use Rattle.ob_tree.proofs.StatementLayers.{if_made, while_made, repeat_made, case_made, block_made, branch_made, labelled_made, nothing_made}
-use Rattle.ob_parse.proofs.Lookaheads.{leaf_stands, word_stands, statement_seen}
+use Rattle.ob_grammar.proofs.Lookaheads.{leaf_stands, word_stands, statement_seen}
 use Rattle.ob_parse.proofs.statements.+statements.Goals as goal
 
 pub more_statements-more-smaller : goal.more_statements-more-smaller
@@ -33,20 +33,20 @@ pub more_statements-returns : goal.more_statements-returns
 more_statements-returns t c =
     turns_done c.args.tokens.now (statements c.args.depth) c.more.rest.items c.more.here _ (sym c.accept.ensures.read ∙ ap (skipped c.args.tokens.now kinds.Semicolon) c.in_default.is) c.more.invariant
 
-pub more_branches-more-smaller : goal.more_branches-more-smaller
-more_branches-more-smaller t c =
+pub elsif_branches-more-smaller : goal.elsif_branches-more-smaller
+elsif_branches-more-smaller t c =
     turn_shorter c.args.tokens.now (branches c.args.depth c.args.keyword) c.branch-alloc.result (λ b. b.value) c.more.here c.in-Some.after _ _ _ (sym c.in-Some.ensures.read) c.branch-alloc.ensures c.in_ok-here.ensures
 
-pub more_branches-more-preserved : goal.more_branches-more-preserved
-more_branches-more-preserved t c =
+pub elsif_branches-more-preserved : goal.elsif_branches-more-preserved
+elsif_branches-more-preserved t c =
     turn_kept c.args.tokens.now (branches c.args.depth c.args.keyword) c.branch-alloc.result (λ b. b.value) c.more.here c.in-Some.after _ _ _ _ (sym c.in-Some.ensures.read) c.branch-alloc.ensures c.in_ok-here.ensures c.more.invariant
 
-pub more_branches-returns-in_err-here : goal.more_branches-returns-in_err-here
-more_branches-returns-in_err-here t c =
+pub elsif_branches-returns-in_err-here : goal.elsif_branches-returns-in_err-here
+elsif_branches-returns-in_err-here t c =
     stopped _ _ _ _ _ c.from_residual.ensures.1 (turn_failed c.args.tokens.now (branches c.args.depth c.args.keyword) c.branch-alloc.result (λ b. b.value) c.more.here c.in-Some.after _ _ c.in_err-here.field-0.0 _ (sym c.in-Some.ensures.read) c.branch-alloc.ensures c.in_err-here.ensures c.more.invariant)
 
-pub more_branches-returns : goal.more_branches-returns
-more_branches-returns t c =
+pub elsif_branches-returns : goal.elsif_branches-returns
+elsif_branches-returns t c =
     turns_done c.args.tokens.now (branches c.args.depth c.args.keyword) c.more.rest.items c.more.here _ (sym c.accept.ensures.read ∙ ap (skipped c.args.tokens.now kinds.Elsif) c.in_default.is) c.more.invariant
 
 pub more_cases-more-smaller : goal.more_cases-more-smaller

@@ -1,7 +1,7 @@
 use Rattle.std.proofs.Common.{◌+◌, ◌*◌, length}
-use Rattle.ob_parse.specs.AgreesWith.{remaining}
-use Rattle.ob_parse.proofs.Repetitions.{branches, cases, statements}
-use Rattle.ob_parse.proofs.Turns.{AreTurnsRead}
+use Rattle.ob_grammar.specs.AgreesWith.{remaining}
+use Rattle.ob_grammar.proofs.Repetitions.{branches, cases, statements}
+use Rattle.ob_grammar.proofs.Turns.{AreTurnsRead}
 use Rattle.ob_parse.proofs.statements.+statements.Given as goal
 
 abbrev pub decreases-statement : goal.decreases-statement
@@ -22,8 +22,8 @@ decreases-case l = 16 * l.depth + 4
 abbrev pub decreases-optional_block : goal.decreases-optional_block
 decreases-optional_block l = 16 * l.depth + 5
 
-abbrev pub decreases-more_branches : goal.decreases-more_branches
-decreases-more_branches l = 16 * l.depth + 6
+abbrev pub decreases-elsif_branches : goal.decreases-elsif_branches
+decreases-elsif_branches l = 16 * l.depth + 6
 
 abbrev pub decreases-more_cases : goal.decreases-more_cases
 decreases-more_cases l = 16 * l.depth + 7
@@ -34,8 +34,8 @@ decreases-cases l = 16 * l.depth + 8
 abbrev pub decreases-for_body : goal.decreases-for_body
 decreases-for_body l = 16 * l.depth + 9
 
-abbrev pub decreases-for_rest : goal.decreases-for_rest
-decreases-for_rest l = 16 * l.depth + 10
+abbrev pub decreases-for_limit_and_body : goal.decreases-for_limit_and_body
+decreases-for_limit_and_body l = 16 * l.depth + 10
 
 abbrev pub decreases-if_statement : goal.decreases-if_statement
 decreases-if_statement l = 16 * l.depth + 11
@@ -61,11 +61,11 @@ invariant-more_statements-more l = AreTurnsRead l.fn.tokens (statements l.depth)
 abbrev pub decreases-more_statements-more : goal.decreases-more_statements-more
 decreases-more_statements-more l = length (remaining l.fn.tokens l.here)
 
-abbrev pub invariant-more_branches-more : goal.invariant-more_branches-more
-invariant-more_branches-more l = AreTurnsRead l.fn.tokens (branches l.depth l.keyword) l.rest.items l.fn.input l.here
+abbrev pub invariant-elsif_branches-more : goal.invariant-elsif_branches-more
+invariant-elsif_branches-more l = AreTurnsRead l.fn.tokens (branches l.depth l.keyword) l.rest.items l.fn.input l.here
 
-abbrev pub decreases-more_branches-more : goal.decreases-more_branches-more
-decreases-more_branches-more l = length (remaining l.fn.tokens l.here)
+abbrev pub decreases-elsif_branches-more : goal.decreases-elsif_branches-more
+decreases-elsif_branches-more l = length (remaining l.fn.tokens l.here)
 
 abbrev pub invariant-more_cases-more : goal.invariant-more_cases-more
 invariant-more_cases-more l = AreTurnsRead l.fn.tokens (cases l.depth) l.rest.items l.fn.input l.here

@@ -1,5 +1,5 @@
 use Rattle.ob_parse.proofs.StatementSteps.{made}
-use Rattle.ob_parse.specs.ReadStatements.{assign_with}
+use Rattle.ob_grammar.specs.ReadStatements.{assign_with}
 use Rattle.std.proofs.Common.{arith}
 use Rattle.ob_parse.proofs.statements.assignment.Goals as goal
 

@@ -1,6 +1,6 @@
 use Rattle.std.proofs.Common.{arith}
 use Rattle.ob_tree.specs.Statements.{stmt_events}
-use Rattle.ob_parse.specs.ReadStatements.{statement_at, empty_at}
+use Rattle.ob_grammar.specs.ReadStatements.{statement_at, empty_at}
 use Rattle.ob_parse.proofs.Boxes.{gives_boxed}
 use Rattle.ob_parse.proofs.StatementSteps.{made}
 use Rattle.ob_parse.proofs.statements.empty_statement.Goals as goal

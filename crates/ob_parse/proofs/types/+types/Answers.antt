@@ -3,34 +3,34 @@ use Rattle.ob_scan.specs.declared.kind.Kind.TheVariants as kinds
 use Rattle.ob_tree.specs.declared.token.Leaf.TheVariants as leafs
 use Rattle.ob_tree.specs.declared.declaration.Record.{roll-Record}
 use Rattle.ob_tree.specs.Types.{var_events, fields_events, type_events}
-use Rattle.ob_parse.specs.Combinators.{limit_at, unless}
-use Rattle.ob_parse.specs.AgreesWith.{skipped}
-use Rattle.ob_parse.specs.ReadTypes.{var_with, type_at, fields_with, record_with, type_with}
+use Rattle.ob_grammar.specs.Combinators.{limit_at, unless}
+use Rattle.ob_grammar.specs.AgreesWith.{skipped}
+use Rattle.ob_grammar.specs.ReadTypes.{var_with, type_at, fields_with, record_with, type_with}
 use Rattle.ob_tree.proofs.TypeLayers.{types_made, array_made, pointer_made, record_of_made, record_made, fields_made, var_made}
 use Rattle.ob_parse.proofs.Boxes.{gives_boxed}
-use Rattle.ob_parse.proofs.Somes.{gives_some, not_closed}
-use Rattle.ob_parse.proofs.Repetitions.{field_lists}
-use Rattle.ob_parse.proofs.LoopEnds.{stopped}
-use Rattle.ob_parse.proofs.Turns.{turn_shorter, turn_kept, turn_failed, turns_done}
-use Rattle.ob_parse.specs.ReadExpressions.{expr_at}
-use Rattle.ob_parse.proofs.Lookaheads.{leaf_stands, word_stands, type_seen}
+use Rattle.ob_grammar.proofs.Somes.{gives_some, not_closed}
+use Rattle.ob_grammar.proofs.Repetitions.{field_lists}
+use Rattle.ob_grammar.proofs.LoopEnds.{stopped}
+use Rattle.ob_grammar.proofs.Turns.{turn_shorter, turn_kept, turn_failed, turns_done}
+use Rattle.ob_grammar.specs.ReadExpressions.{expr_at}
+use Rattle.ob_grammar.proofs.Lookaheads.{leaf_stands, word_stands, type_seen}
 use Rattle.ob_parse.proofs.types.+types.Goals as goal
 
-pub more_fields-more-smaller : goal.more_fields-more-smaller
-more_fields-more-smaller t c =
+pub more_field_lists-more-smaller : goal.more_field_lists-more-smaller
+more_field_lists-more-smaller t c =
     turn_shorter c.args.tokens.now (field_lists c.args.depth) c.field_list.result (λ b. b.value) c.more.here c.in-Some.after _ _ _ (sym c.in-Some.ensures.read) c.field_list.ensures c.in_ok-here.ensures
 
-pub more_fields-more-preserved : goal.more_fields-more-preserved
-more_fields-more-preserved t c =
+pub more_field_lists-more-preserved : goal.more_field_lists-more-preserved
+more_field_lists-more-preserved t c =
     turn_kept c.args.tokens.now (field_lists c.args.depth) c.field_list.result (λ b. b.value) c.more.here c.in-Some.after _ _ _ _ (sym c.in-Some.ensures.read) c.field_list.ensures c.in_ok-here.ensures c.more.invariant
 
-pub more_fields-returns-in_err-here : goal.more_fields-returns-in_err-here
-more_fields-returns-in_err-here t c =
+pub more_field_lists-returns-in_err-here : goal.more_field_lists-returns-in_err-here
+more_field_lists-returns-in_err-here t c =
     stopped _ _ _ _ _ c.from_residual.ensures.1 (turn_failed c.args.tokens.now (field_lists c.args.depth) c.field_list.result (λ b. b.value) c.more.here c.in-Some.after _ _ c.in_err-here.field-0.0 _ (sym c.in-Some.ensures.read) c.field_list.ensures c.in_err-here.ensures c.more.invariant)
 
-pub more_fields-returns : goal.more_fields-returns
-more_fields-returns t c =
-    turns_done c.args.tokens.now (field_lists c.args.depth) c.more.rest.items c.more.here _ (sym c.accept_fields.ensures.read ∙ ap (skipped c.args.tokens.now kinds.Semicolon) c.in_default.is) c.more.invariant
+pub more_field_lists-returns : goal.more_field_lists-returns
+more_field_lists-returns t c =
+    turns_done c.args.tokens.now (field_lists c.args.depth) c.more.rest.items c.more.here _ (sym c.accept_field_separator.ensures.read ∙ ap (skipped c.args.tokens.now kinds.Semicolon) c.in_default.is) c.more.invariant
 
 pub array-returns : goal.array-returns
 array-returns t c = rw (c.in_ok-lengths.ensures, c.in_ok-rest.ensures.read, c.in_ok-of.ensures, array_made c.in_ok-lengths.lengths c.in_ok-of.of) refl
@@ -46,13 +46,13 @@ pub record-returns : goal.record-returns
 unfolding record_with
 record-returns t c = rw (c.in_ok-base.ensures.read, c.in_ok-fields.ensures, c.in_ok-here.ensures.read, record_of_made (roll-Record (record { base = c.in_ok-base.base; fields = c.in_ok-fields.fields })), record_made c.in_ok-base.base c.in_ok-fields.fields) refl
 
-pub some_fields-returns : goal.some_fields-returns
-some_fields-returns t c =
+pub optional_fields-returns : goal.optional_fields-returns
+optional_fields-returns t c =
     gives_some c.args.tokens.now c.fields.result (λ l. fields_events l.value) c.some.result (unless kinds.End) _ _ _ c.some.ensures (not_closed kinds.End _ (sym c.is_at.ensures ∙ c.if-is_at.false)) c.fields.ensures
 
-pub some_fields-returns-then-is_at : goal.some_fields-returns-then-is_at
+pub optional_fields-returns-then-is_at : goal.optional_fields-returns-then-is_at
 unfolding unless
-some_fields-returns-then-is_at t c = grind arith
+optional_fields-returns-then-is_at t c = grind arith
 
 pub type_expression-returns : goal.type_expression-returns
 unfolding type_at limit_at
@@ -63,7 +63,7 @@ unfolding type_at limit_at
 type_expression-returns-then-depth-eq0 t c = grind arith
 
 pub type_within-returns-in-Some-Name-default : goal.type_within-returns-in-Some-Name-default
-type_within-returns-in-Some-Name-default t c = rw (type_seen (expr_at c.args.depth) (type_at c.args.depth) _ _ (leaf_stands c.args.tokens.now _ c.args.input c.in-Some-Name-default.rest _ (leafs.Name c.in-Some-Name-default.head) c.in-Some-Name-default.is c.in-Some-Name-default.field-0-0-is c.next.ensures.read)) c.named.ensures
+type_within-returns-in-Some-Name-default t c = rw (type_seen (expr_at c.args.depth) (type_at c.args.depth) _ _ (leaf_stands c.args.tokens.now _ c.args.input c.in-Some-Name-default.rest _ (leafs.Name c.in-Some-Name-default.head) c.in-Some-Name-default.is c.in-Some-Name-default.field-0-0-is c.next.ensures.read)) c.named_type.ensures
 
 pub type_within-returns-in-Some-Word-Array-default : goal.type_within-returns-in-Some-Word-Array-default
 type_within-returns-in-Some-Word-Array-default t c = rw (type_seen (expr_at c.args.depth) (type_at c.args.depth) _ _ (word_stands c.args.tokens.now _ c.args.input c.in-Some-Word-Array-default.rest _ _ kinds.Array c.in-Some-Word-Array-default.is c.in-Some-Word-Array-default.field-0-0-is c.in-Some-Word-Array-default.field-0-0-0-is c.next.ensures.read)) c.array.ensures

@@ -1,7 +1,7 @@
 use Rattle.std.proofs.Common.{◌+◌, ◌*◌, length}
-use Rattle.ob_parse.specs.AgreesWith.{remaining}
-use Rattle.ob_parse.proofs.Repetitions.{field_lists}
-use Rattle.ob_parse.proofs.Turns.{AreTurnsRead}
+use Rattle.ob_grammar.specs.AgreesWith.{remaining}
+use Rattle.ob_grammar.proofs.Repetitions.{field_lists}
+use Rattle.ob_grammar.proofs.Turns.{AreTurnsRead}
 use Rattle.ob_parse.proofs.types.+types.Given as goal
 
 abbrev pub decreases-type_expression : goal.decreases-type_expression
@@ -13,23 +13,23 @@ decreases-var_declaration l = 16 * l.depth + 1
 abbrev pub decreases-field_list : goal.decreases-field_list
 decreases-field_list l = 16 * l.depth + 2
 
-abbrev pub decreases-more_fields : goal.decreases-more_fields
-decreases-more_fields l = 16 * l.depth + 3
+abbrev pub decreases-more_field_lists : goal.decreases-more_field_lists
+decreases-more_field_lists l = 16 * l.depth + 3
 
 abbrev pub decreases-fields : goal.decreases-fields
 decreases-fields l = 16 * l.depth + 4
 
-abbrev pub decreases-some_fields : goal.decreases-some_fields
-decreases-some_fields l = 16 * l.depth + 5
+abbrev pub decreases-optional_fields : goal.decreases-optional_fields
+decreases-optional_fields l = 16 * l.depth + 5
 
 abbrev pub decreases-record : goal.decreases-record
 decreases-record l = 16 * l.depth + 6
 
-abbrev pub invariant-more_fields-more : goal.invariant-more_fields-more
-invariant-more_fields-more l = AreTurnsRead l.fn.tokens (field_lists l.depth) l.rest.items l.fn.input l.here
+abbrev pub invariant-more_field_lists-more : goal.invariant-more_field_lists-more
+invariant-more_field_lists-more l = AreTurnsRead l.fn.tokens (field_lists l.depth) l.rest.items l.fn.input l.here
 
-abbrev pub decreases-more_fields-more : goal.decreases-more_fields-more
-decreases-more_fields-more l = length (remaining l.fn.tokens l.here)
+abbrev pub decreases-more_field_lists-more : goal.decreases-more_field_lists-more
+decreases-more_field_lists-more l = length (remaining l.fn.tokens l.here)
 
 abbrev pub decreases-type_within : goal.decreases-type_within
 decreases-type_within l = 16 * l.depth + 8

@@ -17,14 +17,14 @@ pub returns-in-Nowhere : goal.returns-in-Nowhere
 returns-in-Nowhere c = nowhere_refers c.args.types.now c.args.number
     (stands_as c.args.types.now c.args.found.now c.args.number _ _ _ c.requires.found c.requires.within c.index-syntax_position.ensures c.in-Nowhere.is)
 
-pub imported-requires : goal.imported-requires
-imported-requires c = stands_as c.args.types.now c.args.found.now c.args.number _ _ _ c.requires.found c.requires.within c.index-syntax_position.ensures c.in-Item.is
+pub import_reference-requires : goal.import_reference-requires
+import_reference-requires c = stands_as c.args.types.now c.args.found.now c.args.number _ _ _ c.requires.found c.requires.within c.index-syntax_position.ensures c.in-Item.is
 
-pub ending-requires : goal.ending-requires
-ending-requires c = stands_as c.args.types.now c.args.found.now c.args.number _ _ _ c.requires.found c.requires.within c.index-syntax_position.ensures c.in-End.is
+pub end_reference-requires : goal.end_reference-requires
+end_reference-requires c = stands_as c.args.types.now c.args.found.now c.args.number _ _ _ c.requires.found c.requires.within c.index-syntax_position.ensures c.in-End.is
 
-pub second-requires-clause-position_is : goal.second-requires-clause-position_is
-second-requires-clause-position_is c = stands_as c.args.types.now c.args.found.now c.args.number _ _ _ c.requires.found c.requires.within c.index-syntax_position.ensures c.in-Second.is
+pub second_reference-requires-clause-position_is : goal.second_reference-requires-clause-position_is
+second_reference-requires-clause-position_is c = stands_as c.args.types.now c.args.found.now c.args.number _ _ _ c.requires.found c.requires.within c.index-syntax_position.ensures c.in-Second.is
 
 pub used-requires : goal.used-requires
 used-requires c = record { found = c.requires.found; written = written_as c.args.types.now c.args.found.now c.args.number _ _ c.requires.found c.requires.within c.index-written.ensures }
@@ -39,13 +39,13 @@ pub selected-requires-clause-found : goal.selected-requires-clause-found
 selected-requires-clause-found c = c.requires.found
 
 pub returns-in-Item : goal.returns-in-Item
-returns-in-Item c = c.imported.ensures
+returns-in-Item c = c.import_reference.ensures
 
 pub returns-in-End : goal.returns-in-End
-returns-in-End c = c.ending.ensures
+returns-in-End c = c.end_reference.ensures
 
 pub returns-in-Second : goal.returns-in-Second
-returns-in-Second c = c.second.ensures
+returns-in-Second c = c.second_reference.ensures
 
 pub returns-in-Selected : goal.returns-in-Selected
 returns-in-Selected c = c.selected.ensures

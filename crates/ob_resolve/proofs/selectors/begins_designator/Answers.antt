@@ -1,4 +1,4 @@
--- The first selector of all, one behind none, and one behind another.
+-- The first selector of all, one after an index without a selector, and one after another selector.
 use Rattle.std.proofs.Common.{◌≡◌, ℕ, zero, suc, ◌-◌, ◌≤◌, List, Option, Some, None, true, not, refl, sym, ap, ◌∙◌, arith}
 use Rattle.std.specs.Prelude.{◌==◌, slice_get}
 use Rattle.std.proofs.lemmas.Option.{slice_get_past, slice_get_read}

@@ -1,7 +1,7 @@
 use Rattle.std.proofs.Common.{◌≡◌, ℕ, ◌∙◌, ap, length, subst, arith}
 use Rattle.std.proofs.lemmas.Option.{slice_get-get_or}
 use Rattle.module_table.specs.Parts.{Rows}
-use Rattle.ob_resolve.specs.Selected.{AreNamed}
+use Rattle.ob_resolve.specs.Selected.{AreNamedTargets}
 use Rattle.ob_resolve.proofs.Selecting.{nothing_passed, one_passed}
 use Rattle.ob_resolve.proofs.selectors.selected_targets.Goals as goal
 
@@ -23,4 +23,4 @@ pub returns : goal.returns
 returns c =
     let same = c.selectors-selectors.ensures ∙ ap (λ (r : Rows). r.selectors) c.table.ensures in
     let all : c.loop-position.position ≡ length c.args.types.now.rows.selectors = omega (arith, ap length same, c.loop-position-test.false, c.loop-position.auto.position-end) in
-    subst (λ (n : ℕ). AreNamed c.args.types.now n c.loop-position.targets.items) all c.loop-position.invariant.passed.named
+    subst (λ (n : ℕ). AreNamedTargets c.args.types.now n c.loop-position.targets.items) all c.loop-position.invariant.passed.named

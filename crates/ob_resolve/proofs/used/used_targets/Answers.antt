@@ -14,7 +14,7 @@ pub loop-row-preserved : goal.loop-row-preserved
 loop-row-preserved c =
     rw c.in_ok-push.ensures.items
     (mapped_more (λ (u : Used). used_target c.args.types.now u.number) c.uses-uses.result.now c.loop-row.row-index _ _ _ c.loop-row-test.true c.loop-row.invariant
-    c.used_by_hint.ensures)
+    c.use_target_by_hint.ensures)
 
 pub returns : goal.returns
 returns c =

@@ -16,7 +16,7 @@ loop-designator-preserved c =
     let i = c.loop-designator.designator-index in
     let d = get_or all i (record { head = 0; block = 0; is_written = false }) in
     let before : AreWritten has all count (d ∷ drop (i + 1) all) c.loop-designator.written = rw (drop_more all i (record { head = 0; block = 0; is_written = false }) c.loop-designator-test.true) at c.loop-designator.invariant in
-    rw c.set_flag.ensures (stepped has all count d (drop (i + 1) all) c.loop-designator.written c.written_by-name.result c.written_by-name.ensures before)
+    rw c.set_flag.ensures (stepped has all count d (drop (i + 1) all) c.loop-designator.written c.written_name-name.result c.written_name-name.ensures before)
 
 pub returns : goal.returns
 returns c =

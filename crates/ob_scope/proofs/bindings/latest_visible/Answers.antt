@@ -3,8 +3,8 @@ use Rattle.std.proofs.Common.{◌≡◌, ℕ, ◌<◌, List, Option, Some, None,
 use Rattle.std.specs.Prelude.{IfSome, Contains}
 use Rattle.std.proofs.lemmas.Bool.{false≢true}
 use Rattle.std.proofs.lemmas.Option.{get_or_from_slice_get}
-use Rattle.ob_scope.specs.declared.members.Member.{Member}
-use Rattle.ob_scope.specs.declared.members.Scope.{Scope}
+use Rattle.scopes.specs.declared.members.Member.{Member}
+use Rattle.scopes.specs.declared.members.Scope.{Scope}
 use Rattle.ob_scope.specs.Visibility.{IsIn, IsOpenScope, IsStart}
 use Rattle.ob_scope.proofs.Sighting.{start_back}
 use Rattle.ob_scope.proofs.bindings.latest_visible.Goals as goal
@@ -13,7 +13,7 @@ below : (o : Option ℕ) (k : ℕ) → ((h : ℕ) → o ≡ Some h → h < k) �
 below None k f = tt
 below (Some h) k f = f h Rattle.std.proofs.Common.refl
 
-place_is : (members : List Member) (i b : ℕ) (d : Member) → IsIn members i b → (get_or members i d).place ≡ Rattle.ob_scope.specs.declared.members.Scope.TheVariants.Block b
+place_is : (members : List Member) (i b : ℕ) (d : Member) → IsIn members i b → (get_or members i d).place ≡ Rattle.scopes.specs.declared.members.Scope.TheVariants.Block b
 place_is members i b d p = ap (λ (m : Member). m.place) (get_or_from_slice_get members i p.member d p.there) ∙ p.placed
 
 ended : (members : List Member) (stack : List ℕ) (i : ℕ) (d : Member) → (IsOpenScope stack (get_or members i d).place → ⊥) → (b : ℕ) → IsIn members i b → Contains stack b → ⊥

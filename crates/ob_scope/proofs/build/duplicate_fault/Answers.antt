@@ -3,7 +3,7 @@ use Rattle.std.proofs.Common.{◌≡◌, sym, ap, ◌∙◌, subst, arith}
 use Rattle.std.proofs.lemmas.Option.{get_or_from_slice_get}
 use Rattle.std.specs.Str.{IsUtf8}
 use Rattle.std.specs.String.{string_bytes}
-use Rattle.ob_scope.specs.declared.members.Member.{Member}
+use Rattle.scopes.specs.declared.members.Member.{Member}
 use Rattle.ob_scan.specs.Texts.{text_at, token_at}
 use Rattle.ob_scope.proofs.Assembling.{is_twice}
 use Rattle.std.proofs.lemmas.Grind.{elements}

@@ -1,6 +1,6 @@
--- What the members name are names.
+-- The identifiers of the table are spelled as names.
 use Rattle.std.proofs.Common.{List, arith, sym, subst, ◌∙◌}
-use Rattle.ob_scope.specs.declared.members.Member.{Member}
+use Rattle.scopes.specs.declared.members.Member.{Member}
 use Rattle.ob_scope.specs.WalkOrder.{AreContiguous}
 use Rattle.ob_scope.proofs.Together.{together_of}
 use Rattle.module_table.specs.Tables.{rows_in}

@@ -1,4 +1,4 @@
--- Use after use.
+-- One more use.
 use Rattle.std.proofs.Common.{◌<◌, ◌≤◌, length, ◌∙◌}
 use Rattle.module_table.specs.Tables.{rows_in}
 use Rattle.ob_scope.specs.Crossings.{no_use}
@@ -8,8 +8,8 @@ use Rattle.ob_scope.proofs.Placing.{members_ascend}
 use Rattle.ob_scope.proofs.crossing_uses.crossings.Goals as goal
 use Rattle.ob_scope.proofs.crossing_uses.crossings.Goals.{in-Some+in_ok-push, in_default}
 
-pub crossing_of-requires : goal.crossing_of-requires
-crossing_of-requires c =
+pub find_crossing-requires : goal.find_crossing-requires
+find_crossing-requires c =
     rw (c.as_slice-members.ensures.value, c.in_ok-members.ensures, c.decl_groups.ensures, c.declared.ensures)
     (members_ascend (rows_in c.args.table.now).decl_groups (rows_in c.args.table.now).declared c.invariants.ensures.declared)
 
@@ -24,7 +24,7 @@ loop-used-preserved c = λ bytes ts known.
     let i = c.loop-used.used-index in
     let within : i < length us = c.loop-used-test.true in
     let before = c.loop-used.invariant bytes ts known in
-    elim c.match-crossing_of.branch [
+    elim c.match-find_crossing.branch [
       | in-Some+in_ok-push w ↦ (
           rw (w.found-is, w.in_ok-push.ensures.items)
           (crossings_next name rows c.args.imported.now us c.loop-used.found.items i _ _ within before

@@ -1,4 +1,4 @@
-use Rattle.ob_scope.proofs.Meanings.{no_first, first_once}
+use Rattle.scopes.proofs.Meanings.{no_first, first_once}
 use Rattle.ob_scope.proofs.laws.one_fault.Goals as goal
 
 pub returns-clause-no_pair : goal.returns-clause-no_pair

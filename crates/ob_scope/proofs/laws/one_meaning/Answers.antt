@@ -1,4 +1,4 @@
-use Rattle.ob_scope.proofs.Meanings.{means_once}
+use Rattle.scopes.proofs.Meanings.{means_once}
 use Rattle.ob_scope.proofs.laws.one_meaning.Goals as goal
 
 pub returns : goal.returns

@@ -1,5 +1,5 @@
-use Rattle.ob_scope.specs.Counted.{Crosses}
-use Rattle.ob_scope.proofs.Counting.{counts-once}
+use Rattle.scopes.specs.QualifiedUses.{Crosses}
+use Rattle.scopes.proofs.Counting.{counts-once}
 use Rattle.ob_scope.proofs.laws.one_weight.Goals as goal
 
 pub returns : goal.returns

@@ -1,6 +1,6 @@
--- Identifier after identifier.
+-- One more identifier.
 use Rattle.std.proofs.Common.{◌∷◌, ◌++◌, [], List, None, Some, ap, append-nil, sym, ◌∙◌, arith}
-use Rattle.ob_scope.specs.declared.members.Member.{Member}
+use Rattle.scopes.specs.declared.members.Member.{Member}
 use Rattle.ob_scope.proofs.Placing.{members_more}
 use Rattle.std.proofs.lemmas.Grind.{common_steps}
 use Rattle.ob_scope.proofs.members.declared_members.Goals as goal

@@ -1,5 +1,5 @@
 use Rattle.std.proofs.Common.{◌≡◌, take}
-use Rattle.ob_scope.specs.Members.{declared_members}
+use Rattle.scopes.specs.Members.{declared_members}
 use Rattle.ob_scope.proofs.members.declared_members.Given as goal
 
 abbrev pub invariant-loop-row : goal.invariant-loop-row

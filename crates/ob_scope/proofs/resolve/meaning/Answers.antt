@@ -3,8 +3,8 @@ use Rattle.std.proofs.Common.{◌≡◌, ℕ, List, refl, Bool, true, false, not
 use Rattle.std.proofs.lemmas.Bool.{false≢true}
 use Rattle.module_table.specs.declared.rows.Block.{Block}
 use Rattle.module_table.specs.declared.rows.Used.{Used}
-use Rattle.ob_scope.specs.declared.members.Member.{Member}
-use Rattle.ob_scope.specs.Scope.{ResolvesTo, by_scope, as_target, IsLaterType, ResolvesToNothing}
+use Rattle.scopes.specs.declared.members.Member.{Member}
+use Rattle.scopes.specs.Scope.{ResolvesTo, by_scope, as_target, IsLaterType, ResolvesToNothing}
 use Rattle.ob_scope.specs.Lookups.{use_in}
 use Rattle.ob_scan.specs.Texts.{text_at}
 use Rattle.ob_scope.proofs.Named.{none_then, some_then}
@@ -50,9 +50,9 @@ returns-clause-found c =
     let u = c.args.used in
     let nothing = found_none (goal.at.returns-clause-found c).In_default in
     let target : u.is_target ≡ true = not_false _ c.if-not-used.false in
-    some_then c.later_type.result _ _
+    some_then c.find_later_type.result _ _
     (λ i h. record { member = h.member; there = h.here.there; means = as_target target nothing (later_from_place name c.args.blocks.now c.args.members.now u i h) })
-    c.later_type.ensures.found
+    c.find_later_type.ensures.found
 
 -- what a target means that resolves to nothing
 means_later : (name : ℕ → List ℕ) (blocks : List Block) (ds : List Member) (u : Used) (d : Member) → ResolvesToNothing name blocks ds u → ResolvesTo name blocks ds u d → IsLaterType name ds u d
@@ -64,6 +64,6 @@ returns-clause-none c =
     let name = text_at c.args.text.now.bytes.now c.args.text.now.tokens.now in
     let u = c.args.used in
     let nothing = found_none (goal.at.returns-clause-none c).In_default in
-    none_then c.later_type.result c.later_type.ensures.none (λ none d m.
+    none_then c.find_later_type.result c.find_later_type.ensures.none (λ none d m.
     let p = place_from_later name c.args.blocks.now c.args.members.now u d (means_later name c.args.blocks.now c.args.members.now u d nothing m) in
     none p.0 p.1)

@@ -1,4 +1,4 @@
--- What the search finds.
+-- The result of the binary search.
 use Rattle.std.proofs.Common.{ℕ, rules}
 use Rattle.std.proofs.lemmas.Fn.{always_returns_same}
 use Rattle.module_table.proofs.SearchResult.{searched_found, searched_none}

@@ -1,13 +1,13 @@
--- Use after use.
+-- One more use.
 use Rattle.std.proofs.Common.{◌<◌, length, sym, ◌∙◌, arith}
 use Rattle.std.proofs.lemmas.Option.{slice_get_within, slice_get-get_or}
-use Rattle.ob_scope.specs.Scope.{HasNoDuplicates}
+use Rattle.scopes.specs.Scope.{HasNoDuplicates}
 use Rattle.ob_scan.specs.Texts.{text_at}
 use Rattle.std.proofs.Common.{refl}
 use Rattle.ob_scope.specs.WalkOrder.{use_row}
 use Rattle.ob_scope.proofs.OnWalk.{way_begun}
-use Rattle.ob_scope.proofs.Elements.{contains_slice, some_one}
-use Rattle.ob_scope.proofs.Meanings.{means_as}
+use Rattle.module_table.proofs.Elements.{contains_slice, some_one}
+use Rattle.scopes.proofs.Meanings.{means_as}
 use Rattle.ob_scope.proofs.Finding.{meant_none, meant_other, meant_more, counted_none, counted_other, counted_more}
 use Rattle.std.proofs.lemmas.Grind.{elements}
 use Rattle.ob_scope.proofs.uses.resolve_each.Goals as goal
@@ -39,15 +39,15 @@ bounds-members-at c =
     let h = rw c.in-Some.is at c.in_ok-at.ensures.found in
     slice_get_within c.args.members.now c.in-Some.at h.member h.there
 
-pub count-requires-clause-place : goal.count-requires-clause-place
-count-requires-clause-place c =
+pub count_qualified_use-requires-clause-place : goal.count_qualified_use-requires-clause-place
+count_qualified_use-requires-clause-place c =
     let h = rw c.in-Some.is at c.in_ok-at.ensures.found in
     let within = slice_get_within c.args.members.now c.in-Some.at h.member h.there in
     let long = c.loop-k.invariant.counted.as_many in
     omega arith
 
-pub count-requires-clause-small : goal.count-requires-clause-small
-count-requires-clause-small c =
+pub count_qualified_use-requires-clause-small : goal.count_qualified_use-requires-clause-small
+count_qualified_use-requires-clause-small c =
     let few = c.loop-k.invariant.counted.small c.in-Some.at in
     let less = c.loop-k-test.true in
     omega arith
@@ -68,7 +68,7 @@ loop-k-preserved c =
           let within : i < length members = slice_get_within members i h.member h.there in
           let there = slice_get-get_or members i _ within in
           let means = means_as name blocks members _ h.member _ (some_one h.member _ (sym h.there ∙ there)) h.means in
-          rw (w.meanings-is, w.counts-is, w.in_ok-push.ensures.items, w.count.ensures)
+          rw (w.meanings-is, w.counts-is, w.in_ok-push.ensures.items, w.count_qualified_use.ensures)
           (record {
             meant = meant_more name blocks members uses k c.loop-k.meanings.items _ _ c.requires.uses once c.loop-k.invariant.meant at means;
             bindings = c.in_ok-at.ensures.bindings;

@@ -1,7 +1,7 @@
 use Rattle.std.proofs.Common.{◌≡◌, ℕ, ◌<◌, ◌≤◌, Some, length}
 use Rattle.std.specs.Prelude.{slice_get}
 use Rattle.module_table.specs.declared.rows.Used.{Used}
-use Rattle.ob_scope.specs.declared.members.Member.{Member}
+use Rattle.scopes.specs.declared.members.Member.{Member}
 use Rattle.ob_scope.specs.BindingStates.{AreBindings}
 use Rattle.ob_scan.specs.Texts.{text_at}
 use Rattle.ob_scope.specs.Found.{AreCounted, AreMeant}

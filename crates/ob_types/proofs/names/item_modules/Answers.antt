@@ -3,7 +3,7 @@ use Rattle.std.proofs.Common.{ap, ◌∙◌, map}
 use Rattle.std.specs.Arc.{arc_value}
 use Rattle.std.proofs.lemmas.List.{take_all}
 use Rattle.ob_types.specs.ModuleNumbers.{module_number_in}
-use Rattle.ob_types.specs.Parted.{module_by_item, world_of}
+use Rattle.ob_types.specs.WorldOfParts.{module_by_item, world_of}
 use Rattle.ob_types.proofs.Ascending.{mapped_more}
 use Rattle.ob_types.proofs.names.item_modules.Goals as goal
 

@@ -1,5 +1,5 @@
 use Rattle.std.proofs.Common.{◌≡◌, map, take}
-use Rattle.ob_types.specs.Parted.{module_by_item, world_of}
+use Rattle.ob_types.specs.WorldOfParts.{module_by_item, world_of}
 use Rattle.ob_types.proofs.names.item_modules.Given as goal
 
 abbrev pub invariant-loop-item : goal.invariant-loop-item

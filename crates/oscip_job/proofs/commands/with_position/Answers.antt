@@ -11,4 +11,4 @@ returns c app reads =
     let same : rule_of c.help-path.result ≡ record (new_rule (codes "PATH")) { required = c.args.required } = search rules in
     let before = IfOk-at_ok (λ k. Reads app k.value) c.in_ok-command.was reads in
     let path = subst (λ (r : Rule). IfOk c.with_arg-command.result (λ k. Reads (with_rule app r) k.value)) same (c.with_arg-command.ensures app before) in
-    c.with_number.ensures _ (c.with_number-command.ensures _ path)
+    c.with_number_argument.ensures _ (c.with_number_argument-command.ensures _ path)

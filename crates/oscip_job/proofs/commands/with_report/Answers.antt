@@ -1,4 +1,4 @@
 use Rattle.oscip_job.proofs.commands.with_report.Goals as goal
 
 pub returns : goal.returns
-returns c app reads = c.with_prices.ensures _ (c.with_required-command.ensures app reads)
+returns c app reads = c.with_prices.ensures _ (c.with_required_argument-command.ensures app reads)

@@ -1,7 +1,7 @@
 use Rattle.std.proofs.Common.{List, map, ap, subst, ◌∙◌}
 use Rattle.std.proofs.lemmas.Result.{err_from_is_err_and}
 use Rattle.byte_sink.specs.Sinks.{AppendsPrefix}
-use Rattle.text_escape.specs.Places.{style_of}
+use Rattle.texts.specs.Places.{style_of}
 use Rattle.index_store.specs.Queries.{location_model, LocationModel}
 use Rattle.index_store.specs.Lines.{location_lines}
 use Rattle.oscip_run.specs.CrossingRuns.{location_in_file}

@@ -1,6 +1,6 @@
 use Rattle.std.proofs.Common.{Bool, inr, refl, subst}
 use Rattle.oscip_run.specs.Endings.{AreReported}
-use Rattle.text_escape.specs.Places.{style_of}
+use Rattle.texts.specs.Places.{style_of}
 use Rattle.oscip_run.proofs.ending.end_of_tree.Goals as goal
 
 pub returns : goal.returns

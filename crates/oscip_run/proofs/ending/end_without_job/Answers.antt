@@ -4,7 +4,7 @@ use Rattle.oscip_job.specs.declared.job.JobFault.{JobFault}
 use Rattle.oscip_run.specs.Endings.{EndsByFault, EndsWords}
 use Rattle.oscip_run.specs.Streams.{WritesPrefix}
 use Rattle.oscip_run.specs.declared.fault.RunFault.TheVariants.{Device, Memory}
-use Rattle.text_escape.specs.Places.{raw_style}
+use Rattle.texts.specs.Places.{raw_style}
 use Rattle.oscip_run.proofs.ending.end_without_job.Goals as goal
 
 pub returns-in-Err : goal.returns-in-Err

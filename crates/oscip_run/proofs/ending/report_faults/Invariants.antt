@@ -2,7 +2,7 @@
 use Rattle.std.proofs.Common.{◌≡◌, ◌++◌}
 use Rattle.std.specs.Vec.Iter.{into_iter_items}
 use Rattle.oscip_run.specs.Endings.{AreReported}
-use Rattle.text_escape.specs.Places.{style_of}
+use Rattle.texts.specs.Places.{style_of}
 use Rattle.oscip_run.proofs.ending.report_faults.Given as goal
 
 abbrev pub invariant-loop-fault : goal.invariant-loop-fault

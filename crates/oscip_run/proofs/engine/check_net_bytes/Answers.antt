@@ -10,4 +10,4 @@ returns-in_err-net-clause-run g c =
     rw (p.1, p.2) (no_net (IsNetOfPricedText c.args.network.now (option_copied c.args.prices)) (IsRejectedPricedText c.args.network.now (option_copied c.args.prices)) _ _ _ c.in_err-net.ensures.fault)
 
 pub returns-clause-run : goal.returns-clause-run
-returns-clause-run g c = run_of (IsNetOfPricedText c.args.network.now (option_copied c.args.prices)) (IsRejectedPricedText c.args.network.now (option_copied c.args.prices)) c.in_ok-net.net c.in_ok-net.ensures.net _ _ _ _ c.check_in.ensures.run
+returns-clause-run g c = run_of (IsNetOfPricedText c.args.network.now (option_copied c.args.prices)) (IsRejectedPricedText c.args.network.now (option_copied c.args.prices)) c.in_ok-net.net c.in_ok-net.ensures.net _ _ _ _ c.check_report.ensures.run

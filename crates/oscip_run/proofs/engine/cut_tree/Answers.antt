@@ -10,4 +10,4 @@ returns-in_err-network-clause-run g c =
     rw (p.1, p.2) (no_net (IsNetOfPricedTree c.args.sources.now (option_copied c.args.prices)) (IsRejectedPricedTree c.args.sources.now (option_copied c.args.prices)) _ _ _ _ c.in_err-network.ensures.fault)
 
 pub returns-clause-run : goal.returns-clause-run
-returns-clause-run g c = run_of (IsNetOfPricedTree c.args.sources.now (option_copied c.args.prices)) (IsRejectedPricedTree c.args.sources.now (option_copied c.args.prices)) c.in_ok-network.network c.in_ok-network.ensures.net _ _ _ _ _ c.cut_in.ensures.run
+returns-clause-run g c = run_of (IsNetOfPricedTree c.args.sources.now (option_copied c.args.prices)) (IsRejectedPricedTree c.args.sources.now (option_copied c.args.prices)) c.in_ok-network.network c.in_ok-network.ensures.net _ _ _ _ _ c.solve_and_write.ensures.run

@@ -1,8 +1,8 @@
--- What was put and what is in hand are the lines so far.
+-- The written bytes and the buffered ones are the lines so far.
 use Rattle.std.proofs.Common.{◌≡◌, take}
 use Rattle.std.specs.String.{string_bytes}
 use Rattle.byte_sink.specs.Pieces.{WritesAllBut}
-use Rattle.text_escape.specs.Places.{style_of}
+use Rattle.texts.specs.Places.{style_of}
 use Rattle.oscip_run.specs.FaultRuns.{fault_lines}
 use Rattle.oscip_run.proofs.faults.write_lines.Given as goal
 

@@ -8,5 +8,5 @@ use Rattle.oscip_run.specs.Exclusions.{AreIncludedPaths}
 use Rattle.oscip_run.proofs.folder.paths_below.Goals as goal
 
 pub returns : goal.returns
-returns g c = λ patterns read. c.finish.ensures patterns read
-    (subst (λ (files : List (String Global)). AreIncludedPaths patterns (texts files)) (sym (c.enter.ensures ∙ c.new-2.ensures.items)) (All-nil (λ (path : List ℕ). IsExcluded patterns path → ⊥)))
+returns g c = λ patterns read. c.visit_pending.ensures patterns read
+    (subst (λ (files : List (String Global)). AreIncludedPaths patterns (texts files)) (sym (c.enter_folder.ensures ∙ c.new-2.ensures.items)) (All-nil (λ (path : List ℕ). IsExcluded patterns path → ⊥)))

@@ -1,4 +1,4 @@
--- File after file.
+-- The paths after each file.
 use Rattle.std.proofs.Common.{◌≡◌, ◌<◌, ◌+◌, ◌∙◌, ℕ, List, Option, Some, None, inl, inr, length, get_or, set, refl, sym, ap, subst, arith, Bor}
 use Rattle.std.specs.Prelude.{option_map, slice_get}
 use Rattle.std.specs.String.{string_bytes}

@@ -6,20 +6,20 @@ use Rattle.byte_sink.specs.Pieces.{WritesAllBut}
 use Rattle.byte_sink.proofs.Joining.{front_joined, joined, lines, lines_around, lines_more, puts_then}
 use Rattle.oscip_run.specs.ModuleRuns.{entry_line, entry_of}
 use Rattle.oscip_run.specs.declared.listing.ListedModule.{ListedModule}
-use Rattle.text_escape.specs.Places.{style_of}
+use Rattle.texts.specs.Places.{style_of}
 use Rattle.oscip_run.proofs.listing.write_lines.Goals as goal
 
-pub returns-in_err-gather_line-clause-writes : goal.returns-in_err-gather_line-clause-writes
-returns-in_err-gather_line-clause-writes g c =
+pub returns-in_err-write_line-clause-writes : goal.returns-in_err-write_line-clause-writes
+returns-in_err-write_line-clause-writes g c =
     let p = err_from_is_err_and c.from_residual.result c.from_residual.ensures.1 in
     let around = lines_around entry_of (entry_line (style_of c.args.style)) c.args.modules.now c.loop-listed.listed-index _ c.loop-listed-test.true in
-    rw p.1 (front_joined _ _ _ [] _ _ _ _ _ around c.loop-listed.invariant.gathered c.in_err-gather_line.ensures.error_prefix)
+    rw p.1 (front_joined _ _ _ [] _ _ _ _ _ around c.loop-listed.invariant.gathered c.in_err-write_line.ensures.error_prefix)
 
 pub loop-listed-preserved : goal.loop-listed-preserved
 loop-listed-preserved g c =
     let more = lines_more entry_of (entry_line (style_of c.args.style)) c.args.modules.now c.loop-listed.listed-index _ c.loop-listed-test.true in
     record {
-      gathered = joined _ _ _ [] _ _ _ _ _ more c.loop-listed.invariant.gathered c.in_ok-gather_line.ensures.gathered;
+      gathered = joined _ _ _ [] _ _ _ _ _ more c.loop-listed.invariant.gathered c.in_ok-write_line.ensures.gathered;
       failures = search rules;
     }
 

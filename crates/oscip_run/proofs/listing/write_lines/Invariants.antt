@@ -1,9 +1,9 @@
--- What was written and what is in hand are the lines so far.
+-- The written bytes and the buffered ones are the lines so far.
 use Rattle.std.proofs.Common.{◌≡◌, map, take}
 use Rattle.std.specs.String.{string_bytes}
 use Rattle.byte_sink.specs.Pieces.{WritesAllBut}
 use Rattle.oscip_run.specs.ModuleRuns.{entry_lines, entry_of}
-use Rattle.text_escape.specs.Places.{style_of}
+use Rattle.texts.specs.Places.{style_of}
 use Rattle.oscip_run.proofs.listing.write_lines.Given as goal
 
 abbrev pub invariant-loop-listed : goal.invariant-loop-listed

@@ -13,10 +13,10 @@ returns-in_err-cut_net_bytes-in-Cut-clause-run g c =
 
 pub returns-in-Why-clause-run : goal.returns-in-Why-clause-run
 returns-in-Why-clause-run g c =
-    rw c.in-Why.is (why_of (IsNetOfText c.args.network.now) (IsRejectedText c.args.network.now) _ _ _ _ _ _ _ c.as_str-first.ensures.value c.as_str-last.ensures.value c.why_net_bytes.ensures.run)
+    rw c.in-Why.is (why_of (IsNetOfText c.args.network.now) (IsRejectedText c.args.network.now) _ _ _ _ _ _ _ c.as_str-first.ensures.value c.as_str-last.ensures.value c.write_net_bytes_path.ensures.run)
 
-pub returns-in_err-reach_net_bytes-in-Reach-clause-run : goal.returns-in_err-reach_net_bytes-in-Reach-clause-run
-returns-in_err-reach_net_bytes-in-Reach-clause-run g c =
-    let p = err_from_is_err_and c.from_residual-in_err-reach_net_bytes-in-Reach.result c.from_residual-in_err-reach_net_bytes-in-Reach.ensures.1 in
+pub returns-in_err-list_net_bytes_reach-in-Reach-clause-run : goal.returns-in_err-list_net_bytes_reach-in-Reach-clause-run
+returns-in_err-list_net_bytes_reach-in-Reach-clause-run g c =
+    let p = err_from_is_err_and c.from_residual-in_err-list_net_bytes_reach-in-Reach.result c.from_residual-in_err-list_net_bytes_reach-in-Reach.ensures.1 in
     rw (c.in-Reach.is, p.1, p.2) (refused_reach (IsNetOfText c.args.network.now) (IsRejectedText c.args.network.now) c.as_str-module.result.now (string_bytes c.in-Reach.reaching.module) c.in-Reach.reaching.direction (g.S.Sink.taken c.args.sink.now)
-    (g.S.Sink.taken c.reach_net_bytes.new.sink) _ c.as_str-module.ensures.value c.in_err-reach_net_bytes-in-Reach.ensures.run)
+    (g.S.Sink.taken c.list_net_bytes_reach.new.sink) _ c.as_str-module.ensures.value c.in_err-list_net_bytes_reach-in-Reach.ensures.run)

@@ -14,10 +14,10 @@ returns-in_err-cut_tree-in-Cut-clause-run g c =
 
 pub returns-in-Why-clause-run : goal.returns-in-Why-clause-run
 returns-in-Why-clause-run g c =
-    rw c.in-Why.is (why_of (IsNetOfTree c.args.sources.now) (IsRejectedTree c.args.sources.now) _ _ _ _ _ _ _ c.as_str-first.ensures.value c.as_str-last.ensures.value c.why_tree.ensures.run)
+    rw c.in-Why.is (why_of (IsNetOfTree c.args.sources.now) (IsRejectedTree c.args.sources.now) _ _ _ _ _ _ _ c.as_str-first.ensures.value c.as_str-last.ensures.value c.write_tree_path.ensures.run)
 
-pub returns-in_err-reach_tree-in-Reach-clause-run : goal.returns-in_err-reach_tree-in-Reach-clause-run
-returns-in_err-reach_tree-in-Reach-clause-run g c =
-    let p = err_from_is_err_and c.from_residual-in_err-reach_tree-in-Reach.result c.from_residual-in_err-reach_tree-in-Reach.ensures.1 in
+pub returns-in_err-list_tree_reach-in-Reach-clause-run : goal.returns-in_err-list_tree_reach-in-Reach-clause-run
+returns-in_err-list_tree_reach-in-Reach-clause-run g c =
+    let p = err_from_is_err_and c.from_residual-in_err-list_tree_reach-in-Reach.result c.from_residual-in_err-list_tree_reach-in-Reach.ensures.1 in
     rw (c.in-Reach.is, p.1, p.2) (refused_reach (IsNetOfTree c.args.sources.now) (IsRejectedTree c.args.sources.now) c.as_str-module.result.now (string_bytes c.in-Reach.reaching.module) c.in-Reach.reaching.direction (g.S.Sink.taken c.args.sink.now)
-    (g.S.Sink.taken c.reach_tree.new.sink) _ c.as_str-module.ensures.value c.in_err-reach_tree-in-Reach.ensures.run)
+    (g.S.Sink.taken c.list_tree_reach.new.sink) _ c.as_str-module.ensures.value c.in_err-list_tree_reach-in-Reach.ensures.run)

@@ -1,5 +1,5 @@
 use Rattle.std.specs.String.{string_bytes}
-use Rattle.ob_board.specs.Seen.{file_models}
+use Rattle.ob_board.specs.SourceParts.{file_models}
 use Rattle.oscip_tests.proofs.workers.gathered_bytes.Given as goal
 
 abbrev pub ghosts-gathered : goal.ghosts-gathered

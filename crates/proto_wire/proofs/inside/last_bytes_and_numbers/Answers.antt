@@ -11,10 +11,10 @@ loop-wire-preserved c =
     let more = each_then c.args.numbers_field numbers_in (records_of c.loop-wire.rest) p (records_of c.next_record.new.rest) c.in-Some.ensures.some in
     record {
       text = c.loop-wire.invariant.text
-          ∙ latest_then c.args.text_field bytes_in c.loop-wire.text.now c.later_bytes-text.result.now (records_of c.loop-wire.rest) p (records_of c.next_record.new.rest) c.in-Some.ensures.some c.later_bytes-text.ensures;
+          ∙ latest_then c.args.text_field bytes_in c.loop-wire.text.now c.bytes_or_last-text.result.now (records_of c.loop-wire.rest) p (records_of c.next_record.new.rest) c.in-Some.ensures.some c.bytes_or_last-text.ensures;
       numbers = c.loop-wire.invariant.numbers ∙ ap (λ (zs : List ℤ). c.loop-wire.numbers.items ++ zs) more
           ∙ sym (append_assoc c.loop-wire.numbers.items (if_field c.args.numbers_field c.in-Some.wire (numbers_in p)) (each_of c.args.numbers_field numbers_in (records_of c.next_record.new.rest)))
-          ∙ ap (λ (zs : List ℤ). zs ++ each_of c.args.numbers_field numbers_in (records_of c.next_record.new.rest)) (sym c.in_ok-push_field_numbers.ensures.numbers);
+          ∙ ap (λ (zs : List ℤ). zs ++ each_of c.args.numbers_field numbers_in (records_of c.next_record.new.rest)) (sym c.in_ok-append_field_numbers.ensures.numbers);
       within = c.in-Some.ensures.within ∙ c.loop-wire.invariant.within;
     }
 

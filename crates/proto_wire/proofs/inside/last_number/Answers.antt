@@ -8,7 +8,7 @@ use Rattle.proto_wire.proofs.inside.last_number.Goals as goal
 pub loop-wire-preserved : goal.loop-wire-preserved
 loop-wire-preserved c = record {
   same = c.loop-wire.invariant.same
-      ∙ latest_then c.args.field number_in (to_z w32 c.loop-wire.last-bits) _ (records_of c.loop-wire.rest) (payload_record c.in-Some.wire c.in-Some.field-0-1.now) (records_of c.next_record.new.rest) c.in-Some.ensures.some (to_z-of_z w32 c.later_number-last.result c.later_number-last.ensures.fits ∙ c.later_number-last.ensures.exact);
+      ∙ latest_then c.args.field number_in (to_z w32 c.loop-wire.last-bits) _ (records_of c.loop-wire.rest) (payload_record c.in-Some.wire c.in-Some.field-0-1.now) (records_of c.next_record.new.rest) c.in-Some.ensures.some (to_z-of_z w32 c.number_or_last-last.result c.number_or_last-last.ensures.fits ∙ c.number_or_last-last.ensures.exact);
   within = c.in-Some.ensures.within ∙ c.loop-wire.invariant.within;
 }
 

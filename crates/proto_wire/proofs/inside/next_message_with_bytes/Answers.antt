@@ -5,25 +5,25 @@ use Rattle.proto_wire.specs.Messages.{bytes_in, each_of, nested_records, payload
 use Rattle.proto_wire.proofs.InsideLaws.{each_none, each_then, latest_none, latest_then}
 use Rattle.proto_wire.proofs.inside.next_message_with_bytes.Goals as goal
 
-pub returns-in-Some-message_of-clause-some : goal.returns-in-Some-message_of-clause-some
-returns-in-Some-message_of-clause-some c =
+pub returns-in-Some-nested_message-clause-some : goal.returns-in-Some-nested_message-clause-some
+returns-in-Some-nested_message-clause-some c =
     let p = payload_record c.in-Some.wire c.in-Some.payload.now in
     c.loop-wire.invariant.same ∙ each_then c.args.field nested_records (records_of c.loop-wire.rest) p (records_of c.next_record.new.rest) c.in-Some.ensures.some
-    ∙ ap (λ (ms : List (List PayloadRecord)). ms ++ each_of c.args.field nested_records (records_of c.next_record.new.rest)) c.in-Some-message_of.ensures.some
+    ∙ ap (λ (ms : List (List PayloadRecord)). ms ++ each_of c.args.field nested_records (records_of c.next_record.new.rest)) c.in-Some-nested_message.ensures.some
 
-pub returns-in-Some-message_of-clause-so_far : goal.returns-in-Some-message_of-clause-so_far
-returns-in-Some-message_of-clause-so_far c =
+pub returns-in-Some-nested_message-clause-so_far : goal.returns-in-Some-nested_message-clause-so_far
+returns-in-Some-nested_message-clause-so_far c =
     c.loop-wire.invariant.latest_same
-    ∙ latest_then c.args.bytes_field bytes_in c.loop-wire.last.now c.later_bytes-last.result.now (records_of c.loop-wire.rest) (payload_record c.in-Some.wire c.in-Some.payload.now) (records_of c.next_record.new.rest) c.in-Some.ensures.some c.later_bytes-last.ensures
+    ∙ latest_then c.args.bytes_field bytes_in c.loop-wire.last.now c.bytes_or_last-last.result.now (records_of c.loop-wire.rest) (payload_record c.in-Some.wire c.in-Some.payload.now) (records_of c.next_record.new.rest) c.in-Some.ensures.some c.bytes_or_last-last.ensures
 
 pub loop-wire-preserved : goal.loop-wire-preserved
 loop-wire-preserved c =
     let p = payload_record c.in-Some.wire c.in-Some.payload.now in
     record {
       same = c.loop-wire.invariant.same ∙ each_then c.args.field nested_records (records_of c.loop-wire.rest) p (records_of c.next_record.new.rest) c.in-Some.ensures.some
-          ∙ ap (λ (ms : List (List PayloadRecord)). ms ++ each_of c.args.field nested_records (records_of c.next_record.new.rest)) c.in_default-message_of.ensures.none;
+          ∙ ap (λ (ms : List (List PayloadRecord)). ms ++ each_of c.args.field nested_records (records_of c.next_record.new.rest)) c.in_default-nested_message.ensures.none;
       latest_same = c.loop-wire.invariant.latest_same
-          ∙ latest_then c.args.bytes_field bytes_in c.loop-wire.last.now c.later_bytes-last.result.now (records_of c.loop-wire.rest) p (records_of c.next_record.new.rest) c.in-Some.ensures.some c.later_bytes-last.ensures;
+          ∙ latest_then c.args.bytes_field bytes_in c.loop-wire.last.now c.bytes_or_last-last.result.now (records_of c.loop-wire.rest) p (records_of c.next_record.new.rest) c.in-Some.ensures.some c.bytes_or_last-last.ensures;
       within = c.in-Some.ensures.within ∙ c.loop-wire.invariant.within;
       shorter = omega (arith, c.in-Some.ensures.shorter, c.loop-wire.invariant.shorter);
     }

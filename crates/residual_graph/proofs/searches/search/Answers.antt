@@ -17,9 +17,9 @@ returns-clause-reached c =
 
 pub loop-place-preserved : goal.loop-place-preserved
 loop-place-preserved c = record {
-  seen_size = c.in_ok-visit.ensures.reached_flags;
-  levels_size = c.in_ok-visit.ensures.levels;
-  search = c.in_ok-visit.ensures.search c.args.start c.loop-place.invariant.search;
+  seen_size = c.in_ok-visit_heads.ensures.reached_flags;
+  levels_size = c.in_ok-visit_heads.ensures.levels;
+  search = c.in_ok-visit_heads.ensures.search c.args.start c.loop-place.invariant.search;
 }
 
 pub loop-place-smaller : goal.loop-place-smaller
@@ -33,8 +33,8 @@ loop-place-smaller c =
     let ok = c.loop-place.places.ok.0 in
     omega arith
 
-pub visit-requires-clause-node : goal.visit-requires-clause-node
-visit-requires-clause-node c =
+pub visit_heads-requires-clause-node : goal.visit_heads-requires-clause-node
+visit_heads-requires-clause-node c =
     let within = c.loop-place-test.true in
     let len = c.len.ensures in
     let ok = c.loop-place.places.ok.0 in

@@ -25,8 +25,8 @@ returns-then-is_some-clause-found c = λ bytes front s.
     let k = c.records.invariant.skipped bytes front s in
     let t = here.ensures.taken bytes (front ++ k.0) k.1 in
     let same = append_assoc front k.0 (t.0 ∷ []) in
-    let metadata = option_map metadata_model c.take_record.new.metadata in
-    let externals = map symbol_model c.take_record.new.externals.items in (
+    let metadata = option_map metadata_model c.decode_first_record.new.metadata in
+    let externals = map symbol_model c.decode_first_record.new.externals.items in (
       k.0 ++ t.0 ∷ [],
       subst (λ (ps : List PayloadRecord). IsReaderAt bytes ps here.next here.after.now metadata externals) same t.1,
       ap documents_in (sym same) ∙ t.2 ∙ ap (λ (ds : List DocumentModel). ds ++ map document_model (option_to_list here.document)) k.2,
@@ -42,8 +42,8 @@ records-preserved c =
           let k = c.records.invariant.skipped bytes front s in
           let t = here.ensures.taken bytes (front ++ k.0) k.1 in
           let same = append_assoc front k.0 (t.0 ∷ []) in
-          let metadata = option_map metadata_model c.take_record.new.metadata in
-          let externals = map symbol_model c.take_record.new.externals.items in (
+          let metadata = option_map metadata_model c.decode_first_record.new.metadata in
+          let externals = map symbol_model c.decode_first_record.new.externals.items in (
             k.0 ++ t.0 ∷ [],
             subst (λ (ps : List PayloadRecord). IsReaderAt bytes ps here.next here.after.now metadata externals) same t.1,
             ap documents_in (sym same) ∙ t.2 ∙ ap (λ (ds : List DocumentModel). ds ++ map document_model (option_to_list here.document)) k.2

@@ -7,4 +7,4 @@ use Rattle.scip_symbol.proofs.reader.read.Goals as goal
 
 pub returns-clause-only : goal.returns-clause-only
 returns-clause-only c =
-    λ o is. HasOutcome-weaker symbol_model c.read_any.result (IsReadOutcome c.args.text.now) (λ p. p ≡ o) c.read_any.ensures (λ p other. outcome_once c.args.text.now p o other is)
+    λ o is. HasOutcome-weaker symbol_model c.read_symbol.result (IsReadOutcome c.args.text.now) (λ p. p ≡ o) c.read_symbol.ensures (λ p other. outcome_once c.args.text.now p o other is)

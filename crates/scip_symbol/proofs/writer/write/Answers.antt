@@ -8,4 +8,4 @@ use Rattle.scip_symbol.proofs.writer.write.Goals as goal
 
 pub returns-clause-only : goal.returns-clause-only
 returns-clause-only c =
-    λ o is. HasOutcome-weaker (string_bytes {Z = Global}) c.write_any.result (IsWriteOutcome (symbol_model c.args.symbol.now)) (λ p. p ≡ o) c.write_any.ensures (λ p other. written_once (symbol_model c.args.symbol.now) p o other is)
+    λ o is. HasOutcome-weaker (string_bytes {Z = Global}) c.check_and_write.result (IsWriteOutcome (symbol_model c.args.symbol.now)) (λ p. p ≡ o) c.check_and_write.ensures (λ p other. written_once (symbol_model c.args.symbol.now) p o other is)

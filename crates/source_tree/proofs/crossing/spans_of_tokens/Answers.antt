@@ -1,4 +1,4 @@
--- What one reading of the file finds holds of each.
+-- The ranges of one reading of the file are those of each reading.
 use Rattle.std.proofs.Common.{ℕ, List, subst}
 use Rattle.module_table.specs.Tables.{rows_in}
 use Rattle.ob_scan.specs.declared.token.Token.{Token}

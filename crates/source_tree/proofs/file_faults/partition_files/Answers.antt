@@ -1,13 +1,13 @@
 use Rattle.std.proofs.Common.{◌≡◌, ◌∙◌, List, ap, length, sym, subst}
-use Rattle.source_tree.specs.OwnFaults.{accepted_in, faults_in, ArePartitionedFiles, AreVerdicts, Verdict}
+use Rattle.source_tree.specs.FileFaults.{accepted_in, faults_in, ArePartitionedFiles, AreVerdicts, Verdict}
 use Rattle.source_tree.specs.Sources.{ArePathsInOrder}
 use Rattle.source_tree.specs.declared.source.Source.{Source}
 use Rattle.source_tree.specs.declared.tree_fault.TreeFault.{TreeFault}
-use Rattle.source_tree.proofs.OwnFaults.{accepted_in_order, as_many_verdicts, parted}
+use Rattle.source_tree.proofs.FileFaults.{accepted_in_order, as_many_verdicts, parted}
 use Rattle.source_tree.proofs.file_faults.partition_files.Goals as goal
 
-pub accepted_by-requires : goal.accepted_by-requires
-accepted_by-requires g c =
+pub select_accepted-requires : goal.select_accepted-requires
+select_accepted-requires g c =
     ap (length {A = Verdict}) c.as_slice-2.ensures.value ∙ as_many_verdicts c.args.sources.items c.in_ok-verdicts.verdicts.items (subst (λ (sources : List Source). AreVerdicts sources c.in_ok-verdicts.verdicts.items) c.as_slice.ensures.value c.in_ok-verdicts.ensures)
 
 pub returns-clause-parted : goal.returns-clause-parted

@@ -1,6 +1,6 @@
 use Rattle.std.proofs.Common.{◌≡◌, ◌++◌}
 use Rattle.std.specs.Vec.Iter.{into_iter_items}
-use Rattle.source_tree.specs.OwnFaults.{faults_in, scopes_in}
+use Rattle.source_tree.specs.FileFaults.{faults_in, scopes_in}
 use Rattle.source_tree.proofs.file_faults.split_verdicts.Given as goal
 
 abbrev pub invariant-loop-verdict : goal.invariant-loop-verdict

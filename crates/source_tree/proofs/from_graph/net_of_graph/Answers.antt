@@ -1,4 +1,4 @@
--- The names in order, and the imports between the places of their modules there.
+-- The sorted names, and the imports between the indices of their modules.
 use Rattle.std.proofs.Common.{◌≡◌, ℕ, ◌<◌, List, map, sym, subst, arith}
 use Rattle.std.specs.Prelude.{All, IsPermutation}
 use Rattle.std.specs.List.{IsDistinct}
@@ -27,8 +27,8 @@ ranks_of-requires-clause-within c =
     let long = order_long g.names order c.by_name-order.ensures c.invariants.ensures.apart in
     subst (λ (n : ℕ). All (λ v. v < n) order) (sym long) c.by_name-order.ensures.within
 
-pub imports_with-requires-clause-all_ranked : goal.imports_with-requires-clause-all_ranked
-imports_with-requires-clause-all_ranked c =
+pub weighted_imports-requires-clause-all_ranked : goal.weighted_imports-requires-clause-all_ranked
+weighted_imports-requires-clause-all_ranked c =
     let g = c.args.graph.now in
     let order = c.by_name-order.result.now in
     let long = order_long g.names order c.by_name-order.ensures c.invariants.ensures.apart in

@@ -1,5 +1,5 @@
 use Rattle.std.proofs.Common.{ℕ, List, subst}
-use Rattle.ob_parse.specs.Parsed.{IsTheTree}
+use Rattle.ob_grammar.specs.Parsed.{IsTheTree}
 use Rattle.source_tree.proofs.front_end.table_from_tokens.Goals as goal
 
 pub returns-in-Ok-clause-table : goal.returns-in-Ok-clause-table

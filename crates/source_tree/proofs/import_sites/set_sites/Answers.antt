@@ -7,8 +7,8 @@ use Rattle.std.proofs.lemmas.Option.{slice_get-get_or}
 use Rattle.cut_net.specs.declared.priced.Priced.{Priced}
 use Rattle.cut_net.specs.Network.{missing_item}
 use Rattle.cut_net.specs.Prices.{is_named}
-use Rattle.ob_scope.specs.declared.module_scopes.Alias.{Alias}
-use Rattle.ob_scope.specs.Kept.{alias_of}
+use Rattle.scopes.specs.declared.module_scopes.Alias.{Alias}
+use Rattle.scopes.specs.ScopesInvariant.{alias_of}
 use Rattle.source_tree.specs.Located.{no_site, IsSetFrom}
 use Rattle.source_tree.specs.declared.import_sites.ImportSite.{ImportSite}
 use Rattle.source_tree.proofs.ImportSites.{alias_at, set_none, set_one, set_past}
@@ -37,7 +37,7 @@ loop-passed-preserved c =
     let there : slice_get s.aliases low ≡ Some alias = alias_at rows s.aliases low row c.aliases-aliases.ensures (omega arith) c.index-aliases-item.is in
     let so_far : (k : ℕ) → k < length net.imports → IsSetFrom (low + 1) net f s items (get_or net.imports k missing_item) (get_or olds k no_site) (get_or c.loop-passed.sites.items k no_site) =
     λ k lt. subst (λ (n : ℕ). IsSetFrom n net f s items (get_or net.imports k missing_item) (get_or olds k no_site) (get_or c.loop-passed.sites.items k no_site)) next (c.loop-passed.invariant.set k lt) in
-    elim c.match-import_named.branch [
+    elim c.match-find_import_number.branch [
       | in-Some w ↦
           let named : is_named net s.name alias.imported (get_or net.imports w.in-Some.import missing_item) ≡ true =
           subst (λ (a : List ℕ). is_named net a alias.imported (get_or net.imports w.in-Some.import missing_item) ≡ true) c.name.ensures
@@ -48,18 +48,18 @@ loop-passed-preserved c =
           record {
             size = ap vec_len w.sites-is ∙ c.loop-passed.invariant.size;
             set = λ k lt.
-                subst (λ (n : ℕ). IsSetFrom n net f s items (get_or net.imports k missing_item) (get_or olds k no_site) (get_or c.match-import_named.sites.items k no_site)) last
+                subst (λ (n : ℕ). IsSetFrom n net f s items (get_or net.imports k missing_item) (get_or olds k no_site) (get_or c.match-find_import_number.sites.items k no_site)) last
                 (subst (λ (v : Vec ImportSite Global). IsSetFrom low net f s items (get_or net.imports k missing_item) (get_or olds k no_site) (get_or v.items k no_site)) (sym w.sites-is)
                 (set_one net network f s items low alias there w.in-Some.import (get_or items low (record { line = 0; column = 0 })) w.in-Some.ensures.found.0 named (slice_get-get_or items low (record { line = 0; column = 0 }) (omega arith)) olds c.loop-passed.sites.items (omega arith) so_far k lt));
           }
       | in_default w ↦
           let none : (i : Priced) → Contains net.imports i → is_named net s.name alias.imported i ≡ true → ⊥ =
           subst (λ (a : List ℕ). (i : Priced) → Contains net.imports i → is_named net a alias.imported i ≡ true → ⊥) c.name.ensures
-          (subst (λ (b : List ℕ). (i : Priced) → Contains net.imports i → is_named net c.name.result.now b i ≡ true → ⊥) text (rw w.in_default.is at c.import_named.ensures.none)) in
+          (subst (λ (b : List ℕ). (i : Priced) → Contains net.imports i → is_named net c.name.result.now b i ≡ true → ⊥) text (rw w.in_default.is at c.find_import_number.ensures.none)) in
           record {
             size = ap vec_len w.sites-is ∙ c.loop-passed.invariant.size;
             set = λ k lt.
-                subst (λ (n : ℕ). IsSetFrom n net f s items (get_or net.imports k missing_item) (get_or olds k no_site) (get_or c.match-import_named.sites.items k no_site)) last
+                subst (λ (n : ℕ). IsSetFrom n net f s items (get_or net.imports k missing_item) (get_or olds k no_site) (get_or c.match-find_import_number.sites.items k no_site)) last
                 (subst (λ (v : Vec ImportSite Global). IsSetFrom low net f s items (get_or net.imports k missing_item) (get_or olds k no_site) (get_or v.items k no_site)) (sym w.sites-is)
                 (set_none net network f s items low alias there none olds c.loop-passed.sites.items so_far k lt));
           }

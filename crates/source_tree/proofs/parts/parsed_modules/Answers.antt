@@ -19,9 +19,9 @@ loop-i-preserved c files are =
     let at_source : slice_get sources i ≡ Some source = slice_get-get_or sources i source within ∙ ap Some (sym c.index-sources-i.is) in
     let at_parts : slice_get modules i ≡ Some parts = slice_get-get_or modules i parts within_modules ∙ ap Some (sym c.index-modules-i.is) in
     let at_scopes = slice_get-map (λ b. b.value.scopes) modules i ∙ ap (option_map (λ b. b.value.scopes)) at_parts in
-    let message = rw c.deref.ensures at c.in_ok-parsed_of.ensures in
+    let message = rw c.deref.ensures at c.in_ok-graph_input.ensures in
     rw c.in_ok-push.ensures.items
-    (parsed_next sources (map (λ b. b.value.scopes) modules) files c.loop-i.all.items c.in_ok-parsed_of.field-0 i source parts.value.scopes (parts_read sources files modules are) within at_source at_scopes message (c.loop-i.invariant files are))
+    (parsed_next sources (map (λ b. b.value.scopes) modules) files c.loop-i.all.items c.in_ok-graph_input.field-0 i source parts.value.scopes (parts_read sources files modules are) within at_source at_scopes message (c.loop-i.invariant files are))
 
 pub returns : goal.returns
 returns c files are =

@@ -4,7 +4,7 @@ use Rattle.module_table.specs.Tables.{rows_in}
 use Rattle.module_table.specs.Parts.{Rows}
 use Rattle.ob_interface.specs.Interfaces.{interface_of}
 use Rattle.ob_scan.specs.declared.token.Token.{Token}
-use Rattle.ob_scope.specs.Scoped.{AreScopes}
+use Rattle.scopes.specs.Scoped.{AreScopes}
 use Rattle.source_tree.proofs.parts.parts_from_scopes.Goals as goal
 
 pub returns : goal.returns

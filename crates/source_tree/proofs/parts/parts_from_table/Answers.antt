@@ -2,7 +2,8 @@ use Rattle.std.proofs.Common.{ℕ, List, subst}
 use Rattle.module_table.specs.Tables.{rows_in}
 use Rattle.module_table.specs.Parts.{Rows}
 use Rattle.ob_scan.specs.declared.token.Token.{Token}
-use Rattle.ob_scope.specs.Scoped.{AreScopes, IsScopeFault}
+use Rattle.scopes.specs.Scoped.{AreScopes}
+use Rattle.ob_scope.specs.Faults.{IsScopeFault}
 use Rattle.source_tree.proofs.TreeRows.{tree_rows_of}
 use Rattle.source_tree.proofs.parts.parts_from_table.Goals as goal
 
@@ -15,7 +16,7 @@ scopes_from-requires-clause-spelled c = rw (c.as_slice.ensures, c.as_slice-2.ens
 pub scopes_from-requires-clause-rows : goal.scopes_from-requires-clause-rows
 scopes_from-requires-clause-rows c =
     let (tree, is_tree, same) = c.requires.parsed in
-    tree_rows_of c.args.tokens c.as_slice.result.now (rows_in c.args.table) tree c.as_slice.ensures same (c.tree_rows.ensures _ tree is_tree.tree.derived)
+    tree_rows_of c.args.tokens c.as_slice.result.now (rows_in c.args.table) tree c.as_slice.ensures same (c.tree_table_is_valid.ensures _ tree is_tree.tree.derived)
 
 pub parts_from_scopes-requires-clause-scoped : goal.parts_from_scopes-requires-clause-scoped
 parts_from_scopes-requires-clause-scoped c =

@@ -9,8 +9,8 @@ use Rattle.source_tree.proofs.parts.tree_parts.Goals as goal
 pub returns-clause-parts : goal.returns-clause-parts
 returns-clause-parts g c =
     let (files, are) = c.in_ok-modules.ensures.kept in
-    let message = c.in_ok-message.ensures files (subst (AreAllParts c.args.sources.now files) (sym c.as_slice.ensures.value) are) in
-    let whole : parsed_files c.as_slice-2.result.now ≡ files_of files = ap parsed_files c.as_slice-2.ensures.value ∙ message in
+    let graph_inputs = c.in_ok-graph_inputs.ensures files (subst (AreAllParts c.args.sources.now files) (sym c.as_slice.ensures.value) are) in
+    let whole : parsed_files c.as_slice-2.result.now ≡ files_of files = ap parsed_files c.as_slice-2.ensures.value ∙ graph_inputs in
     let (kept, acyclic) = c.in_ok-graph.ensures.exact in (
       files,
       record {

@@ -7,15 +7,15 @@ use Rattle.module_table.specs.declared.builder.Context.{Context}
 use Rattle.module_table.specs.TableStages.{after}
 use Rattle.module_table.specs.Parts.{in_block}
 use Rattle.module_table.specs.Parts.{each as pieces}
-use Rattle.ob_parse.specs.Lookahead.{is_word}
-use Rattle.ob_parse.specs.Combinators.{begins, seq, expect_at, name_at, optional, accept_at, limit_at}
-use Rattle.ob_parse.specs.AgreesWith.{remaining}
-use Rattle.ob_parse.specs.ReadExpressions.{expr_at}
-use Rattle.ob_parse.specs.ReadStatements.{block_at}
-use Rattle.ob_parse.specs.ReadTypes.{type_at}
-use Rattle.ob_parse.specs.ReadModules.{const_with, type_decl_with, variable_with, with_semicolon, procedure_at, procedures_with, declarations_at, body_with, procedure_named}
-use Rattle.ob_parse.proofs.Loops.{has_begun, has_not_begun}
-use Rattle.ob_parse.proofs.LoopProcedures.{procedure_advances}
+use Rattle.ob_grammar.specs.Lookahead.{is_word}
+use Rattle.ob_grammar.specs.Combinators.{begins, seq, expect_at, name_at, optional, accept_at, limit_at}
+use Rattle.ob_grammar.specs.AgreesWith.{remaining}
+use Rattle.ob_grammar.specs.ReadExpressions.{expr_at}
+use Rattle.ob_grammar.specs.ReadStatements.{block_at}
+use Rattle.ob_grammar.specs.ReadTypes.{type_at}
+use Rattle.ob_grammar.specs.ReadModules.{const_with, type_decl_with, variable_with, with_semicolon, procedure_at, procedures_with, declarations_at, body_with, procedure_named}
+use Rattle.ob_grammar.proofs.Loops.{has_begun, has_not_begun}
+use Rattle.ob_grammar.proofs.LoopProcedures.{procedure_advances}
 use Rattle.table_reader.specs.DeclarationShapes.{ended_events, ended_rows}
 use Rattle.table_reader.proofs.Combine.{failed_then}
 use Rattle.table_reader.proofs.Lists.{Any, listing_failed, listing_smaller, pieces_begun, pieces_done, pieces_more}
@@ -47,12 +47,12 @@ procedures-returns-clause-effect t c =
     pieces_done c.args.source.now.tokens.now (begins (is_word kinds.Procedure)) (with_semicolon (procedure_at c.args.depth)) (ended_events procedure_events) (ended_rows procedure_rows) c.args.context
     (procedure_advances c.args.depth) _ _ c.args.input c.more.here (has_not_begun (is_word kinds.Procedure) _ (sym c.is_at.ensures ∙ c.more-test.false)) c.more.invariant.0
 
-pub ended_procedure-returns-in-Ok-clause-effect : goal.ended_procedure-returns-in-Ok-clause-effect
-ended_procedure-returns-in-Ok-clause-effect t c =
-    with_semicolon_told c.args.source.now.tokens.now procedure_events procedure_rows c.args.context (procedure_at c.args.depth) _ _ _ c.args.input c.in-Ok.here _ c.in-Ok.ensures.effect c.pass_word.ensures.effect
+pub procedure_with_semicolon-returns-in-Ok-clause-effect : goal.procedure_with_semicolon-returns-in-Ok-clause-effect
+procedure_with_semicolon-returns-in-Ok-clause-effect t c =
+    with_semicolon_told c.args.source.now.tokens.now procedure_events procedure_rows c.args.context (procedure_at c.args.depth) _ _ _ c.args.input c.in-Ok.here _ c.in-Ok.ensures.effect c.expect_word.ensures.effect
 
-pub ended_procedure-returns-in-Err-clause-effect : goal.ended_procedure-returns-in-Err-clause-effect
-ended_procedure-returns-in-Err-clause-effect t c = failed_then c.args.source.now.tokens.now (procedure_at c.args.depth) (expect_at kinds.Semicolon) c.in-Err.stop _ c.in-Err.ensures.effect
+pub procedure_with_semicolon-returns-in-Err-clause-effect : goal.procedure_with_semicolon-returns-in-Err-clause-effect
+procedure_with_semicolon-returns-in-Err-clause-effect t c = failed_then c.args.source.now.tokens.now (procedure_at c.args.depth) (expect_at kinds.Semicolon) c.in-Err.stop _ c.in-Err.ensures.effect
 
 pub procedure-returns-then-depth-eq0-clause-effect : goal.procedure-returns-then-depth-eq0-clause-effect
 unfolding procedure_at limit_at
@@ -63,26 +63,26 @@ procedure-returns-clause-effect t c = rw (procedure_deeper c.args.depth (remaini
 
 pub procedure_within-returns-in-Ok-clause-effect : goal.procedure_within-returns-in-Ok-clause-effect
 procedure_within-returns-in-Ok-clause-effect t c =
-    within_told c.args.source.now.tokens.now (expr_at c.args.depth) (block_at c.args.depth) (declarations_at c.args.depth) c.args.context c.block_from-around.result c.decl_group_at-row.result c.open-at.result _ c.open-at.new.self c.add_block.new.self _ _ c.args.input c.in-Ok.here
-    c.decl_group_at-row.ensures (c.block_from-around.ensures ∙ ap (λ (d : Context). in_block d c.args.builder.now.number) c.declaring_from.ensures) c.open-at.ensures.slot c.open-at.ensures.stage c.add_block.ensures.stage c.in-Ok.ensures.effect c.close.ensures.stage
+    within_told c.args.source.now.tokens.now (expr_at c.args.depth) (block_at c.args.depth) (declarations_at c.args.depth) c.args.context c.block_context-around.result c.new_decl_group-row.result c.open_decl_group-at.result _ c.open_decl_group-at.new.self c.add_block.new.self _ _ c.args.input c.in-Ok.here
+    c.new_decl_group-row.ensures (c.block_context-around.ensures ∙ ap (λ (d : Context). in_block d c.args.builder.now.number) c.decl_group_context.ensures) c.open_decl_group-at.ensures.slot c.open_decl_group-at.ensures.stage c.add_block.ensures.stage c.in-Ok.ensures.effect c.close_decl_group.ensures.stage
 
 pub procedure_within-returns-in-Err-clause-effect : goal.procedure_within-returns-in-Err-clause-effect
 procedure_within-returns-in-Err-clause-effect t c = within_failed c.args.source.now.tokens.now (expr_at c.args.depth) (block_at c.args.depth) (declarations_at c.args.depth) c.in-Err.stop _ c.in-Err.ensures.effect
 
-pub procedure_inner-returns-in-Ok-identifier-clause-effect : goal.procedure_inner-returns-in-Ok-identifier-clause-effect
-procedure_inner-returns-in-Ok-identifier-clause-effect t c =
+pub procedure_in_block-returns-in-Ok-identifier-clause-effect : goal.procedure_in_block-returns-in-Ok-identifier-clause-effect
+procedure_in_block-returns-in-Ok-identifier-clause-effect t c =
     inner_told c.args.source.now.tokens.now (procedure_named (expr_at c.args.depth) (block_at c.args.depth) (declarations_at c.args.depth)) c.in-Ok-identifier.name c.args.context _ _ _ c.args.input c.in-Ok.here c.in-Ok-identifier.here _
-    c.in-Ok.ensures.effect c.in-Ok-identifier.ensures.read c.named_procedure.ensures.effect
+    c.in-Ok.ensures.effect c.in-Ok-identifier.ensures.read c.procedure_after_name.ensures.effect
 
-pub named_procedure-returns-in-Ok-pass_word-clause-effect : goal.named_procedure-returns-in-Ok-pass_word-clause-effect
-named_procedure-returns-in-Ok-pass_word-clause-effect t c =
-    named_told c.args.source.now.tokens.now c.args.name (expr_at c.args.depth) (block_at c.args.depth) (declarations_at c.args.depth) c.args.context _ _ _ _ _ c.args.input c.skip-starred.result.1 c.in-Ok.here c.in-Ok-pass_word.here _
-    (star_told c.args.source.now.tokens.now c.args.name c.skip-starred.result.0 c.args.context _ _ c.args.input c.skip-starred.result.1 c.skip-starred.ensures.read c.walk_identdef.ensures.stage) c.in-Ok.ensures.effect c.in-Ok-pass_word.ensures.effect c.procedure_block.ensures.effect
+pub procedure_after_name-returns-in-Ok-expect_word-clause-effect : goal.procedure_after_name-returns-in-Ok-expect_word-clause-effect
+procedure_after_name-returns-in-Ok-expect_word-clause-effect t c =
+    named_told c.args.source.now.tokens.now c.args.name (expr_at c.args.depth) (block_at c.args.depth) (declarations_at c.args.depth) c.args.context _ _ _ _ _ c.args.input c.skip-starred.result.1 c.in-Ok.here c.in-Ok-expect_word.here _
+    (star_told c.args.source.now.tokens.now c.args.name c.skip-starred.result.0 c.args.context _ _ c.args.input c.skip-starred.result.1 c.skip-starred.ensures.read c.append_identdef.ensures.stage) c.in-Ok.ensures.effect c.in-Ok-expect_word.ensures.effect c.procedure_block.ensures.effect
 
-pub named_procedure-returns-in-Err-clause-effect : goal.named_procedure-returns-in-Err-clause-effect
-named_procedure-returns-in-Err-clause-effect t c =
+pub procedure_after_name-returns-in-Err-clause-effect : goal.procedure_after_name-returns-in-Err-clause-effect
+procedure_after_name-returns-in-Err-clause-effect t c =
     named_failed c.args.source.now.tokens.now c.args.name (expr_at c.args.depth) (block_at c.args.depth) (declarations_at c.args.depth) c.args.context _ _ c.args.input c.skip-starred.result.1 c.in-Err.stop
-    (star_told c.args.source.now.tokens.now c.args.name c.skip-starred.result.0 c.args.context _ _ c.args.input c.skip-starred.result.1 c.skip-starred.ensures.read c.walk_identdef.ensures.stage) c.in-Err.ensures.effect
+    (star_told c.args.source.now.tokens.now c.args.name c.skip-starred.result.0 c.args.context _ _ c.args.input c.skip-starred.result.1 c.skip-starred.ensures.read c.append_identdef.ensures.stage) c.in-Err.ensures.effect
 
 pub procedure_block-returns-in-Ok-clause-effect : goal.procedure_block-returns-in-Ok-clause-effect
 procedure_block-returns-in-Ok-clause-effect t c =
@@ -95,10 +95,10 @@ declarations-returns-in-Ok-declaration_section-2-clause-effect t c =
     sections_told c.args.source.now.tokens.now (expr_at c.args.depth) (type_at c.args.depth) (procedure_at c.args.depth) c.args.context _ _ _ _ _ c.args.input c.in-Ok.here c.in-Ok-declaration_section.here c.in-Ok-declaration_section-2.here _
     c.in-Ok.ensures.effect c.in-Ok-declaration_section.ensures.effect c.in-Ok-declaration_section-2.ensures.effect c.procedures.ensures.effect
 
-pub named_procedure-returns-in-Err-pass_word-clause-effect : goal.named_procedure-returns-in-Err-pass_word-clause-effect
-named_procedure-returns-in-Err-pass_word-clause-effect t c =
-    named_failed_behind c.args.source.now.tokens.now c.args.name (expr_at c.args.depth) (block_at c.args.depth) (declarations_at c.args.depth) c.args.context _ _ _ c.args.input c.skip-starred.result.1 c.in-Ok.here c.in-Err-pass_word.stop
-    (star_told c.args.source.now.tokens.now c.args.name c.skip-starred.result.0 c.args.context _ _ c.args.input c.skip-starred.result.1 c.skip-starred.ensures.read c.walk_identdef.ensures.stage) c.in-Ok.ensures.effect c.in-Err-pass_word.ensures.effect
+pub procedure_after_name-returns-in-Err-expect_word-clause-effect : goal.procedure_after_name-returns-in-Err-expect_word-clause-effect
+procedure_after_name-returns-in-Err-expect_word-clause-effect t c =
+    named_failed_behind c.args.source.now.tokens.now c.args.name (expr_at c.args.depth) (block_at c.args.depth) (declarations_at c.args.depth) c.args.context _ _ _ c.args.input c.skip-starred.result.1 c.in-Ok.here c.in-Err-expect_word.stop
+    (star_told c.args.source.now.tokens.now c.args.name c.skip-starred.result.0 c.args.context _ _ c.args.input c.skip-starred.result.1 c.skip-starred.ensures.read c.append_identdef.ensures.stage) c.in-Ok.ensures.effect c.in-Err-expect_word.ensures.effect
 
 pub declarations-returns-in-Err-clause-effect : goal.declarations-returns-in-Err-clause-effect
 unfolding const_with

@@ -2,10 +2,10 @@ use Rattle.std.proofs.Common.{◌≡◌, ◌+◌, ◌*◌, length}
 use Rattle.ob_scan.specs.declared.kind.Kind.TheVariants as kinds
 use Rattle.ob_tree.specs.Declaring.{procedure_events}
 use Rattle.table_rules.specs.Declaring.{procedure_rows}
-use Rattle.ob_parse.specs.Lookahead.{is_word}
-use Rattle.ob_parse.specs.Combinators.{begins}
-use Rattle.ob_parse.specs.AgreesWith.{remaining}
-use Rattle.ob_parse.specs.ReadModules.{with_semicolon, procedure_at}
+use Rattle.ob_grammar.specs.Lookahead.{is_word}
+use Rattle.ob_grammar.specs.Combinators.{begins}
+use Rattle.ob_grammar.specs.AgreesWith.{remaining}
+use Rattle.ob_grammar.specs.ReadModules.{with_semicolon, procedure_at}
 use Rattle.table_reader.specs.DeclarationShapes.{ended_events, ended_rows}
 use Rattle.table_reader.proofs.Lists.{PieceListing}
 use Rattle.table_reader.proofs.declarations.+declarations.Given as goal
@@ -13,8 +13,8 @@ use Rattle.table_reader.proofs.declarations.+declarations.Given as goal
 abbrev pub decreases-procedure : goal.decreases-procedure
 decreases-procedure l = 16 * l.depth + 0
 
-abbrev pub decreases-ended_procedure : goal.decreases-ended_procedure
-decreases-ended_procedure l = 16 * l.depth + 1
+abbrev pub decreases-procedure_with_semicolon : goal.decreases-procedure_with_semicolon
+decreases-procedure_with_semicolon l = 16 * l.depth + 1
 
 abbrev pub decreases-procedures : goal.decreases-procedures
 decreases-procedures l = 16 * l.depth + 2
@@ -25,11 +25,11 @@ decreases-declarations l = 16 * l.depth + 3
 abbrev pub decreases-procedure_block : goal.decreases-procedure_block
 decreases-procedure_block l = 16 * l.depth + 4
 
-abbrev pub decreases-named_procedure : goal.decreases-named_procedure
-decreases-named_procedure l = 16 * l.depth + 5
+abbrev pub decreases-procedure_after_name : goal.decreases-procedure_after_name
+decreases-procedure_after_name l = 16 * l.depth + 5
 
-abbrev pub decreases-procedure_inner : goal.decreases-procedure_inner
-decreases-procedure_inner l = 16 * l.depth + 6
+abbrev pub decreases-procedure_in_block : goal.decreases-procedure_in_block
+decreases-procedure_in_block l = 16 * l.depth + 6
 
 abbrev pub decreases-procedure_within : goal.decreases-procedure_within
 decreases-procedure_within l = 16 * l.depth + 7

@@ -4,10 +4,10 @@ use Rattle.ob_tree.specs.Statements.{block_events}
 use Rattle.table_rules.specs.Statements.{block_rows}
 use Rattle.module_table.specs.TableStages.{after}
 use Rattle.module_table.proofs.Steps.{after_nothing}
-use Rattle.ob_parse.specs.Combinators.{accept_at}
-use Rattle.ob_parse.specs.AgreesWith.{skipped}
-use Rattle.ob_parse.specs.ReadStatements.{block_at}
-use Rattle.ob_parse.specs.ReadModules.{body_with}
+use Rattle.ob_grammar.specs.Combinators.{accept_at}
+use Rattle.ob_grammar.specs.AgreesWith.{skipped}
+use Rattle.ob_grammar.specs.ReadStatements.{block_at}
+use Rattle.ob_grammar.specs.ReadModules.{body_with}
 use Rattle.table_reader.specs.DeclarationShapes.{body_events, body_rows}
 use Rattle.table_reader.proofs.Combine.{told_absent}
 use Rattle.table_reader.proofs.Following.{word_there_told}

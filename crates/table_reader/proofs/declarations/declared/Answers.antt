@@ -1,11 +1,11 @@
 use Rattle.std.proofs.Common.{sym, ◌∙◌}
 use Rattle.ob_tree.specs.TreeEvents.{construct}
 use Rattle.module_table.specs.Parts.{declaring}
-use Rattle.ob_parse.specs.Combinators.{node}
-use Rattle.ob_parse.specs.ReadModules.{is_identifier}
-use Rattle.ob_parse.proofs.Loops.{has_begun, has_not_begun}
+use Rattle.ob_grammar.specs.Combinators.{node}
+use Rattle.ob_grammar.specs.ReadModules.{is_identifier}
+use Rattle.ob_grammar.proofs.Loops.{has_begun, has_not_begun}
 use Rattle.table_reader.specs.DeclarationShapes.{ended_rows}
-use Rattle.ob_parse.proofs.Repetitions.{declarations}
+use Rattle.ob_grammar.proofs.Repetitions.{declarations}
 use Rattle.table_reader.proofs.Lists.{repeat_begun, repeat_shorter, repeat_more, repeat_failed, repeat_done}
 use Rattle.table_reader.proofs.declarations.declared.Goals as goal
 

@@ -1,9 +1,9 @@
 use Rattle.std.proofs.Common.{◌≡◌, length}
 use Rattle.ob_tree.specs.TreeEvents.{construct}
 use Rattle.module_table.specs.Parts.{declaring}
-use Rattle.ob_parse.specs.AgreesWith.{remaining}
-use Rattle.ob_parse.specs.Combinators.{node}
-use Rattle.ob_parse.proofs.Repetitions.{declarations}
+use Rattle.ob_grammar.specs.AgreesWith.{remaining}
+use Rattle.ob_grammar.specs.Combinators.{node}
+use Rattle.ob_grammar.proofs.Repetitions.{declarations}
 use Rattle.table_reader.specs.DeclarationShapes.{ended_rows}
 use Rattle.table_reader.proofs.Lists.{RepeatListing}
 use Rattle.table_reader.proofs.declarations.declared.Given as goal

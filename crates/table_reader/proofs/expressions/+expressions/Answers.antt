@@ -13,14 +13,14 @@ use Rattle.module_table.specs.Parts.{token, both, each}
 use Rattle.table_rules.specs.Expressions.{term_rows, factor_rows, element_rows, expr_rows}
 use Rattle.module_table.proofs.Steps.{after_nothing}
 use Rattle.table_rules.proofs.ExpressionLayers as effect
-use Rattle.ob_parse.specs.declared.cursor.Cursor.{Cursor}
-use Rattle.ob_parse.specs.Lookahead.{uncons, head_is}
-use Rattle.ob_parse.specs.Combinators.{accept_at, expect_at, begins, optional, several, unless, limit_at}
-use Rattle.ob_parse.specs.AgreesWith.{remaining, with_remaining, skipped}
-use Rattle.ob_parse.specs.ReadExpressions.{relation_start, element_with, selector_first, selector_with, designator_with, factor_with, expr_at, negated_at}
-use Rattle.ob_parse.proofs.Loops.{accept_advances, selector_advances, marked_some, marked_none, has_begun, has_not_begun}
-use Rattle.ob_parse.proofs.Somes.{not_closed}
-use Rattle.ob_parse.proofs.SoundExpressions.{expr_at_sound}
+use Rattle.ob_grammar.specs.declared.cursor.Cursor.{Cursor}
+use Rattle.ob_grammar.specs.Lookahead.{uncons, head_is}
+use Rattle.ob_grammar.specs.Combinators.{accept_at, expect_at, begins, optional, several, unless, limit_at}
+use Rattle.ob_grammar.specs.AgreesWith.{remaining, with_remaining, skipped}
+use Rattle.ob_grammar.specs.ReadExpressions.{relation_start, element_with, selector_first, selector_with, designator_with, factor_with, expr_at, negated_at}
+use Rattle.ob_grammar.proofs.Loops.{accept_advances, selector_advances, marked_some, marked_none, has_begun, has_not_begun}
+use Rattle.ob_grammar.proofs.Somes.{not_closed}
+use Rattle.ob_grammar.proofs.SoundExpressions.{expr_at_sound}
 use Rattle.table_reader.specs.Shapes.{compared_events, compared_rows, set_events, set_rows, high_events, high_rows, arguments_events, arguments_rows}
 use Rattle.table_reader.specs.SelectorShapes.{dot_at, selector_shape_events, selector_stage}
 use Rattle.table_reader.proofs.Combine.{told_absent, failed_prefixed}
@@ -31,8 +31,8 @@ use Rattle.table_reader.proofs.Lists.{listing_smaller, listing_failed, behind_to
 use Rattle.table_reader.proofs.ExpressionTrees.{expr_deeper, compared_told, sum_told, sum_failed, term_told, term_failed}
 use Rattle.table_reader.proofs.FactorTrees.{told_factor, leaf_told, name_told, set_told, group_told, not_told, between_failed, closed, some_elements_told, element_list_told, element_told, element_failed, several_failed, high_told}
 use Rattle.table_reader.proofs.Operands.{lone_factor_told, operated_told, factor_fails, factors_fail, terms_fail}
-use Rattle.ob_parse.proofs.Repetitions.{elements, factor_operations, term_operations}
-use Rattle.ob_parse.proofs.Lookaheads.{leaf_stands, word_stands}
+use Rattle.ob_grammar.proofs.Repetitions.{elements, factor_operations, term_operations}
+use Rattle.ob_grammar.proofs.Lookaheads.{leaf_stands, word_stands}
 use Rattle.table_reader.proofs.expressions.+expressions.Goals as goal
 
 pub expression-returns-then-depth-eq0-clause-effect : goal.expression-returns-then-depth-eq0-clause-effect
@@ -147,30 +147,30 @@ factor-returns-in-Some-Name-default-clause-effect t c =
 pub factor-returns-in-Some-Value-default-clause-effect : goal.factor-returns-in-Some-Value-default-clause-effect
 factor-returns-in-Some-Value-default-clause-effect t c =
     let e = leaf_stands c.args.source.now.tokens.now _ c.args.input c.in-Some-Value-default.rest _ (leafs.Value c.in-Some-Value-default.field-0-0-0 c.in-Some-Value-default.field-0-0-1) c.in-Some-Value-default.is c.in-Some-Value-default.field-0-0-is c.next.ensures.read in
-    told_factor c.args.source.now.tokens.now factor_events (λ x. after (factor_rows x) c.args.context) c.args.depth _ _ (Ok c.pass_token.result) _ _ e
-    (leaf_told c.args.source.now.tokens.now c.args.context _ _ c.pass_token.result (λ z. Ok (Value c.in-Some-Value-default.field-0-0-0 c.in-Some-Value-default.field-0-0-1 ∷ [], remaining c.args.source.now.tokens.now c.in-Some-Value-default.rest)) (remaining c.args.source.now.tokens.now c.args.input) (Value c.in-Some-Value-default.field-0-0-0 c.in-Some-Value-default.field-0-0-1 ∷ []) (factors.Value c.in-Some-Value-default.field-0-0-0 c.in-Some-Value-default.field-0-0-1)
-    (ap (λ (i : Cursor). Ok (Value c.in-Some-Value-default.field-0-0-0 c.in-Some-Value-default.field-0-0-1 ∷ [], remaining c.args.source.now.tokens.now i)) (sym c.pass_token.ensures.cursor)) (value_made c.in-Some-Value-default.field-0-0-0 c.in-Some-Value-default.field-0-0-1) (effect.value_made c.in-Some-Value-default.field-0-0-0 c.in-Some-Value-default.field-0-0-1) c.pass_token.ensures.stage)
+    told_factor c.args.source.now.tokens.now factor_events (λ x. after (factor_rows x) c.args.context) c.args.depth _ _ (Ok c.advance_token.result) _ _ e
+    (leaf_told c.args.source.now.tokens.now c.args.context _ _ c.advance_token.result (λ z. Ok (Value c.in-Some-Value-default.field-0-0-0 c.in-Some-Value-default.field-0-0-1 ∷ [], remaining c.args.source.now.tokens.now c.in-Some-Value-default.rest)) (remaining c.args.source.now.tokens.now c.args.input) (Value c.in-Some-Value-default.field-0-0-0 c.in-Some-Value-default.field-0-0-1 ∷ []) (factors.Value c.in-Some-Value-default.field-0-0-0 c.in-Some-Value-default.field-0-0-1)
+    (ap (λ (i : Cursor). Ok (Value c.in-Some-Value-default.field-0-0-0 c.in-Some-Value-default.field-0-0-1 ∷ [], remaining c.args.source.now.tokens.now i)) (sym c.advance_token.ensures.cursor)) (value_made c.in-Some-Value-default.field-0-0-0 c.in-Some-Value-default.field-0-0-1) (effect.value_made c.in-Some-Value-default.field-0-0-0 c.in-Some-Value-default.field-0-0-1) c.advance_token.ensures.stage)
 
 pub factor-returns-in-Some-Word-Nil-default-clause-effect : goal.factor-returns-in-Some-Word-Nil-default-clause-effect
 factor-returns-in-Some-Word-Nil-default-clause-effect t c =
     let e = word_stands c.args.source.now.tokens.now _ c.args.input c.in-Some-Word-Nil-default.rest _ _ kinds.Nil c.in-Some-Word-Nil-default.is c.in-Some-Word-Nil-default.field-0-0-is c.in-Some-Word-Nil-default.field-0-0-0-is c.next.ensures.read in
-    told_factor c.args.source.now.tokens.now factor_events (λ x. after (factor_rows x) c.args.context) c.args.depth _ _ (Ok c.pass_token-in-Some-Word-Nil-default.result) _ _ e
-    (leaf_told c.args.source.now.tokens.now c.args.context _ _ c.pass_token-in-Some-Word-Nil-default.result (λ z. Ok (word kinds.Nil, remaining c.args.source.now.tokens.now c.in-Some-Word-Nil-default.rest)) (remaining c.args.source.now.tokens.now c.args.input) (word kinds.Nil) factors.Nil
-    (ap (λ (i : Cursor). Ok (word kinds.Nil, remaining c.args.source.now.tokens.now i)) (sym c.pass_token-in-Some-Word-Nil-default.ensures.cursor)) nil_made effect.nil_made c.pass_token-in-Some-Word-Nil-default.ensures.stage)
+    told_factor c.args.source.now.tokens.now factor_events (λ x. after (factor_rows x) c.args.context) c.args.depth _ _ (Ok c.advance_token-in-Some-Word-Nil-default.result) _ _ e
+    (leaf_told c.args.source.now.tokens.now c.args.context _ _ c.advance_token-in-Some-Word-Nil-default.result (λ z. Ok (word kinds.Nil, remaining c.args.source.now.tokens.now c.in-Some-Word-Nil-default.rest)) (remaining c.args.source.now.tokens.now c.args.input) (word kinds.Nil) factors.Nil
+    (ap (λ (i : Cursor). Ok (word kinds.Nil, remaining c.args.source.now.tokens.now i)) (sym c.advance_token-in-Some-Word-Nil-default.ensures.cursor)) nil_made effect.nil_made c.advance_token-in-Some-Word-Nil-default.ensures.stage)
 
 pub factor-returns-in-Some-Word-True-default-clause-effect : goal.factor-returns-in-Some-Word-True-default-clause-effect
 factor-returns-in-Some-Word-True-default-clause-effect t c =
     let e = word_stands c.args.source.now.tokens.now _ c.args.input c.in-Some-Word-True-default.rest _ _ kinds.True c.in-Some-Word-True-default.is c.in-Some-Word-True-default.field-0-0-is c.in-Some-Word-True-default.field-0-0-0-is c.next.ensures.read in
-    told_factor c.args.source.now.tokens.now factor_events (λ x. after (factor_rows x) c.args.context) c.args.depth _ _ (Ok c.pass_token-in-Some-Word-True-default.result) _ _ e
-    (leaf_told c.args.source.now.tokens.now c.args.context _ _ c.pass_token-in-Some-Word-True-default.result (λ z. Ok (word kinds.True, remaining c.args.source.now.tokens.now c.in-Some-Word-True-default.rest)) (remaining c.args.source.now.tokens.now c.args.input) (word kinds.True) factors.True
-    (ap (λ (i : Cursor). Ok (word kinds.True, remaining c.args.source.now.tokens.now i)) (sym c.pass_token-in-Some-Word-True-default.ensures.cursor)) true_made effect.true_made c.pass_token-in-Some-Word-True-default.ensures.stage)
+    told_factor c.args.source.now.tokens.now factor_events (λ x. after (factor_rows x) c.args.context) c.args.depth _ _ (Ok c.advance_token-in-Some-Word-True-default.result) _ _ e
+    (leaf_told c.args.source.now.tokens.now c.args.context _ _ c.advance_token-in-Some-Word-True-default.result (λ z. Ok (word kinds.True, remaining c.args.source.now.tokens.now c.in-Some-Word-True-default.rest)) (remaining c.args.source.now.tokens.now c.args.input) (word kinds.True) factors.True
+    (ap (λ (i : Cursor). Ok (word kinds.True, remaining c.args.source.now.tokens.now i)) (sym c.advance_token-in-Some-Word-True-default.ensures.cursor)) true_made effect.true_made c.advance_token-in-Some-Word-True-default.ensures.stage)
 
 pub factor-returns-in-Some-Word-False-default-clause-effect : goal.factor-returns-in-Some-Word-False-default-clause-effect
 factor-returns-in-Some-Word-False-default-clause-effect t c =
     let e = word_stands c.args.source.now.tokens.now _ c.args.input c.in-Some-Word-False-default.rest _ _ kinds.False c.in-Some-Word-False-default.is c.in-Some-Word-False-default.field-0-0-is c.in-Some-Word-False-default.field-0-0-0-is c.next.ensures.read in
-    told_factor c.args.source.now.tokens.now factor_events (λ x. after (factor_rows x) c.args.context) c.args.depth _ _ (Ok c.pass_token-in-Some-Word-False-default.result) _ _ e
-    (leaf_told c.args.source.now.tokens.now c.args.context _ _ c.pass_token-in-Some-Word-False-default.result (λ z. Ok (word kinds.False, remaining c.args.source.now.tokens.now c.in-Some-Word-False-default.rest)) (remaining c.args.source.now.tokens.now c.args.input) (word kinds.False) factors.False
-    (ap (λ (i : Cursor). Ok (word kinds.False, remaining c.args.source.now.tokens.now i)) (sym c.pass_token-in-Some-Word-False-default.ensures.cursor)) false_made effect.false_made c.pass_token-in-Some-Word-False-default.ensures.stage)
+    told_factor c.args.source.now.tokens.now factor_events (λ x. after (factor_rows x) c.args.context) c.args.depth _ _ (Ok c.advance_token-in-Some-Word-False-default.result) _ _ e
+    (leaf_told c.args.source.now.tokens.now c.args.context _ _ c.advance_token-in-Some-Word-False-default.result (λ z. Ok (word kinds.False, remaining c.args.source.now.tokens.now c.in-Some-Word-False-default.rest)) (remaining c.args.source.now.tokens.now c.args.input) (word kinds.False) factors.False
+    (ap (λ (i : Cursor). Ok (word kinds.False, remaining c.args.source.now.tokens.now i)) (sym c.advance_token-in-Some-Word-False-default.ensures.cursor)) false_made effect.false_made c.advance_token-in-Some-Word-False-default.ensures.stage)
 
 pub factor-returns-in-Some-Word-LeftBrace-default-clause-effect : goal.factor-returns-in-Some-Word-LeftBrace-default-clause-effect
 factor-returns-in-Some-Word-LeftBrace-default-clause-effect t c =
@@ -180,7 +180,7 @@ factor-returns-in-Some-Word-LeftBrace-default-clause-effect t c =
 pub factor-returns-in-Some-Word-LeftParen-default-clause-effect : goal.factor-returns-in-Some-Word-LeftParen-default-clause-effect
 factor-returns-in-Some-Word-LeftParen-default-clause-effect t c =
     let e = word_stands c.args.source.now.tokens.now _ c.args.input c.in-Some-Word-LeftParen-default.rest _ _ kinds.LeftParen c.in-Some-Word-LeftParen-default.is c.in-Some-Word-LeftParen-default.field-0-0-is c.in-Some-Word-LeftParen-default.field-0-0-0-is c.next.ensures.read in
-    told_factor c.args.source.now.tokens.now factor_events (λ x. after (factor_rows x) c.args.context) c.args.depth _ _ _ _ _ e c.group.ensures.effect
+    told_factor c.args.source.now.tokens.now factor_events (λ x. after (factor_rows x) c.args.context) c.args.depth _ _ _ _ _ e c.parenthesized_factor.ensures.effect
 
 pub factor-returns-in-Some-Word-Tilde-default-clause-effect : goal.factor-returns-in-Some-Word-Tilde-default-clause-effect
 factor-returns-in-Some-Word-Tilde-default-clause-effect t c =
@@ -196,16 +196,16 @@ unfolding factor_with
 factor-returns-in_default-2-clause-effect t c = grind (arith, expressions_made)
 
 pub set-returns-in-Ok-clause-effect : goal.set-returns-in-Ok-clause-effect
-set-returns-in-Ok-clause-effect t c = set_told c.args.source.now.tokens.now c.args.context (optional (unless kinds.RightBrace) (several kinds.Comma (element_with (expr_at c.args.depth)))) _ _ _ _ c.args.input c.in-Ok.here _ c.advance.ensures.stage c.in-Ok.ensures.effect c.pass_word.ensures.effect
+set-returns-in-Ok-clause-effect t c = set_told c.args.source.now.tokens.now c.args.context (optional (unless kinds.RightBrace) (several kinds.Comma (element_with (expr_at c.args.depth)))) _ _ _ _ c.args.input c.in-Ok.here _ c.advance.ensures.stage c.in-Ok.ensures.effect c.expect_word.ensures.effect
 
 pub set-returns-in-Err-clause-effect : goal.set-returns-in-Err-clause-effect
 set-returns-in-Err-clause-effect t c = between_failed c.args.source.now.tokens.now constructs.Factor (word kinds.LeftBrace) (optional (unless kinds.RightBrace) (several kinds.Comma (element_with (expr_at c.args.depth)))) (expect_at kinds.RightBrace) _ (remaining c.args.source.now.tokens.now c.args.input) c.in-Err.ensures.effect
 
-pub group-returns-in-Ok-clause-effect : goal.group-returns-in-Ok-clause-effect
-group-returns-in-Ok-clause-effect t c = group_told c.args.source.now.tokens.now c.args.context (expr_at c.args.depth) _ _ _ _ c.args.input c.in-Ok.here _ c.advance.ensures.stage c.in-Ok.ensures.effect c.pass_word.ensures.effect
+pub parenthesized_factor-returns-in-Ok-clause-effect : goal.parenthesized_factor-returns-in-Ok-clause-effect
+parenthesized_factor-returns-in-Ok-clause-effect t c = group_told c.args.source.now.tokens.now c.args.context (expr_at c.args.depth) _ _ _ _ c.args.input c.in-Ok.here _ c.advance.ensures.stage c.in-Ok.ensures.effect c.expect_word.ensures.effect
 
-pub group-returns-in-Err-clause-effect : goal.group-returns-in-Err-clause-effect
-group-returns-in-Err-clause-effect t c = between_failed c.args.source.now.tokens.now constructs.Factor (word kinds.LeftParen) (expr_at c.args.depth) (expect_at kinds.RightParen) _ (remaining c.args.source.now.tokens.now c.args.input) c.in-Err.ensures.effect
+pub parenthesized_factor-returns-in-Err-clause-effect : goal.parenthesized_factor-returns-in-Err-clause-effect
+parenthesized_factor-returns-in-Err-clause-effect t c = between_failed c.args.source.now.tokens.now constructs.Factor (word kinds.LeftParen) (expr_at c.args.depth) (expect_at kinds.RightParen) _ (remaining c.args.source.now.tokens.now c.args.input) c.in-Err.ensures.effect
 
 pub negated-returns-then-depth-eq0-clause-effect : goal.negated-returns-then-depth-eq0-clause-effect
 unfolding negated_at limit_at
@@ -253,7 +253,7 @@ designator-returns-clause-effect t c =
     designator_told c.args.source.now.tokens.now c.args.context false c.args.depth c.args.number _ _ _ _ _ _ c.args.input _ refl c.add_designator.ensures.stage c.dot_is_next.ensures.dot c.append_use.ensures.stage c.selectors.ensures.effect
 
 pub selectors-more-init : goal.selectors-more-init
-selectors-more-init t c = (chosen_begun c.args.source.now.tokens.now (selector_with (expr_at c.args.depth)) c.args.context c.args.head c.selector_count-at.result c.selector_count-end.result c.estimate_selectors.result _ _ c.args.input c.selector_count-at.ensures c.open_slots.ensures.stage c.selector_count-end.ensures, c.open_slots.ensures.number ∙ c.requires)
+selectors-more-init t c = (chosen_begun c.args.source.now.tokens.now (selector_with (expr_at c.args.depth)) c.args.context c.args.head c.selector_count-at.result c.selector_count-end.result c.estimate_selectors.result _ _ c.args.input c.selector_count-at.ensures c.reserve_slots.ensures.stage c.selector_count-end.ensures, c.reserve_slots.ensures.number ∙ c.requires)
 
 pub selectors-ensure_slot-end-requires : goal.selectors-ensure_slot-end-requires
 selectors-ensure_slot-end-requires t c =
@@ -272,14 +272,14 @@ selectors-returns-in-Err-clause-effect t c =
     listing_failed {X = Selector} c.args.source.now.tokens.now (begins selector_first) (selector_with (expr_at c.args.depth)) selector_events (choosing_to c.args.head c.selector_count-at.result c.more.end c.args.context)
     (Placed c.args.source.now.tokens.now c.selector_count-at.result c.more.slot c.more.end c.args.input c.more.here) c.in-Err.stop [] (selector_advances c.args.depth _ (expr_at_sound c.args.depth)) _ _ c.args.input c.more.here c.more.here (has_begun selector_first (remaining c.args.source.now.tokens.now c.more.here) (sym c.begins_selector.ensures ∙ c.more-test.true)) c.more.invariant.0 c.in-Err.ensures.effect
 
-pub selectors-close_slots-requires : goal.selectors-close_slots-requires
-selectors-close_slots-requires t c =
+pub selectors-trim_slots-requires : goal.selectors-trim_slots-requires
+selectors-trim_slots-requires t c =
     chosen_room c.args.source.now.tokens.now (selector_with (expr_at c.args.depth)) c.args.context c.args.head c.selector_count-at.result c.more.slot c.more.end _ _ c.args.input c.more.here c.selector_count-at.ensures c.more.invariant.0
 
 pub selectors-returns-clause-effect : goal.selectors-returns-clause-effect
 selectors-returns-clause-effect t c =
     let none : head_is selector_first (uncons (remaining c.args.source.now.tokens.now c.more.here)) ≡ false = sym c.begins_selector.ensures ∙ c.more-test.false in
-    chosen_all c.args.source.now.tokens.now (selector_with (expr_at c.args.depth)) c.args.context c.args.head c.selector_count-at.result c.more.slot c.more.end (selector_advances c.args.depth _ (expr_at_sound c.args.depth)) _ _ _ c.args.input c.more.here c.selector_count-at.ensures none (has_not_begun selector_first (remaining c.args.source.now.tokens.now c.more.here) none) c.more.invariant.0 c.close_slots.ensures.stage
+    chosen_all c.args.source.now.tokens.now (selector_with (expr_at c.args.depth)) c.args.context c.args.head c.selector_count-at.result c.more.slot c.more.end (selector_advances c.args.depth _ (expr_at_sound c.args.depth)) _ _ _ c.args.input c.more.here c.selector_count-at.ensures none (has_not_begun selector_first (remaining c.args.source.now.tokens.now c.more.here) none) c.more.invariant.0 c.trim_slots.ensures.stage
 
 pub selector-returns-in-Some-Word-Dot-default-clause-effect : goal.selector-returns-in-Some-Word-Dot-default-clause-effect
 selector-returns-in-Some-Word-Dot-default-clause-effect t c =
@@ -294,7 +294,7 @@ selector-returns-in-Some-Word-LeftBracket-default-clause-effect t c =
 pub selector-returns-in-Some-Word-Caret-default-clause-effect : goal.selector-returns-in-Some-Word-Caret-default-clause-effect
 selector-returns-in-Some-Word-Caret-default-clause-effect t c =
     let e = word_stands c.args.source.now.tokens.now _ c.args.input c.in-Some-Word-Caret-default.rest _ _ kinds.Caret c.in-Some-Word-Caret-default.is c.in-Some-Word-Caret-default.field-0-0-is c.in-Some-Word-Caret-default.field-0-0-0-is c.next.ensures.read in
-    selector_so c.args.source.now.tokens.now c.args.context c.args.head c.args.slot (expr_at c.args.depth) _ _ (Ok c.target.result) c.args.input false _ e refl c.target.ensures.effect
+    selector_so c.args.source.now.tokens.now c.args.context c.args.head c.args.slot (expr_at c.args.depth) _ _ (Ok c.caret_selector.result) c.args.input false _ e refl c.caret_selector.ensures.effect
 
 pub selector-returns-in-Some-Word-LeftParen-default-clause-effect : goal.selector-returns-in-Some-Word-LeftParen-default-clause-effect
 selector-returns-in-Some-Word-LeftParen-default-clause-effect t c =
@@ -314,14 +314,14 @@ unfolding selector_with
 selector-returns-in_default-3-clause-effect t c = grind arith
 
 pub index-returns-in-Ok-clause-effect : goal.index-returns-in-Ok-clause-effect
-index-returns-in-Ok-clause-effect t c = index_told c.args.source.now.tokens.now c.args.context (several kinds.Comma (expr_at c.args.depth)) c.args.head c.args.slot c.in-Ok.count _ _ _ _ _ c.args.input c.in-Ok.here _ c.requires.slot c.advance.ensures.stage c.in-Ok.ensures.effect c.set_selector.ensures.stage c.pass_word.ensures.effect
+index-returns-in-Ok-clause-effect t c = index_told c.args.source.now.tokens.now c.args.context (several kinds.Comma (expr_at c.args.depth)) c.args.head c.args.slot c.in-Ok.count _ _ _ _ _ c.args.input c.in-Ok.here _ c.requires.slot c.advance.ensures.stage c.in-Ok.ensures.effect c.set_selector.ensures.stage c.expect_word.ensures.effect
 
 pub index-returns-in-Err-clause-effect : goal.index-returns-in-Err-clause-effect
 index-returns-in-Err-clause-effect t c = between_failed c.args.source.now.tokens.now constructs.Selector (word kinds.LeftBracket) (several kinds.Comma (expr_at c.args.depth)) (expect_at kinds.RightBracket) _ (remaining c.args.source.now.tokens.now c.args.input) c.in-Err.ensures.effect
 
 pub call-returns-in-Ok-clause-effect : goal.call-returns-in-Ok-clause-effect
 call-returns-in-Ok-clause-effect t c =
-    call_told c.args.source.now.tokens.now c.args.context c.args.depth c.args.head c.args.slot _ _ _ _ _ _ c.args.input c.in-Ok.here _ c.requires.number c.requires.slot c.advance.ensures.stage c.in-Ok.ensures.effect c.sole_name-name.ensures c.set_selector.ensures.stage c.pass_word.ensures.effect
+    call_told c.args.source.now.tokens.now c.args.context c.args.depth c.args.head c.args.slot _ _ _ _ _ _ c.args.input c.in-Ok.here _ c.requires.number c.requires.slot c.advance.ensures.stage c.in-Ok.ensures.effect c.sole_name-name.ensures c.set_selector.ensures.stage c.expect_word.ensures.effect
 
 pub call-returns-in-Err-clause-effect : goal.call-returns-in-Err-clause-effect
 call-returns-in-Err-clause-effect t c = between_failed c.args.source.now.tokens.now constructs.Selector (word kinds.LeftParen) (optional (unless kinds.RightParen) (several kinds.Comma (expr_at c.args.depth))) (expect_at kinds.RightParen) _ (remaining c.args.source.now.tokens.now c.args.input) c.in-Err.ensures.effect

@@ -1,8 +1,8 @@
 use Rattle.std.proofs.Common.{◌≡◌, ◌+◌, ◌*◌, length}
 use Rattle.table_rules.specs.Expressions.{term_rows, factor_rows, element_rows}
-use Rattle.ob_parse.specs.AgreesWith.{remaining}
-use Rattle.ob_parse.specs.ReadExpressions.{selector_with, expr_at}
-use Rattle.ob_parse.proofs.Repetitions.{elements, factor_operations, term_operations}
+use Rattle.ob_grammar.specs.AgreesWith.{remaining}
+use Rattle.ob_grammar.specs.ReadExpressions.{selector_with, expr_at}
+use Rattle.ob_grammar.proofs.Repetitions.{elements, factor_operations, term_operations}
 use Rattle.table_reader.proofs.Lists.{behind_token, OperationListing, RepeatListing}
 use Rattle.table_reader.proofs.DesignatorTrees.{ChosenListing}
 use Rattle.table_reader.proofs.CallTrees.{FurtherListing}
@@ -32,8 +32,8 @@ decreases-factor l = 16 * l.depth + 9
 abbrev pub decreases-set : goal.decreases-set
 decreases-set l = 16 * l.depth + 8
 
-abbrev pub decreases-group : goal.decreases-group
-decreases-group l = 16 * l.depth + 8
+abbrev pub decreases-parenthesized_factor : goal.decreases-parenthesized_factor
+decreases-parenthesized_factor l = 16 * l.depth + 8
 
 abbrev pub decreases-negated : goal.decreases-negated
 decreases-negated l = 16 * l.depth + 8

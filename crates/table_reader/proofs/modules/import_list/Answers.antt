@@ -1,7 +1,7 @@
 use Rattle.ob_scan.specs.declared.kind.Kind.TheVariants as kinds
 use Rattle.ob_tree.specs.Declaring.{import_events}
 use Rattle.table_rules.specs.Declaring.{import_rows}
-use Rattle.ob_parse.specs.ReadModules.{import_item_at}
+use Rattle.ob_grammar.specs.ReadModules.{import_item_at}
 use Rattle.table_reader.proofs.Following.{list_told}
 use Rattle.table_reader.proofs.FactorTrees.{several_failed}
 use Rattle.table_reader.proofs.modules.import_list.Goals as goal

@@ -1,6 +1,6 @@
 use Rattle.ob_scan.specs.declared.kind.Kind.TheVariants as kinds
-use Rattle.ob_parse.specs.Combinators.{accept_at, expect_at, optional}
-use Rattle.ob_parse.specs.ReadNames.{qualident_at}
+use Rattle.ob_grammar.specs.Combinators.{accept_at, expect_at, optional}
+use Rattle.ob_grammar.specs.ReadNames.{qualident_at}
 use Rattle.table_reader.specs.TypeShapes.{result_type_events, result_type_rows}
 use Rattle.table_reader.proofs.Following.{word_told}
 use Rattle.table_reader.proofs.Combine.{failed_then}

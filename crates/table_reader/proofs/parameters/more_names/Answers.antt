@@ -1,8 +1,8 @@
 use Rattle.std.proofs.Common.{sym, ap, ◌∙◌}
 use Rattle.ob_scan.specs.declared.kind.Kind.TheVariants as kinds
-use Rattle.ob_parse.specs.AgreesWith.{skipped}
+use Rattle.ob_grammar.specs.AgreesWith.{skipped}
 use Rattle.table_rules.specs.Types.{parameter_rows}
-use Rattle.ob_parse.proofs.Repetitions.{parameter_names}
+use Rattle.ob_grammar.proofs.Repetitions.{parameter_names}
 use Rattle.table_reader.proofs.Lists.{behind_token, repeat_begun, repeat_shorter, repeat_behind, repeat_failed, repeat_done}
 use Rattle.table_reader.proofs.parameters.more_names.Goals as goal
 

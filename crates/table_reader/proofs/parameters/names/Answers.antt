@@ -2,7 +2,7 @@ use Rattle.std.proofs.Common.{false}
 use Rattle.ob_scan.specs.declared.kind.Kind.TheVariants as kinds
 use Rattle.ob_tree.specs.TreeEvents.{declared}
 use Rattle.table_rules.specs.Types.{parameter_rows}
-use Rattle.ob_parse.specs.Combinators.{name_at}
+use Rattle.ob_grammar.specs.Combinators.{name_at}
 use Rattle.table_reader.proofs.Following.{list_told}
 use Rattle.table_reader.proofs.FactorTrees.{several_failed}
 use Rattle.table_reader.proofs.parameters.names.Goals as goal

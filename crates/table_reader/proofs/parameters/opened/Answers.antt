@@ -1,7 +1,7 @@
 use Rattle.ob_scan.specs.declared.kind.Kind.TheVariants as kinds
-use Rattle.ob_parse.specs.Combinators.{accept_at, expect_at, optional, seq, several, unless}
-use Rattle.ob_parse.specs.ReadNames.{qualident_at}
-use Rattle.ob_parse.specs.ReadTypes.{section_at}
+use Rattle.ob_grammar.specs.Combinators.{accept_at, expect_at, optional, seq, several, unless}
+use Rattle.ob_grammar.specs.ReadNames.{qualident_at}
+use Rattle.ob_grammar.specs.ReadTypes.{section_at}
 use Rattle.table_reader.specs.TypeShapes.{closing_events, closing_rows, sections_events, sections_rows}
 use Rattle.table_reader.proofs.Following.{pair_told}
 use Rattle.table_reader.proofs.Combine.{failed_then}

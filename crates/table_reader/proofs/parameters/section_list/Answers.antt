@@ -1,7 +1,7 @@
 use Rattle.ob_scan.specs.declared.kind.Kind.TheVariants as kinds
 use Rattle.ob_tree.specs.Types.{section_events}
 use Rattle.table_rules.specs.Types.{section_rows}
-use Rattle.ob_parse.specs.ReadTypes.{section_at}
+use Rattle.ob_grammar.specs.ReadTypes.{section_at}
 use Rattle.table_reader.proofs.Following.{list_told}
 use Rattle.table_reader.proofs.FactorTrees.{several_failed}
 use Rattle.table_reader.proofs.parameters.section_list.Goals as goal

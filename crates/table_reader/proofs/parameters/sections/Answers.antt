@@ -3,9 +3,9 @@ use Rattle.ob_scan.specs.declared.kind.Kind.TheVariants as kinds
 use Rattle.ob_tree.specs.TreeEvents.{separated}
 use Rattle.ob_tree.specs.Types.{section_events}
 use Rattle.table_rules.specs.Types.{section_rows}
-use Rattle.ob_parse.specs.Combinators.{several, unless}
-use Rattle.ob_parse.specs.ReadTypes.{section_at}
-use Rattle.ob_parse.proofs.Somes.{not_closed}
+use Rattle.ob_grammar.specs.Combinators.{several, unless}
+use Rattle.ob_grammar.specs.ReadTypes.{section_at}
+use Rattle.ob_grammar.proofs.Somes.{not_closed}
 use Rattle.table_reader.specs.TypeShapes.{list_rows}
 use Rattle.table_reader.proofs.Following.{absent_told, there_told}
 use Rattle.table_reader.proofs.FactorTrees.{closed}

@@ -7,16 +7,16 @@ use Rattle.ob_tree.specs.Constructs as constructs
 use Rattle.ob_tree.specs.TreeEvents.{construct}
 use Rattle.ob_tree.specs.Statements.{block_events}
 use Rattle.table_rules.specs.Statements.{branch_rows, case_rows, stmt_rows, block_rows}
-use Rattle.ob_parse.specs.Combinators.{accept_at}
-use Rattle.ob_parse.specs.AgreesWith.{remaining, skipped}
-use Rattle.ob_parse.specs.ReadExpressions.{expr_at}
-use Rattle.ob_parse.specs.ReadStatements.{block_at, label_first, statement_with}
-use Rattle.ob_parse.proofs.Loops.{has_begun, has_not_begun}
+use Rattle.ob_grammar.specs.Combinators.{accept_at}
+use Rattle.ob_grammar.specs.AgreesWith.{remaining, skipped}
+use Rattle.ob_grammar.specs.ReadExpressions.{expr_at}
+use Rattle.ob_grammar.specs.ReadStatements.{block_at, label_first, statement_with}
+use Rattle.ob_grammar.proofs.Loops.{has_begun, has_not_begun}
 use Rattle.table_reader.proofs.Made.{boxed}
 use Rattle.table_reader.proofs.Parts.{told_word, told_some, told_none, part_then, word_then, part_failed, word_part}
 use Rattle.table_reader.proofs.StatementTrees.{empty_told, deeper, none_begins, one_begins, told_seen, block_told, block_failed, branch_told, if_told, while_told, repeat_told, cases_told, case_told, no_case, for_told, variable_read, no_variable}
-use Rattle.ob_parse.proofs.Repetitions.{statements, branches, cases}
-use Rattle.ob_parse.proofs.Lookaheads.{leaf_stands, word_stands}
+use Rattle.ob_grammar.proofs.Repetitions.{statements, branches, cases}
+use Rattle.ob_grammar.proofs.Lookaheads.{leaf_stands, word_stands}
 use Rattle.table_reader.proofs.Lists.{behind_token, repeat_begun, repeat_shorter, repeat_behind, repeat_failed, repeat_done}
 use Rattle.table_reader.proofs.StatementParts.{expr_part, block_part, word_block_part, body_part, value_part, branch_part, branches_part, if_end_part, if_rest_part, while_rest_part, repeat_rest_part, labels_part, case_part, cases_part, cases_rest_part, cases_end_part, of_cases_part, block_end_part, for_body_part, for_step_part, for_end_part, for_limit_part, for_range_part, for_rest_part, variable_part}
 use Rattle.table_reader.proofs.statements.+statements.Goals as goal
@@ -98,17 +98,17 @@ optional_block-returns-in-Some-clause-effect t c =
     told_some c.args.source.now.tokens.now c.args.context block_events block_rows (λ (b : Box StatementSequence). block_events b.value) (λ (b : Box StatementSequence). block_rows b.value) (λ b. boxed c.args.builder.now.uses.alloc b) c.args.word (accept_at c.args.word) (block_at c.args.depth) _ _ _ c.in-Some.rest _ _ (λ b. refl) (λ b. refl)
     (sym c.accept.ensures.read ∙ ap (skipped c.args.source.now.tokens.now c.args.word) c.in-Some.is) c.advance.ensures.stage c.block.ensures.effect
 
-pub branch-returns-in-Ok-pass_word-clause-effect : goal.branch-returns-in-Ok-pass_word-clause-effect
-branch-returns-in-Ok-pass_word-clause-effect t c =
+pub branch-returns-in-Ok-expect_word-clause-effect : goal.branch-returns-in-Ok-expect_word-clause-effect
+branch-returns-in-Ok-expect_word-clause-effect t c =
     branch_told c.args.source.now.tokens.now c.args.context (expr_at c.args.depth) (block_at c.args.depth) c.args.keyword _ _ _ _
     (part_then c.args.source.now.tokens.now c.args.context (expr_part c.args.depth) (word_block_part c.args.depth c.args.keyword) _ _ _ c.in-Ok.here _ _ c.in-Ok.ensures.effect
-    (word_then c.args.source.now.tokens.now c.args.context c.args.keyword (block_part c.args.depth) _ _ _ c.in-Ok-pass_word.here _ _ c.in-Ok-pass_word.ensures.effect c.block.ensures.effect))
+    (word_then c.args.source.now.tokens.now c.args.context c.args.keyword (block_part c.args.depth) _ _ _ c.in-Ok-expect_word.here _ _ c.in-Ok-expect_word.ensures.effect c.block.ensures.effect))
 
-pub branch-returns-in-Err-pass_word-clause-effect : goal.branch-returns-in-Err-pass_word-clause-effect
-branch-returns-in-Err-pass_word-clause-effect t c =
-    branch_told c.args.source.now.tokens.now c.args.context (expr_at c.args.depth) (block_at c.args.depth) c.args.keyword c.args.builder.now c.args.builder.now (Err c.in-Err-pass_word.stop) _
-    (part_then c.args.source.now.tokens.now c.args.context (expr_part c.args.depth) (word_block_part c.args.depth c.args.keyword) _ _ c.args.builder.now c.in-Ok.here (Err c.in-Err-pass_word.stop) _ c.in-Ok.ensures.effect
-    (part_failed c.args.source.now.tokens.now (word_part c.args.keyword) (block_part c.args.depth) _ _ c.in-Err-pass_word.ensures.effect))
+pub branch-returns-in-Err-expect_word-clause-effect : goal.branch-returns-in-Err-expect_word-clause-effect
+branch-returns-in-Err-expect_word-clause-effect t c =
+    branch_told c.args.source.now.tokens.now c.args.context (expr_at c.args.depth) (block_at c.args.depth) c.args.keyword c.args.builder.now c.args.builder.now (Err c.in-Err-expect_word.stop) _
+    (part_then c.args.source.now.tokens.now c.args.context (expr_part c.args.depth) (word_block_part c.args.depth c.args.keyword) _ _ c.args.builder.now c.in-Ok.here (Err c.in-Err-expect_word.stop) _ c.in-Ok.ensures.effect
+    (part_failed c.args.source.now.tokens.now (word_part c.args.keyword) (block_part c.args.depth) _ _ c.in-Err-expect_word.ensures.effect))
 
 pub branch-returns-in-Err-clause-effect : goal.branch-returns-in-Err-clause-effect
 branch-returns-in-Err-clause-effect t c =
@@ -121,7 +121,7 @@ if_statement-returns-in-Ok-optional_block-clause-effect t c =
     (part_then c.args.source.now.tokens.now c.args.context (branch_part c.args.depth kinds.Then) (if_rest_part c.args.depth) _ _ _ c.in_Ok-here.here _ _ c.in_Ok-here.ensures.effect
     (part_then c.args.source.now.tokens.now c.args.context (branches_part c.args.depth kinds.Then) (if_end_part c.args.depth) _ _ _ c.in-Ok.here _ _ c.in-Ok.ensures.effect
     (part_then c.args.source.now.tokens.now c.args.context (body_part c.args.depth kinds.Else) (word_part kinds.End) _ _ _ c.in-Ok-optional_block.here _ _ c.in-Ok-optional_block.ensures.effect
-    (told_word c.args.source.now.tokens.now c.args.context kinds.End _ _ _ _ c.pass_word.ensures.effect))))
+    (told_word c.args.source.now.tokens.now c.args.context kinds.End _ _ _ _ c.expect_word.ensures.effect))))
 
 pub if_statement-returns-in-Err-optional_block-clause-effect : goal.if_statement-returns-in-Err-optional_block-clause-effect
 if_statement-returns-in-Err-optional_block-clause-effect t c =
@@ -146,7 +146,7 @@ while_statement-returns-in-Ok-clause-effect t c =
     while_told c.args.source.now.tokens.now c.args.context (expr_at c.args.depth) (block_at c.args.depth) _ _ _ _ (remaining c.args.source.now.tokens.now c.args.input) c.advance.ensures.stage
     (part_then c.args.source.now.tokens.now c.args.context (branch_part c.args.depth kinds.Do) (while_rest_part c.args.depth) _ _ _ c.in_Ok-here.here _ _ c.in_Ok-here.ensures.effect
     (part_then c.args.source.now.tokens.now c.args.context (branches_part c.args.depth kinds.Do) (word_part kinds.End) _ _ _ c.in-Ok.here _ _ c.in-Ok.ensures.effect
-    (told_word c.args.source.now.tokens.now c.args.context kinds.End _ _ _ _ c.pass_word.ensures.effect)))
+    (told_word c.args.source.now.tokens.now c.args.context kinds.End _ _ _ _ c.expect_word.ensures.effect)))
 
 pub while_statement-returns-in-Err-clause-effect : goal.while_statement-returns-in-Err-clause-effect
 while_statement-returns-in-Err-clause-effect t c =
@@ -159,34 +159,34 @@ while_statement-returns-in_Err-here-clause-effect t c =
     while_told c.args.source.now.tokens.now c.args.context (expr_at c.args.depth) (block_at c.args.depth) _ _ c.args.builder.now (Err c.in_Err-here.stop) (remaining c.args.source.now.tokens.now c.args.input) c.advance.ensures.stage
     (part_failed c.args.source.now.tokens.now (branch_part c.args.depth kinds.Do) (while_rest_part c.args.depth) _ _ c.in_Err-here.ensures.effect)
 
-pub repeat_statement-returns-in-Ok-pass_word-clause-effect : goal.repeat_statement-returns-in-Ok-pass_word-clause-effect
-repeat_statement-returns-in-Ok-pass_word-clause-effect t c =
+pub repeat_statement-returns-in-Ok-expect_word-clause-effect : goal.repeat_statement-returns-in-Ok-expect_word-clause-effect
+repeat_statement-returns-in-Ok-expect_word-clause-effect t c =
     repeat_told c.args.source.now.tokens.now c.args.context (expr_at c.args.depth) (block_at c.args.depth) _ _ _ _ (remaining c.args.source.now.tokens.now c.args.input) c.advance.ensures.stage
     (part_then c.args.source.now.tokens.now c.args.context (block_part c.args.depth) (repeat_rest_part c.args.depth) _ _ _ c.in-Ok.here _ _ c.in-Ok.ensures.effect
-    (word_then c.args.source.now.tokens.now c.args.context kinds.Until (expr_part c.args.depth) _ _ _ c.in-Ok-pass_word.here _ _ c.in-Ok-pass_word.ensures.effect c.expression.ensures.effect))
+    (word_then c.args.source.now.tokens.now c.args.context kinds.Until (expr_part c.args.depth) _ _ _ c.in-Ok-expect_word.here _ _ c.in-Ok-expect_word.ensures.effect c.expression.ensures.effect))
 
-pub repeat_statement-returns-in-Err-pass_word-clause-effect : goal.repeat_statement-returns-in-Err-pass_word-clause-effect
-repeat_statement-returns-in-Err-pass_word-clause-effect t c =
-    repeat_told c.args.source.now.tokens.now c.args.context (expr_at c.args.depth) (block_at c.args.depth) _ _ c.args.builder.now (Err c.in-Err-pass_word.stop) (remaining c.args.source.now.tokens.now c.args.input) c.advance.ensures.stage
-    (part_then c.args.source.now.tokens.now c.args.context (block_part c.args.depth) (repeat_rest_part c.args.depth) _ _ c.args.builder.now c.in-Ok.here (Err c.in-Err-pass_word.stop) _ c.in-Ok.ensures.effect
-    (part_failed c.args.source.now.tokens.now (word_part kinds.Until) (expr_part c.args.depth) _ _ c.in-Err-pass_word.ensures.effect))
+pub repeat_statement-returns-in-Err-expect_word-clause-effect : goal.repeat_statement-returns-in-Err-expect_word-clause-effect
+repeat_statement-returns-in-Err-expect_word-clause-effect t c =
+    repeat_told c.args.source.now.tokens.now c.args.context (expr_at c.args.depth) (block_at c.args.depth) _ _ c.args.builder.now (Err c.in-Err-expect_word.stop) (remaining c.args.source.now.tokens.now c.args.input) c.advance.ensures.stage
+    (part_then c.args.source.now.tokens.now c.args.context (block_part c.args.depth) (repeat_rest_part c.args.depth) _ _ c.args.builder.now c.in-Ok.here (Err c.in-Err-expect_word.stop) _ c.in-Ok.ensures.effect
+    (part_failed c.args.source.now.tokens.now (word_part kinds.Until) (expr_part c.args.depth) _ _ c.in-Err-expect_word.ensures.effect))
 
 pub repeat_statement-returns-in-Err-clause-effect : goal.repeat_statement-returns-in-Err-clause-effect
 repeat_statement-returns-in-Err-clause-effect t c =
     repeat_told c.args.source.now.tokens.now c.args.context (expr_at c.args.depth) (block_at c.args.depth) _ _ c.args.builder.now (Err c.in-Err.stop) (remaining c.args.source.now.tokens.now c.args.input) c.advance.ensures.stage
     (part_failed c.args.source.now.tokens.now (block_part c.args.depth) (repeat_rest_part c.args.depth) _ _ c.in-Err.ensures.effect)
 
-pub case_statement-returns-in-Ok-pass_word-clause-effect : goal.case_statement-returns-in-Ok-pass_word-clause-effect
-case_statement-returns-in-Ok-pass_word-clause-effect t c =
+pub case_statement-returns-in-Ok-expect_word-clause-effect : goal.case_statement-returns-in-Ok-expect_word-clause-effect
+case_statement-returns-in-Ok-expect_word-clause-effect t c =
     cases_told c.args.source.now.tokens.now c.args.context (expr_at c.args.depth) (block_at c.args.depth) _ _ _ _ (remaining c.args.source.now.tokens.now c.args.input) c.advance.ensures.stage
     (part_then c.args.source.now.tokens.now c.args.context (expr_part c.args.depth) (of_cases_part c.args.depth) _ _ _ c.in-Ok.here _ _ c.in-Ok.ensures.effect
-    (word_then c.args.source.now.tokens.now c.args.context kinds.Of (cases_end_part c.args.depth) _ _ _ c.in-Ok-pass_word.here _ _ c.in-Ok-pass_word.ensures.effect c.cases.ensures.effect))
+    (word_then c.args.source.now.tokens.now c.args.context kinds.Of (cases_end_part c.args.depth) _ _ _ c.in-Ok-expect_word.here _ _ c.in-Ok-expect_word.ensures.effect c.cases.ensures.effect))
 
-pub case_statement-returns-in-Err-pass_word-clause-effect : goal.case_statement-returns-in-Err-pass_word-clause-effect
-case_statement-returns-in-Err-pass_word-clause-effect t c =
-    cases_told c.args.source.now.tokens.now c.args.context (expr_at c.args.depth) (block_at c.args.depth) _ _ c.args.builder.now (Err c.in-Err-pass_word.stop) (remaining c.args.source.now.tokens.now c.args.input) c.advance.ensures.stage
-    (part_then c.args.source.now.tokens.now c.args.context (expr_part c.args.depth) (of_cases_part c.args.depth) _ _ c.args.builder.now c.in-Ok.here (Err c.in-Err-pass_word.stop) _ c.in-Ok.ensures.effect
-    (part_failed c.args.source.now.tokens.now (word_part kinds.Of) (cases_end_part c.args.depth) _ _ c.in-Err-pass_word.ensures.effect))
+pub case_statement-returns-in-Err-expect_word-clause-effect : goal.case_statement-returns-in-Err-expect_word-clause-effect
+case_statement-returns-in-Err-expect_word-clause-effect t c =
+    cases_told c.args.source.now.tokens.now c.args.context (expr_at c.args.depth) (block_at c.args.depth) _ _ c.args.builder.now (Err c.in-Err-expect_word.stop) (remaining c.args.source.now.tokens.now c.args.input) c.advance.ensures.stage
+    (part_then c.args.source.now.tokens.now c.args.context (expr_part c.args.depth) (of_cases_part c.args.depth) _ _ c.args.builder.now c.in-Ok.here (Err c.in-Err-expect_word.stop) _ c.in-Ok.ensures.effect
+    (part_failed c.args.source.now.tokens.now (word_part kinds.Of) (cases_end_part c.args.depth) _ _ c.in-Err-expect_word.ensures.effect))
 
 pub case_statement-returns-in-Err-clause-effect : goal.case_statement-returns-in-Err-clause-effect
 case_statement-returns-in-Err-clause-effect t c =
@@ -197,7 +197,7 @@ pub cases-returns-in-Ok-more_cases-clause-effect : goal.cases-returns-in-Ok-more
 cases-returns-in-Ok-more_cases-clause-effect t c =
     part_then c.args.source.now.tokens.now c.args.context (case_part c.args.depth) (cases_rest_part c.args.depth) _ _ _ c.in-Ok.here _ _ c.in-Ok.ensures.effect
     (part_then c.args.source.now.tokens.now c.args.context (cases_part c.args.depth) (word_part kinds.End) _ _ _ c.in-Ok-more_cases.here _ _ c.in-Ok-more_cases.ensures.effect
-    (told_word c.args.source.now.tokens.now c.args.context kinds.End _ _ _ _ c.pass_word.ensures.effect))
+    (told_word c.args.source.now.tokens.now c.args.context kinds.End _ _ _ _ c.expect_word.ensures.effect))
 
 pub cases-returns-in-Err-more_cases-clause-effect : goal.cases-returns-in-Err-more_cases-clause-effect
 cases-returns-in-Err-more_cases-clause-effect t c =
@@ -212,17 +212,17 @@ pub case-returns-then-not-begins_label-clause-effect : goal.case-returns-then-no
 case-returns-then-not-begins_label-clause-effect t c =
     no_case c.args.source.now.tokens.now c.args.context (block_at c.args.depth) _ c.args.input (has_not_begun label_first (remaining c.args.source.now.tokens.now c.args.input) (sym c.begins_label.ensures ∙ c.if-not-begins_label.true))
 
-pub case-returns-in-Ok-pass_word-clause-effect : goal.case-returns-in-Ok-pass_word-clause-effect
-case-returns-in-Ok-pass_word-clause-effect t c =
+pub case-returns-in-Ok-expect_word-clause-effect : goal.case-returns-in-Ok-expect_word-clause-effect
+case-returns-in-Ok-expect_word-clause-effect t c =
     case_told c.args.source.now.tokens.now c.args.context (block_at c.args.depth) c.args.builder.now _ c.args.input _ (has_begun label_first (remaining c.args.source.now.tokens.now c.args.input) (sym c.begins_label.ensures ∙ c.if-not-begins_label.false))
     (part_then c.args.source.now.tokens.now c.args.context labels_part (word_block_part c.args.depth kinds.Colon) _ _ _ c.in-Ok.here _ _ c.in-Ok.ensures.effect
-    (word_then c.args.source.now.tokens.now c.args.context kinds.Colon (block_part c.args.depth) _ _ _ c.in-Ok-pass_word.here _ _ c.in-Ok-pass_word.ensures.effect c.block.ensures.effect))
+    (word_then c.args.source.now.tokens.now c.args.context kinds.Colon (block_part c.args.depth) _ _ _ c.in-Ok-expect_word.here _ _ c.in-Ok-expect_word.ensures.effect c.block.ensures.effect))
 
-pub case-returns-in-Err-pass_word-clause-effect : goal.case-returns-in-Err-pass_word-clause-effect
-case-returns-in-Err-pass_word-clause-effect t c =
-    case_told c.args.source.now.tokens.now c.args.context (block_at c.args.depth) c.args.builder.now c.args.builder.now c.args.input (Err c.in-Err-pass_word.stop) (has_begun label_first (remaining c.args.source.now.tokens.now c.args.input) (sym c.begins_label.ensures ∙ c.if-not-begins_label.false))
-    (part_then c.args.source.now.tokens.now c.args.context labels_part (word_block_part c.args.depth kinds.Colon) _ _ c.args.builder.now c.in-Ok.here (Err c.in-Err-pass_word.stop) _ c.in-Ok.ensures.effect
-    (part_failed c.args.source.now.tokens.now (word_part kinds.Colon) (block_part c.args.depth) _ _ c.in-Err-pass_word.ensures.effect))
+pub case-returns-in-Err-expect_word-clause-effect : goal.case-returns-in-Err-expect_word-clause-effect
+case-returns-in-Err-expect_word-clause-effect t c =
+    case_told c.args.source.now.tokens.now c.args.context (block_at c.args.depth) c.args.builder.now c.args.builder.now c.args.input (Err c.in-Err-expect_word.stop) (has_begun label_first (remaining c.args.source.now.tokens.now c.args.input) (sym c.begins_label.ensures ∙ c.if-not-begins_label.false))
+    (part_then c.args.source.now.tokens.now c.args.context labels_part (word_block_part c.args.depth kinds.Colon) _ _ c.args.builder.now c.in-Ok.here (Err c.in-Err-expect_word.stop) _ c.in-Ok.ensures.effect
+    (part_failed c.args.source.now.tokens.now (word_part kinds.Colon) (block_part c.args.depth) _ _ c.in-Err-expect_word.ensures.effect))
 
 pub case-returns-in-Err-clause-effect : goal.case-returns-in-Err-clause-effect
 case-returns-in-Err-clause-effect t c =
@@ -232,22 +232,22 @@ case-returns-in-Err-clause-effect t c =
 pub for_statement-returns-in-Ok-expression-clause-effect : goal.for_statement-returns-in-Ok-expression-clause-effect
 for_statement-returns-in-Ok-expression-clause-effect t c =
     for_told c.args.source.now.tokens.now c.args.context (expr_at c.args.depth) (block_at c.args.depth) _ _ _ _ (remaining c.args.source.now.tokens.now c.args.input) c.advance.ensures.stage
-    (part_then c.args.source.now.tokens.now c.args.context variable_part (for_rest_part c.args.depth) _ _ _ c.in-Ok.here _ _ (variable_read c.args.source.now.tokens.now c.args.context c.in-Ok.field-0-0 _ _ c.args.input c.in-Ok.here c.in-Ok.ensures.read c.walk_for_variable.ensures.stage)
-    (word_then c.args.source.now.tokens.now c.args.context kinds.Assign (for_range_part c.args.depth) _ _ _ c.in-Ok-pass_word.here _ _ c.in-Ok-pass_word.ensures.effect
+    (part_then c.args.source.now.tokens.now c.args.context variable_part (for_rest_part c.args.depth) _ _ _ c.in-Ok.here _ _ (variable_read c.args.source.now.tokens.now c.args.context c.in-Ok.field-0-0 _ _ c.args.input c.in-Ok.here c.in-Ok.ensures.read c.append_for_variable.ensures.stage)
+    (word_then c.args.source.now.tokens.now c.args.context kinds.Assign (for_range_part c.args.depth) _ _ _ c.in-Ok-expect_word.here _ _ c.in-Ok-expect_word.ensures.effect
     (part_then c.args.source.now.tokens.now c.args.context (expr_part c.args.depth) (for_limit_part c.args.depth) _ _ _ c.in-Ok-expression.here _ _ c.in-Ok-expression.ensures.effect c.for_limit.ensures.effect)))
 
 pub for_statement-returns-in-Err-expression-clause-effect : goal.for_statement-returns-in-Err-expression-clause-effect
 for_statement-returns-in-Err-expression-clause-effect t c =
     for_told c.args.source.now.tokens.now c.args.context (expr_at c.args.depth) (block_at c.args.depth) _ _ c.args.builder.now (Err c.in-Err-expression.stop) (remaining c.args.source.now.tokens.now c.args.input) c.advance.ensures.stage
-    (part_then c.args.source.now.tokens.now c.args.context variable_part (for_rest_part c.args.depth) _ _ c.args.builder.now c.in-Ok.here (Err c.in-Err-expression.stop) _ (variable_read c.args.source.now.tokens.now c.args.context c.in-Ok.field-0-0 _ _ c.args.input c.in-Ok.here c.in-Ok.ensures.read c.walk_for_variable.ensures.stage)
-    (word_then c.args.source.now.tokens.now c.args.context kinds.Assign (for_range_part c.args.depth) _ _ c.args.builder.now c.in-Ok-pass_word.here (Err c.in-Err-expression.stop) _ c.in-Ok-pass_word.ensures.effect
+    (part_then c.args.source.now.tokens.now c.args.context variable_part (for_rest_part c.args.depth) _ _ c.args.builder.now c.in-Ok.here (Err c.in-Err-expression.stop) _ (variable_read c.args.source.now.tokens.now c.args.context c.in-Ok.field-0-0 _ _ c.args.input c.in-Ok.here c.in-Ok.ensures.read c.append_for_variable.ensures.stage)
+    (word_then c.args.source.now.tokens.now c.args.context kinds.Assign (for_range_part c.args.depth) _ _ c.args.builder.now c.in-Ok-expect_word.here (Err c.in-Err-expression.stop) _ c.in-Ok-expect_word.ensures.effect
     (part_failed c.args.source.now.tokens.now (expr_part c.args.depth) (for_limit_part c.args.depth) _ _ c.in-Err-expression.ensures.effect)))
 
-pub for_statement-returns-in-Err-pass_word-clause-effect : goal.for_statement-returns-in-Err-pass_word-clause-effect
-for_statement-returns-in-Err-pass_word-clause-effect t c =
-    for_told c.args.source.now.tokens.now c.args.context (expr_at c.args.depth) (block_at c.args.depth) _ _ c.args.builder.now (Err c.in-Err-pass_word.stop) (remaining c.args.source.now.tokens.now c.args.input) c.advance.ensures.stage
-    (part_then c.args.source.now.tokens.now c.args.context variable_part (for_rest_part c.args.depth) _ _ c.args.builder.now c.in-Ok.here (Err c.in-Err-pass_word.stop) _ (variable_read c.args.source.now.tokens.now c.args.context c.in-Ok.field-0-0 _ _ c.args.input c.in-Ok.here c.in-Ok.ensures.read c.walk_for_variable.ensures.stage)
-    (part_failed c.args.source.now.tokens.now (word_part kinds.Assign) (for_range_part c.args.depth) _ _ c.in-Err-pass_word.ensures.effect))
+pub for_statement-returns-in-Err-expect_word-clause-effect : goal.for_statement-returns-in-Err-expect_word-clause-effect
+for_statement-returns-in-Err-expect_word-clause-effect t c =
+    for_told c.args.source.now.tokens.now c.args.context (expr_at c.args.depth) (block_at c.args.depth) _ _ c.args.builder.now (Err c.in-Err-expect_word.stop) (remaining c.args.source.now.tokens.now c.args.input) c.advance.ensures.stage
+    (part_then c.args.source.now.tokens.now c.args.context variable_part (for_rest_part c.args.depth) _ _ c.args.builder.now c.in-Ok.here (Err c.in-Err-expect_word.stop) _ (variable_read c.args.source.now.tokens.now c.args.context c.in-Ok.field-0-0 _ _ c.args.input c.in-Ok.here c.in-Ok.ensures.read c.append_for_variable.ensures.stage)
+    (part_failed c.args.source.now.tokens.now (word_part kinds.Assign) (for_range_part c.args.depth) _ _ c.in-Err-expect_word.ensures.effect))
 
 pub for_statement-returns-in-Err-clause-effect : goal.for_statement-returns-in-Err-clause-effect
 for_statement-returns-in-Err-clause-effect t c =
@@ -279,7 +279,7 @@ pub for_body-returns-in-Ok-block-clause-effect : goal.for_body-returns-in-Ok-blo
 for_body-returns-in-Ok-block-clause-effect t c =
     word_then c.args.source.now.tokens.now c.args.context kinds.Do (block_end_part c.args.depth) _ _ _ c.in-Ok.here _ _ c.in-Ok.ensures.effect
     (part_then c.args.source.now.tokens.now c.args.context (block_part c.args.depth) (word_part kinds.End) _ _ _ c.in-Ok-block.here _ _ c.in-Ok-block.ensures.effect
-    (told_word c.args.source.now.tokens.now c.args.context kinds.End _ _ _ _ c.pass_word-in-Ok-block.ensures.effect))
+    (told_word c.args.source.now.tokens.now c.args.context kinds.End _ _ _ _ c.expect_word-in-Ok-block.ensures.effect))
 
 pub for_body-returns-in-Err-block-clause-effect : goal.for_body-returns-in-Err-block-clause-effect
 for_body-returns-in-Err-block-clause-effect t c =
@@ -308,22 +308,22 @@ pub more_statements-returns-clause-effect : goal.more_statements-returns-clause-
 more_statements-returns-clause-effect t c =
     repeat_done c.args.source.now.tokens.now (statements c.args.depth) (behind_token stmt_rows) c.args.context _ _ c.args.input c.more.here (sym c.accept.ensures.read ∙ ap (skipped c.args.source.now.tokens.now kinds.Semicolon) c.in_default.is) c.more.invariant.0
 
-pub more_branches-more-init : goal.more_branches-more-init
-more_branches-more-init t c = (repeat_begun c.args.source.now.tokens.now (branches c.args.depth c.args.keyword) (behind_token branch_rows) c.args.context _ c.args.input, c.requires)
+pub elsif_branches-more-init : goal.elsif_branches-more-init
+elsif_branches-more-init t c = (repeat_begun c.args.source.now.tokens.now (branches c.args.depth c.args.keyword) (behind_token branch_rows) c.args.context _ c.args.input, c.requires)
 
-pub more_branches-more-smaller : goal.more_branches-more-smaller
-more_branches-more-smaller t c =
+pub elsif_branches-more-smaller : goal.elsif_branches-more-smaller
+elsif_branches-more-smaller t c =
     repeat_shorter c.args.source.now.tokens.now (branches c.args.depth c.args.keyword) branch_rows c.args.context _ _ c.more.here c.in-Some.following c.in_Ok-next.next (sym c.accept.ensures.read ∙ ap (skipped c.args.source.now.tokens.now kinds.Elsif) c.in-Some.is) c.in_Ok-next.ensures.effect
 
-pub more_branches-more-preserved : goal.more_branches-more-preserved
-more_branches-more-preserved t c = (repeat_behind c.args.source.now.tokens.now (branches c.args.depth c.args.keyword) branch_rows c.args.context _ _ _ _ c.args.input c.more.here c.in-Some.following c.in_Ok-next.next (sym c.accept.ensures.read ∙ ap (skipped c.args.source.now.tokens.now kinds.Elsif) c.in-Some.is) c.more.invariant.0 c.advance.ensures.stage c.in_Ok-next.ensures.effect, c.in_Ok-next.ensures.number)
+pub elsif_branches-more-preserved : goal.elsif_branches-more-preserved
+elsif_branches-more-preserved t c = (repeat_behind c.args.source.now.tokens.now (branches c.args.depth c.args.keyword) branch_rows c.args.context _ _ _ _ c.args.input c.more.here c.in-Some.following c.in_Ok-next.next (sym c.accept.ensures.read ∙ ap (skipped c.args.source.now.tokens.now kinds.Elsif) c.in-Some.is) c.more.invariant.0 c.advance.ensures.stage c.in_Ok-next.ensures.effect, c.in_Ok-next.ensures.number)
 
-pub more_branches-returns-in_Err-next-clause-effect : goal.more_branches-returns-in_Err-next-clause-effect
-more_branches-returns-in_Err-next-clause-effect t c =
+pub elsif_branches-returns-in_Err-next-clause-effect : goal.elsif_branches-returns-in_Err-next-clause-effect
+elsif_branches-returns-in_Err-next-clause-effect t c =
     repeat_failed c.args.source.now.tokens.now (branches c.args.depth c.args.keyword) (behind_token branch_rows) c.args.context c.in_Err-next.stop _ _ c.args.input c.more.here c.in-Some.following (sym c.accept.ensures.read ∙ ap (skipped c.args.source.now.tokens.now kinds.Elsif) c.in-Some.is) c.more.invariant.0 c.in_Err-next.ensures.effect
 
-pub more_branches-returns-clause-effect : goal.more_branches-returns-clause-effect
-more_branches-returns-clause-effect t c =
+pub elsif_branches-returns-clause-effect : goal.elsif_branches-returns-clause-effect
+elsif_branches-returns-clause-effect t c =
     repeat_done c.args.source.now.tokens.now (branches c.args.depth c.args.keyword) (behind_token branch_rows) c.args.context _ _ c.args.input c.more.here (sym c.accept.ensures.read ∙ ap (skipped c.args.source.now.tokens.now kinds.Elsif) c.in_default.is) c.more.invariant.0
 
 pub more_cases-more-init : goal.more_cases-more-init

@@ -1,7 +1,7 @@
 use Rattle.std.proofs.Common.{◌≡◌, ◌+◌, ◌*◌, length}
 use Rattle.table_rules.specs.Statements.{branch_rows, case_rows, stmt_rows}
-use Rattle.ob_parse.specs.AgreesWith.{remaining}
-use Rattle.ob_parse.proofs.Repetitions.{branches, cases, statements}
+use Rattle.ob_grammar.specs.AgreesWith.{remaining}
+use Rattle.ob_grammar.proofs.Repetitions.{branches, cases, statements}
 use Rattle.table_reader.proofs.Lists.{behind_token, RepeatListing}
 use Rattle.table_reader.proofs.statements.+statements.Given as goal
 
@@ -20,8 +20,8 @@ decreases-optional_block l = 16 * l.depth + 3
 abbrev pub decreases-branch : goal.decreases-branch
 decreases-branch l = 16 * l.depth + 3
 
-abbrev pub decreases-more_branches : goal.decreases-more_branches
-decreases-more_branches l = 16 * l.depth + 4
+abbrev pub decreases-elsif_branches : goal.decreases-elsif_branches
+decreases-elsif_branches l = 16 * l.depth + 4
 
 abbrev pub decreases-case : goal.decreases-case
 decreases-case l = 16 * l.depth + 3
@@ -62,11 +62,11 @@ invariant-more_statements-more l = (RepeatListing l.fn.source.tokens.now (statem
 abbrev pub decreases-more_statements-more : goal.decreases-more_statements-more
 decreases-more_statements-more l = length (remaining l.fn.source.tokens.now l.here)
 
-abbrev pub invariant-more_branches-more : goal.invariant-more_branches-more
-invariant-more_branches-more l = (RepeatListing l.fn.source.tokens.now (branches l.depth l.keyword) (behind_token branch_rows) l.context l.initial.builder l.builder l.fn.input l.here) × (l.builder.number ≡ l.here.at)
+abbrev pub invariant-elsif_branches-more : goal.invariant-elsif_branches-more
+invariant-elsif_branches-more l = (RepeatListing l.fn.source.tokens.now (branches l.depth l.keyword) (behind_token branch_rows) l.context l.initial.builder l.builder l.fn.input l.here) × (l.builder.number ≡ l.here.at)
 
-abbrev pub decreases-more_branches-more : goal.decreases-more_branches-more
-decreases-more_branches-more l = length (remaining l.fn.source.tokens.now l.here)
+abbrev pub decreases-elsif_branches-more : goal.decreases-elsif_branches-more
+decreases-elsif_branches-more l = length (remaining l.fn.source.tokens.now l.here)
 
 abbrev pub invariant-more_cases-more : goal.invariant-more_cases-more
 invariant-more_cases-more l = (RepeatListing l.fn.source.tokens.now (cases l.depth) (behind_token case_rows) l.context l.initial.builder l.builder l.fn.input l.here) × (l.builder.number ≡ l.here.at)

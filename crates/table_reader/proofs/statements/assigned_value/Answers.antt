@@ -1,8 +1,8 @@
 use Rattle.std.proofs.Common.{None, refl, sym, ap, ◌∙◌}
 use Rattle.ob_scan.specs.declared.kind.Kind.TheVariants as kinds
-use Rattle.ob_parse.specs.AgreesWith.{skipped}
-use Rattle.ob_parse.specs.Combinators.{accept_at}
-use Rattle.ob_parse.specs.ReadExpressions.{expr_at}
+use Rattle.ob_grammar.specs.AgreesWith.{skipped}
+use Rattle.ob_grammar.specs.Combinators.{accept_at}
+use Rattle.ob_grammar.specs.ReadExpressions.{expr_at}
 use Rattle.table_reader.specs.StatementShapes.{assigned_stage, value_events}
 use Rattle.table_reader.proofs.Combine.{told_absent}
 use Rattle.table_reader.proofs.StatementTrees.{some_given}

@@ -1,6 +1,6 @@
 use Rattle.std.proofs.Common.{◌≡◌, length}
-use Rattle.ob_parse.specs.AgreesWith.{remaining}
-use Rattle.ob_parse.proofs.Repetitions.{expressions}
+use Rattle.ob_grammar.specs.AgreesWith.{remaining}
+use Rattle.ob_grammar.proofs.Repetitions.{expressions}
 use Rattle.table_reader.specs.TypeShapes.{length_rows}
 use Rattle.table_reader.proofs.Lists.{RepeatListing}
 use Rattle.table_reader.proofs.types.more_lengths.Given as goal

@@ -8,9 +8,9 @@ use Rattle.type_graph.proofs.decompose.collect_fields.Goals as goal
 pub loop-field-preserved : goal.loop-field-preserved
 loop-field-preserved g c =
     one_more (g.G.TypeGraph.shape c.args.graph.now) (g.G.TypeGraph.base_of c.args.graph.now) (g.G.TypeGraph.field_of c.args.graph.now) g.G.Record.PartialEq.eq c.args.paths.now.keys c.deref-field-items.result.now c.loop-field.field-index c.field-item.result
-    c.loop-field.field_entries.items c.add_field.new.field_entries.items
+    c.loop-field.field_entries.items c.append_field_entry.new.field_entries.items
     (slice_get-get_or c.deref-field-items.result.now c.loop-field.field-index c.field-item.result c.loop-field-test.true ∙ ap (λ (it : RecordField g.row.G-Record.Denot). Some it) (sym c.field-item.is))
-    c.loop-field.invariant c.in_ok-add_field.ensures
+    c.loop-field.invariant c.in_ok-append_field_entry.ensures
 
 pub returns : goal.returns
 returns g c =

@@ -29,7 +29,7 @@ returns-in-Some-get_index g c shape base field built lacks =
     let slot = c.in-Some.slot in
     let at = stands_at g.R.PartialEq.eq c.requires.eq_is_identity paths c.args.«record» slot (sym c.get_index_of.ensures.index ∙ c.in-Some.is) in
     let end = ends_at ends.items slot c.index-end.result.now (omega (arith, c.len.ensures, ends.ok.0)) c.index-end.ensures in
-    let next = subst (λ (es : List FieldEntry). IsSlotAfter es name slot c.slot_after-next.result) c.as_slice.ensures.value c.slot_after-next.ensures in
+    let next = subst (λ (es : List FieldEntry). IsSlotAfter es name slot c.next_slot_with_name-next.result) c.as_slice.ensures.value c.next_slot_with_name-next.ensures in
     let onto = subst (λ (o : Option ℕ). IsSlotAfter c.args.paths.now.field_entries.items name slot o) c.in-Some-within.ensures.some.0 next in
     hop_onto shape base field paths ends.items c.args.paths.now.field_entries.items name slot c.index-end.result.now c.in-Some-within.next
     c.args.«record» c.in-Some-get_index.parent.now built at end lacks onto c.in-Some-within.ensures.some.1 (sym c.in-Some-get_index.ensures.key)
@@ -42,6 +42,6 @@ returns-in-Some-get_index-2 g c shape base field built lacks =
     let slot = c.in-Some.slot in
     let at = stands_at g.R.PartialEq.eq c.requires.eq_is_identity paths c.args.«record» slot (sym c.get_index_of.ensures.index ∙ c.in-Some.is) in
     let end = ends_at ends.items slot c.index-end.result.now (omega (arith, c.len.ensures, ends.ok.0)) c.index-end.ensures in
-    let next = subst (λ (es : List FieldEntry). IsSlotAfter es name slot c.slot_after-next.result) c.as_slice.ensures.value c.slot_after-next.ensures in
+    let next = subst (λ (es : List FieldEntry). IsSlotAfter es name slot c.next_slot_with_name-next.result) c.as_slice.ensures.value c.next_slot_with_name-next.ensures in
     hop_to_end shape base field paths ends.items c.args.paths.now.field_entries.items name slot c.index-end.result.now
-    c.args.«record» c.in-Some-get_index-2.last.now c.slot_after-next.result built at end lacks next c.in-None.ensures.none (sym c.in-Some-get_index-2.ensures.key)
+    c.args.«record» c.in-Some-get_index-2.last.now c.next_slot_with_name-next.result built at end lacks next c.in-None.ensures.none (sym c.in-Some-get_index-2.ensures.key)

@@ -9,14 +9,14 @@ records-init g c =
     let shape = g.G.TypeGraph.shape c.args.graph.now in
     let base = g.G.TypeGraph.base_of c.args.graph.now in
     let field = λ (r : g.row.G-Record.Denot). g.G.TypeGraph.field_of c.args.graph.now r c.args.name.now in
-    record { memo = c.requires.memo; parents = c.requires.parents; paths = c.requires.paths; climbs = climbs_nowhere shape base field g.G.Record.PartialEq.eq g.met.G.TypeGraph.eq_is_identity c.args.from c.args.detector.now.checkpoints.items c.requires.none_passed }
+    record { cache = record { parents = c.requires.cache.parents; paths = c.requires.cache.paths; fields = c.requires.cache.fields }; climbs = climbs_nowhere shape base field g.G.Record.PartialEq.eq g.met.G.TypeGraph.eq_is_identity c.args.from c.args.detector.now.checkpoints.items c.requires.none_passed }
 
 pub returns-in-Some-clause-fields : goal.returns-in-Some-clause-fields
 returns-in-Some-clause-fields g c =
     let shape = g.G.TypeGraph.shape c.args.graph.now in
     let base = g.G.TypeGraph.base_of c.args.graph.now in
     let field = λ (r : g.row.G-Record.Denot). g.G.TypeGraph.field_of c.args.graph.now r c.args.name.now in
-    known_here shape base field g.G.Record.PartialEq.eq g.met.G.TypeGraph.eq_is_identity c.args.from c.records.«record» c.records.detector.checkpoints.items c.local_field.result c.in-Some.field c.in-Some.is c.local_field.ensures.some
+    known_here shape base field g.G.Record.PartialEq.eq g.met.G.TypeGraph.eq_is_identity c.args.from c.records.«record» c.records.detector.checkpoints.items c.own_or_memoized_field.result c.in-Some.field c.in-Some.is c.own_or_memoized_field.ensures.some
     c.records.invariant.climbs
 
 pub returns-in-None-clause-fields : goal.returns-in-None-clause-fields
@@ -33,9 +33,7 @@ records-preserved g c =
     let base = g.G.TypeGraph.base_of c.args.graph.now in
     let field = λ (r : g.row.G-Record.Denot). g.G.TypeGraph.field_of c.args.graph.now r c.args.name.now in
     record {
-      memo = c.in_ok-climb.ensures.memo;
-      parents = c.in_ok-climb.ensures.parents;
-      paths = c.in_ok-climb.ensures.paths;
+      cache = c.in_ok-climb.ensures.cache;
       climbs = progresses shape base field g.G.Record.PartialEq.eq g.met.G.TypeGraph.eq_is_identity c.args.from c.records.«record» c.in-Some-2.parent c.records.detector.checkpoints.items c.climb.new.detector.checkpoints.items
           c.in_ok-climb.field-0 c.in-Some-2.is c.in_ok-climb.ensures.next c.records.invariant.climbs;
     }

@@ -11,7 +11,7 @@ returns-in-None-clause-none g c =
     let shape = g.G.TypeGraph.shape c.args.graph.now in
     let base = g.G.TypeGraph.base_of c.args.graph.now in
     let field = λ (r : g.row.G-Record.Denot). g.G.TypeGraph.field_of c.args.graph.now r c.args.name.now in
-    no_field_told g.G.Declaration.PartialEq.eq shape (g.met.G.TypeGraph.named c.args.graph.now) field base c.args.from c.in_ok-record_of.field-0 c.in-None.is c.in_ok-record_of.ensures.is
+    no_field_told g.G.Declaration.PartialEq.eq shape (g.met.G.TypeGraph.named c.args.graph.now) field base c.args.from c.in_ok-denoted_record.field-0 c.in-None.is c.in_ok-denoted_record.ensures.is
 
 pub returns-in-Some-clause-found : goal.returns-in-Some-clause-found
 returns-in-Some-clause-found g c =
@@ -19,8 +19,8 @@ returns-in-Some-clause-found g c =
     let base = g.G.TypeGraph.base_of c.args.graph.now in
     let field = λ (r : g.row.G-Record.Denot). g.G.TypeGraph.field_of c.args.graph.now r c.args.name.now in
     let finds = Finds g.G.Declaration.PartialEq.eq shape field base [] c.args.from in
-    IfOk-weaker c.lookup_field.result (IsFieldIn shape base field c.in-Some.«record») (λ o. IfSome o finds)
-    (λ o h. (field_told g.G.Declaration.PartialEq.eq shape (g.met.G.TypeGraph.named c.args.graph.now) field base c.args.from c.in-Some.«record» c.in_ok-record_of.field-0 o c.in-Some.is c.in_ok-record_of.ensures.is h).0) c.lookup_field.ensures.is
+    IfOk-weaker c.find_field_in_record.result (IsFieldIn shape base field c.in-Some.«record») (λ o. IfSome o finds)
+    (λ o h. (field_told g.G.Declaration.PartialEq.eq shape (g.met.G.TypeGraph.named c.args.graph.now) field base c.args.from c.in-Some.«record» c.in_ok-denoted_record.field-0 o c.in-Some.is c.in_ok-denoted_record.ensures.is h).0) c.find_field_in_record.ensures.is
 
 pub returns-in-Some-clause-none : goal.returns-in-Some-clause-none
 returns-in-Some-clause-none g c =
@@ -28,5 +28,5 @@ returns-in-Some-clause-none g c =
     let base = g.G.TypeGraph.base_of c.args.graph.now in
     let field = λ (r : g.row.G-Record.Denot). g.G.TypeGraph.field_of c.args.graph.now r c.args.name.now in
     let finds = Finds g.G.Declaration.PartialEq.eq shape field base [] c.args.from in
-    IfOk-weaker c.lookup_field.result (IsFieldIn shape base field c.in-Some.«record») (λ o. IfNone o ((f : g.row.G-Field.Denot) → finds f → ⊥))
-    (λ o h. (field_told g.G.Declaration.PartialEq.eq shape (g.met.G.TypeGraph.named c.args.graph.now) field base c.args.from c.in-Some.«record» c.in_ok-record_of.field-0 o c.in-Some.is c.in_ok-record_of.ensures.is h).1) c.lookup_field.ensures.is
+    IfOk-weaker c.find_field_in_record.result (IsFieldIn shape base field c.in-Some.«record») (λ o. IfNone o ((f : g.row.G-Field.Denot) → finds f → ⊥))
+    (λ o h. (field_told g.G.Declaration.PartialEq.eq shape (g.met.G.TypeGraph.named c.args.graph.now) field base c.args.from c.in-Some.«record» c.in_ok-denoted_record.field-0 o c.in-Some.is c.in_ok-denoted_record.ensures.is h).1) c.find_field_in_record.ensures.is

@@ -7,8 +7,8 @@ use Rattle.work_board.proofs.Counting.{times_yes, times_no}
 use Rattle.work_board.proofs.Turning.{pushed_same, pushed_away, pushed_other, pushed_within}
 use Rattle.work_board.proofs.graph.add_importer.Goals as goal
 
-pub push_at-requires : goal.push_at-requires
-push_at-requires c =
+pub append_at-requires : goal.append_at-requires
+append_at-requires c =
     let i = c.loop-imported.imported-index in
     let lt : slice_index c.args.row.now i < length (lists c.args.rows.now.items) = c.requires i 0 c.loop-imported-test.true in
     let same = c.loop-imported.invariant.size in
@@ -24,13 +24,13 @@ loop-imported-preserved c =
     let at = slice_index row i in
     let before = c.loop-imported.invariant in
     let rows = lists c.loop-imported.rows.items in
-    let new = lists c.push_at.new.rows.items in
+    let new = lists c.append_at.new.rows.items in
     let lt' : at < length (lists c.args.rows.now.items) = c.requires i 0 c.loop-imported-test.true in
     let same = before.size in
     let lt : at < length rows = omega arith in
-    let is = c.in_ok-push_at.ensures.rows in
+    let is = c.in_ok-append_at.ensures.rows in
     record {
-      size = c.in_ok-push_at.ensures.size ∙ before.size;
+      size = c.in_ok-append_at.ensures.size ∙ before.size;
       more = λ n. elim (cases_eq n at) [
         | inl here ↦
             let t : times_in at (take (i + 1) row) ≡ times_in at (take i row) + 1 = times_yes at row i c.loop-imported-test.true refl in

@@ -19,7 +19,7 @@ returns-then-len-gt-MOST_NAMES c before h good =
     let ends = are_ends _ _ _ _ _ _ _ from.names from.within from.place to.names to.within to.place in
     let absent = c.in_ok-insert_import.ensures.absent c.if-branch.false in
     let last = c.in_ok-insert_import.ensures.last c.if-branch.false in
-    let long = length-map c.note_name-2.new.names.keys string_bytes in
+    let long = length-map c.intern_name-2.new.names.keys string_bytes in
     let more = ap length last ∙ length_push c.args.self.now.imports.entries ((c.in_ok-from.from, c.in_ok-to.to), c.args.weight) in
     elim c.then-len-gt-MOST_NAMES.branch [
       | then-len-gt-MOST_NAMES-via-then-len-gt-MOST_NAMES w ↦ adds_name before _ _ _ _ h _ _ c.args.weight _ _ ends absent (omega arith)
@@ -33,6 +33,6 @@ returns c before h good =
     let ends = are_ends _ _ _ _ _ _ _ from.names from.within from.place to.names to.within to.place in
     let absent = c.in_ok-insert_import.ensures.absent c.if-branch.false in
     let last = c.in_ok-insert_import.ensures.last c.if-branch.false in
-    let long = length-map c.note_name-2.new.names.keys string_bytes in
+    let long = length-map c.intern_name-2.new.names.keys string_bytes in
     let more = ap length last ∙ length_push c.args.self.now.imports.entries ((c.in_ok-from.from, c.in_ok-to.to), c.args.weight) in
     rw last (adds_import before _ _ _ _ h _ _ c.args.weight _ _ ends absent good (omega arith) (omega arith))

@@ -8,12 +8,12 @@ use Rattle.cut_net.proofs.builder.NetBuilder.add_module.Goals as goal
 
 pub returns-then-len-gt-MOST_NAMES : goal.returns-then-len-gt-MOST_NAMES
 returns-then-len-gt-MOST_NAMES c before h good =
-    let long = length-map c.note_name.new.names.keys string_bytes in
-    let many : 8192 < length (noted (texts c.args.self.now.names.keys) c.args.name.now) = rw (← c.in_ok-note_name.ensures.names) (omega arith) in
+    let long = length-map c.intern_name.new.names.keys string_bytes in
+    let many : 8192 < length (noted (texts c.args.self.now.names.keys) c.args.name.now) = rw (← c.in_ok-intern_name.ensures.names) (omega arith) in
     many_module before _ _ h c.args.name.now good many
 
 pub returns : goal.returns
 returns c before h good =
-    let long = length-map c.note_name.new.names.keys string_bytes in
-    let few : length (noted (texts c.args.self.now.names.keys) c.args.name.now) ≤ 8192 = rw (← c.in_ok-note_name.ensures.names) (omega arith) in
-    rw c.in_ok-note_name.ensures.names (tables_module before _ _ h c.args.name.now good few)
+    let long = length-map c.intern_name.new.names.keys string_bytes in
+    let few : length (noted (texts c.args.self.now.names.keys) c.args.name.now) ≤ 8192 = rw (← c.in_ok-intern_name.ensures.names) (omega arith) in
+    rw c.in_ok-intern_name.ensures.names (tables_module before _ _ h c.args.name.now good few)

@@ -6,7 +6,7 @@ use Rattle.cut_net.specs.NetReading.{line_content}
 use Rattle.cut_net.specs.NetText.{NetLine}
 use Rattle.cut_net.proofs.Ahead.{line_goes_on, line_repeats}
 use Rattle.cut_net.proofs.line_list.LineList.consume_line.Goals as goal
-use Rattle.cut_net.proofs.line_list.LineList.consume_line.Goals.{else-near-text-via-then-near-text+else-not-check_for_repeat, else-near-text-via-else-near-text}
+use Rattle.cut_net.proofs.line_list.LineList.consume_line.Goals.{else-near-text-via-then-near-text+else-not-has_distinct_imports, else-near-text-via-else-near-text}
 
 pub returns-in-Ok-clause-goes_on : goal.returns-in-Ok-clause-goes_on
 returns-in-Ok-clause-goes_on c before h =
@@ -23,7 +23,7 @@ returns-clause-goes_on c = IfOk-weaker c.consume_first.result _ _ (λ rest goes 
   where
     kept : (before : List NetLine) → IsList before c.args.self.now → IsList before c.else-near-text.self
     kept before was = elim c.else-near-text.branch [
-      | else-near-text-via-then-near-text+else-not-check_for_repeat w ↦ subst (IsList before) (sym w.self-is) (w.check_for_repeat.ensures before was)
+      | else-near-text-via-then-near-text+else-not-has_distinct_imports w ↦ subst (IsList before) (sym w.self-is) (w.has_distinct_imports.ensures before was)
       | else-near-text-via-else-near-text w ↦ subst (IsList before) (sym w.self-is) was
     ]
 
@@ -32,6 +32,6 @@ returns-clause-twice c = IfErr-weaker c.consume_first.result _ _ (λ stop change
   where
     kept : (before : List NetLine) → IsList before c.args.self.now → IsList before c.else-near-text.self
     kept before was = elim c.else-near-text.branch [
-      | else-near-text-via-then-near-text+else-not-check_for_repeat w ↦ subst (IsList before) (sym w.self-is) (w.check_for_repeat.ensures before was)
+      | else-near-text-via-then-near-text+else-not-has_distinct_imports w ↦ subst (IsList before) (sym w.self-is) (w.has_distinct_imports.ensures before was)
       | else-near-text-via-else-near-text w ↦ subst (IsList before) (sym w.self-is) was
     ]

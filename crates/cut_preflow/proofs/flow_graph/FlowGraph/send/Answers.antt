@@ -2,7 +2,7 @@ use Rattle.std.proofs.Common.{◌≡◌, ◌+◌, ◌-◌, ◌/◌, ◌∙◌, i
 use Rattle.residual_graph.specs.declared.arc.ResidualArc.{ResidualArc}
 use Rattle.residual_graph.specs.Flows.{pushed}
 use Rattle.residual_graph.specs.Graphs.{no_arc}
-use Rattle.cut_preflow.specs.FlowGraphs.{Carried, flows_of, imports_of}
+use Rattle.cut_preflow.specs.FlowGraphs.{FlowGraphModel, flows_of, imports_of}
 use Rattle.cut_preflow.specs.Preflow.{is_forward}
 use Rattle.cut_preflow.proofs.Graphs.{sent, sent_flows, sent_imports}
 use Rattle.cut_preflow.proofs.flow_graph.FlowGraph.send.Goals as goal
@@ -22,4 +22,4 @@ returns c =
     λ i. record { nodes = nodes; imports = sent_imports arcs a amount i; flow = sent_flows arcs a amount i } in
     one
     ∙ two
-    ∙ ap (λ (g : Carried). record { nodes = g.nodes; imports = g.imports; flow = slice_set g.flow (a / 2) (if is_forward a then slice_index g.flow (a / 2) + amount else slice_index g.flow (a / 2) - amount) }) c.self.view_is
+    ∙ ap (λ (g : FlowGraphModel). record { nodes = g.nodes; imports = g.imports; flow = slice_set g.flow (a / 2) (if is_forward a then slice_index g.flow (a / 2) + amount else slice_index g.flow (a / 2) - amount) }) c.self.view_is

@@ -12,7 +12,7 @@ returns-then-at-self c =
     let within : node < length position.items = omega (arith, c.requires, ap length c.self.view_is, length-map position.items (λ p. nat_lt p size)) in
     let at : c.index-at.result.now ≡ get_or position.items node 0 = get_or_read position.items node c.index-at.result.now within c.index-at.ensures 0 in
     let past : size ≤ get_or position.items node 0 = omega (arith, at, c.if-at-self.true) in
-    ap (map (λ p. nat_lt p (size + 1))) (places_written position _ c.exchange.new.position c.index-at.result.now size node (sym c.self.inside.position.ok.0) c.exchange.ensures.position c.as_mut_slice-then-at-self.ensures.value at)
+    ap (map (λ p. nat_lt p (size + 1))) (places_written position _ c.swap_nodes.new.position c.index-at.result.now size node (sym c.self.inside.position.ok.0) c.swap_nodes.ensures.position c.as_mut_slice-then-at-self.ensures.value at)
     ∙ members_more c.self.inside.order.items position.items node size c.self.invariant.inverse within past
     ∙ ap (λ m. set m node true) c.self.view_is
 
@@ -31,11 +31,11 @@ index-at-requires c =
     let position = c.self.inside.position in
     omega (arith, c.requires, ap length c.self.view_is, length-map position.items (λ p. nat_lt p c.self.inside.size), position.ok.0)
 
-pub exchange-requires-clause-inverse : goal.exchange-requires-clause-inverse
-exchange-requires-clause-inverse c = rw (c.as_mut_slice.ensures.value, c.as_mut_slice-then-at-self.ensures.value) c.self.invariant.inverse
+pub swap_nodes-requires-clause-inverse : goal.swap_nodes-requires-clause-inverse
+swap_nodes-requires-clause-inverse c = rw (c.as_mut_slice.ensures.value, c.as_mut_slice-then-at-self.ensures.value) c.self.invariant.inverse
 
-pub exchange-requires-clause-first : goal.exchange-requires-clause-first
-exchange-requires-clause-first c =
+pub swap_nodes-requires-clause-first : goal.swap_nodes-requires-clause-first
+swap_nodes-requires-clause-first c =
     let position = c.self.inside.position in
     let size = c.self.inside.size in
     let node = c.args.node in
@@ -44,8 +44,8 @@ exchange-requires-clause-first c =
     let low = c.self.invariant.inverse.positions node within in
     omega (arith, ap length c.as_mut_slice.ensures.value, at, low)
 
-pub exchange-requires-clause-second : goal.exchange-requires-clause-second
-exchange-requires-clause-second c =
+pub swap_nodes-requires-clause-second : goal.swap_nodes-requires-clause-second
+swap_nodes-requires-clause-second c =
     let position = c.self.inside.position in
     let size = c.self.inside.size in
     let node = c.args.node in
@@ -64,6 +64,6 @@ invariant_of-self c =
     let at : c.index-at.result.now ≡ get_or position.items node 0 = get_or_read position.items node c.index-at.result.now within c.index-at.ensures 0 in
     let low = c.self.invariant.inverse.positions node within in
     let is = c.self.invariant in
-    arranged_written order position c.exchange.new.order c.exchange.new.position c.as_mut_slice-then-at-self.result.now c.index-at.result.now (size) (size + 1)
-    (sym order.ok.0) (sym position.ok.0) is.inverse.lengths is.few c.as_mut_slice-then-at-self.ensures.value c.exchange.ensures.position c.exchange.ensures.inverse
+    arranged_written order position c.swap_nodes.new.order c.swap_nodes.new.position c.as_mut_slice-then-at-self.result.now c.index-at.result.now (size) (size + 1)
+    (sym order.ok.0) (sym position.ok.0) is.inverse.lengths is.few c.as_mut_slice-then-at-self.ensures.value c.swap_nodes.ensures.position c.swap_nodes.ensures.inverse
     (omega (arith, at, low, is.inverse.lengths, is.within, c.if-at-self.true))

@@ -9,19 +9,19 @@ use Rattle.cut_preflow.proofs.preflow_core.PreflowCore.least_label.Goals as goal
 use Rattle.cut_preflow.proofs.preflow_core.PreflowCore.least_label.Goals.{After-loop-out, then-out-gt0, else-out-gt0}
 
 pub label-label-requires : goal.label-label-requires
-label-label-requires c = (c.outs_from-out-items.ensures.each c.loop-out.out-index no_out_arc c.loop-out-test.true).arc.low
+label-label-requires c = (c.out_arcs-out-items.ensures.each c.loop-out.out-index no_out_arc c.loop-out-test.true).arc.low
 
 pub loop-out-init : goal.loop-out-init
-loop-out-init c = Lowest-none c.args.self.now.net (state_of c.args.self.now) (map out_arc_number c.outs_from-out-items.result.now)
+loop-out-init c = Lowest-none c.args.self.now.net (state_of c.args.self.now) (map out_arc_number c.out_arcs-out-items.result.now)
 
 pub loop-out-preserved : goal.loop-out-preserved
 loop-out-preserved c =
     let net = c.args.self.now.net in
     let s = state_of c.args.self.now in
-    let outs = c.outs_from-out-items.result.now in
+    let outs = c.out_arcs-out-items.result.now in
     let arcs = map out_arc_number outs in
     let k = c.loop-out.out-index in
-    let out = c.outs_from-out-items.ensures.each k no_out_arc c.loop-out-test.true in
+    let out = c.out_arcs-out-items.ensures.each k no_out_arc c.loop-out-test.true in
     let number = get_or-map out_arc_number outs k no_out_arc 0 c.loop-out-test.true in
     let left : residual net s (get_or arcs k 0) ≡ (get_or outs k no_out_arc).residual = ap (residual net s) number ∙ sym out.arc.residual_is in
     elim c.if-out-gt0.branch [
@@ -32,13 +32,13 @@ loop-out-preserved c =
       | else-out-gt0 w ↦ rw (w.least-is) (Lowest-skip net s arcs k c.loop-out.least c.loop-out.invariant (omega (arith, left, w.if-out-gt0.false)))
     ]
 
-whole : (c : After-loop-out) → Lowest c.args.self.now.net (state_of c.args.self.now) (map out_arc_number c.outs_from-out-items.result.now) (length (map out_arc_number c.outs_from-out-items.result.now)) c.loop-out.least
+whole : (c : After-loop-out) → Lowest c.args.self.now.net (state_of c.args.self.now) (map out_arc_number c.out_arcs-out-items.result.now) (length (map out_arc_number c.out_arcs-out-items.result.now)) c.loop-out.least
 whole c =
-    let all : c.loop-out.out-index ≡ length (map out_arc_number c.outs_from-out-items.result.now) = omega (arith, c.loop-out-test.false, c.loop-out.auto.out-index-end, length-map c.outs_from-out-items.result.now out_arc_number) in
-    subst (λ k. Lowest c.args.self.now.net (state_of c.args.self.now) (map out_arc_number c.outs_from-out-items.result.now) k c.loop-out.least) all c.loop-out.invariant
+    let all : c.loop-out.out-index ≡ length (map out_arc_number c.out_arcs-out-items.result.now) = omega (arith, c.loop-out-test.false, c.loop-out.auto.out-index-end, length-map c.out_arcs-out-items.result.now out_arc_number) in
+    subst (λ k. Lowest c.args.self.now.net (state_of c.args.self.now) (map out_arc_number c.out_arcs-out-items.result.now) k c.loop-out.least) all c.loop-out.invariant
 
 pub returns-clause-some : goal.returns-clause-some
-returns-clause-some c = Lowest-some c.args.self.now.net (state_of c.args.self.now) (map out_arc_number c.outs_from-out-items.result.now) c.args.node c.outs_from-out-items.ensures.arcs c.loop-out.least (whole c)
+returns-clause-some c = Lowest-some c.args.self.now.net (state_of c.args.self.now) (map out_arc_number c.out_arcs-out-items.result.now) c.args.node c.out_arcs-out-items.ensures.arcs c.loop-out.least (whole c)
 
 pub returns-clause-none : goal.returns-clause-none
-returns-clause-none c = Lowest-no c.args.self.now.net (state_of c.args.self.now) (map out_arc_number c.outs_from-out-items.result.now) c.args.node c.outs_from-out-items.ensures.arcs c.loop-out.least (whole c)
+returns-clause-none c = Lowest-no c.args.self.now.net (state_of c.args.self.now) (map out_arc_number c.out_arcs-out-items.result.now) c.args.node c.out_arcs-out-items.ensures.arcs c.loop-out.least (whole c)

@@ -1,7 +1,7 @@
 use Rattle.std.proofs.Common.{◌≡◌, ◌∙◌, ◌+◌, ◌-◌, ◌/◌, ◌%◌, ℕ, false, inl, inr, Some, None, if◌then◌else◌, sym, ap, subst, arith}
 use Rattle.cut_preflow.specs.declared.event.Outcome.TheVariants.{Moved, Stale}
 use Rattle.cut_preflow.specs.Indexed.{IsIndexed, carried}
-use Rattle.cut_preflow.specs.FlowGraphs.{Carried}
+use Rattle.cut_preflow.specs.FlowGraphs.{FlowGraphModel}
 use Rattle.cut_preflow.specs.Preflow.{can_push, flow_at, head, is_forward, push_amount, tail}
 use Rattle.cut_preflow.specs.Trace.{IsTrace, flow_network, state_of, state_with, step_outcome}
 use Rattle.cut_preflow.proofs.Arcs.{eq_from, eq_true, pushable_from}
@@ -84,7 +84,7 @@ invariant_of-self-2 c =
     ∙ ap (λ x. carried q.ends.source q.excesses.items (tail net arc) x amount) (to_is ok)
     ∙ ap (λ x. carried q.ends.source q.excesses.items (tail net arc) (head net arc) x) fits.is in
     let at = pushed_indexed q.ends q.graph.imports s q.graph.nodes q.excesses.items c.move_excess.new.excesses.items q.active c.move_excess.new.active arc (sound_fields q c.self.invariant.0) c.self.invariant.1 (pushable_from net s arc fits.on) same c.move_excess.ensures.active in
-    subst (λ (g : Carried). IsTrace (flow_network q.ends g.imports) g.flow q.labels.items c.push.new.self.items × IsIndexed (flow_network q.ends g.imports) (state_with g.flow q.labels.items) g.nodes c.move_excess.new.excesses.items c.move_excess.new.active) (sym c.send.ensures)
+    subst (λ (g : FlowGraphModel). IsTrace (flow_network q.ends g.imports) g.flow q.labels.items c.push.new.self.items × IsIndexed (flow_network q.ends g.imports) (state_with g.flow q.labels.items) g.nodes c.move_excess.new.excesses.items c.move_excess.new.active) (sym c.send.ensures)
     (rw (c.in-Ok.ensures.items) (
       push_played net s q.history.items c.args.event arc amount next c.self.invariant.0 c.requires fits ahead back,
       subst (λ ys. IsIndexed net (record { flow = ys; label = q.labels.items }) q.graph.nodes c.move_excess.new.excesses.items c.move_excess.new.active) (sym flow) at,

@@ -5,7 +5,7 @@ use Rattle.std.proofs.lemmas.Result.{err_from_is_err_and}
 use Rattle.cut_rules.specs.declared.fault.RulesFault.{RulesFault}
 use Rattle.cut_rules.specs.LineReading.{selector_content}
 use Rattle.cut_rules.specs.RuleLines.{Adds, Allow, Restricts, States}
-use Rattle.cut_rules.specs.Rules.{SetIsModule, TooMany, empty_fault}
+use Rattle.cut_rules.specs.Rules.{SetIsModule, TooMany, empty_selection_fault}
 use Rattle.cut_rules.specs.Names.{names_in}
 use Rattle.cut_rules.proofs.LineLaws.{says_one}
 use Rattle.cut_rules.proofs.AddLaws.{empty, many, right}
@@ -49,12 +49,12 @@ returns-then-not-branch c = λ pieces (t, says).
     let selector = selector_content c.args.selector in
     let apart = no_module net s c.in_ok-place.ensures.right.0 in
     let is = c.in_ok-add.ensures in
-    unless c.in_ok-empty_fault.field-0 (
+    unless c.in_ok-empty_selection_fault.field-0 (
       context.line,
-      empty_fault s selector,
-      wrong_line net files pieces t.place context.line t.number t.built.sound (Adds s selector) (empty_fault s selector) says
+      empty_selection_fault s selector,
+      wrong_line net files pieces t.place context.line t.number t.built.sound (Adds s selector) (empty_selection_fault s selector) says
           (empty net files (names_in context.names.now.sets.keys) pieces t.place context.line t.number c.args.self.now.table c.add.new.self t.built.table s apart selector (λ any. let e = is.any_is.1 any in false≢true (sym c.if-not-branch.true ∙ e))) (empty_first net files pieces context.line s selector apart),
-      c.in_ok-empty_fault.ensures,
+      c.in_ok-empty_selection_fault.ensures,
     )
 
 pub returns-then-self-gt-MOST_LINES : goal.returns-then-self-gt-MOST_LINES

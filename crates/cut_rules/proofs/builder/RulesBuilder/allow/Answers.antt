@@ -45,7 +45,7 @@ returns-in_default c = λ pieces (t, says).
     let m = c.args.importer.now in
     let n = c.args.imported.now in
     let here : States pieces (t.place + 1) (Allow m n) = subst (λ (l : ℕ). States pieces l (Allow m n)) t.number says in
-    let lacks = absent_is c.import_named.result c.import_named.ensures.none c.in_default.not-Some in
+    let lacks = absent_is c.find_import_number.result c.find_import_number.ensures.none c.in_default.not-Some in
     let unseen = is_new c.in_ok-insert.field-0 _ c.in_ok-insert.ensures.added c.if-not-branch.false in
     let number = t.number in
     made net files sets pieces context.line (t.place + 1) t.number _

@@ -1,4 +1,4 @@
--- What a line states.
+-- The content of a line is added to the builder.
 use Rattle.std.proofs.Common.{◌≡◌, ◌∙◌, ◌+◌, ℕ, List, Some, refl, sym, ap, subst}
 use Rattle.cut_rules.specs.declared.line.Line.{Line}
 use Rattle.cut_rules.specs.LineReading.{line_content, rule_line_of, selector_content}
@@ -14,14 +14,14 @@ use Rattle.cut_rules.proofs.builder.RulesBuilder.take.Goals as goal
 stated : (pieces : List (List ℕ)) (line : ℕ) (piece : List ℕ) (l : RuleLine) → IsPieceAt pieces line piece → rule_line_of piece ≡ Some l → States pieces line l
 stated pieces line piece l at e = record { piece = piece; at = at; spelled = line_takes piece l e }
 
-pub returns-then-is_idle : goal.returns-then-is_idle
-returns-then-is_idle c = λ pieces at t.
+pub returns-then-is_empty_or_comment : goal.returns-then-is_empty_or_comment
+returns-then-is_empty_or_comment c = λ pieces at t.
     let context = c.args.context.now in
     let net = context.net.now in
     let files = context.files.now in
     let sets = names_in context.names.now.sets.keys in
     let piece = c.args.piece.now in
-    let idle = sym c.is_idle.ensures ∙ c.if-is_idle.true in
+    let idle = sym c.is_empty_or_comment.ensures ∙ c.if-is_empty_or_comment.true in
     let here : IsPieceAt pieces (t.place + 1) piece = subst (λ (n : ℕ). IsPieceAt pieces n piece) t.number at in
     let none : (l : RuleLine) → States pieces (t.place + 1) l → ⊥ = λ l. idle_says pieces (t.place + 1) piece l here idle in
     made net files sets pieces context.line (t.place + 1) t.number _ (idle_line net files pieces t.place context.line t.number t.built.sound piece at idle)
@@ -36,7 +36,7 @@ returns-in-None c = λ pieces at t.
     let context = c.args.context.now in (
       context.line,
       BadLine,
-      bad_line context.net.now context.files.now pieces t.place context.line t.number t.built.sound c.args.piece.now at (sym c.is_idle.ensures ∙ c.if-is_idle.false) (sym c.in-None.ensures),
+      bad_line context.net.now context.files.now pieces t.place context.line t.number t.built.sound c.args.piece.now at (sym c.is_empty_or_comment.ensures ∙ c.if-is_empty_or_comment.false) (sym c.in-None.ensures),
       refl,
     )
 
@@ -45,8 +45,8 @@ add-requires-clause-stated c =
     let (pieces, at, t) = c.requires.present in
     (pieces, (t, stated pieces c.args.context.now.line c.args.piece.now (Adds c.in-Some-Adds.set.now (selector_content c.in-Some-Adds.selector)) at (sym c.in-Some-Adds.ensures ∙ ap (λ (l : Line). Some (line_content l)) c.in-Some-Adds.field-0-is)))
 
-pub restrict-requires : goal.restrict-requires
-restrict-requires c =
+pub add_rule-requires : goal.add_rule-requires
+add_rule-requires c =
     let (pieces, at, t) = c.requires.present in
     (pieces, (t, stated pieces c.args.context.now.line c.args.piece.now (Restricts c.in-Some-Restricts.kind c.in-Some-Restricts.first.now c.in-Some-Restricts.second.now) at (sym c.in-Some-Restricts.ensures ∙ ap (λ (l : Line). Some (line_content l)) c.in-Some-Restricts.field-0-is)))
 
@@ -61,7 +61,7 @@ returns-in-Some-Adds c = λ pieces at t.
 
 pub returns-in-Some-Restricts : goal.returns-in-Some-Restricts
 returns-in-Some-Restricts c = λ pieces at t.
-    c.restrict.ensures pieces (t, stated pieces c.args.context.now.line c.args.piece.now (Restricts c.in-Some-Restricts.kind c.in-Some-Restricts.first.now c.in-Some-Restricts.second.now) at (sym c.in-Some-Restricts.ensures ∙ ap (λ (l : Line). Some (line_content l)) c.in-Some-Restricts.field-0-is))
+    c.add_rule.ensures pieces (t, stated pieces c.args.context.now.line c.args.piece.now (Restricts c.in-Some-Restricts.kind c.in-Some-Restricts.first.now c.in-Some-Restricts.second.now) at (sym c.in-Some-Restricts.ensures ∙ ap (λ (l : Line). Some (line_content l)) c.in-Some-Restricts.field-0-is))
 
 pub returns-in-Some-Allow : goal.returns-in-Some-Allow
 returns-in-Some-Allow c = λ pieces at t.

@@ -8,8 +8,8 @@ use Rattle.cut_rules.proofs.table.SetTable.add_matching.Goals.{then-matches, els
 pub loop-node-init : goal.loop-node-init
 loop-node-init c = matched_none c.args.context.now.net.now c.args.context.now.files.now c.args.self.now c.args.set (λ m. Fits c.in_ok-pattern.pattern (name_of c.args.context.now.net.now m))
 
-pub add_span-any-requires-clause-sized : goal.add_span-any-requires-clause-sized
-add_span-any-requires-clause-sized c =
+pub add_range-any-requires-clause-sized : goal.add_range-any-requires-clause-sized
+add_range-any-requires-clause-sized c =
     let nodes = c.nodes-node-end.ensures in
     let low = c.loop-node-test.true in
     (length c.args.context.now.files.now + length c.args.context.now.net.now.names, c.loop-node.invariant.sized _ c.requires.table.sized, omega arith)
@@ -23,9 +23,9 @@ loop-node-preserved c =
     let test = rw (c.as_bytes-in-loop-node.ensures.value ∙ c.name.ensures) at c.matches.ensures in
     elim c.if-matches.branch [
       | then-matches w ↦
-          let is = w.add_span-any.ensures in
-          let some : w.add_span-any.result ≡ true = is.any.1 (omega arith) in
-          rw (w.self-is, w.any-is) (matched_more net files c.args.self.now c.args.set fits node c.loop-node.any c.loop-node.self w.add_span-any.new.self (test.0 w.if-matches.true) c.loop-node.invariant is.sets is.patterns is.modules is.count is.sized w.add_span-any.result some)
+          let is = w.add_range-any.ensures in
+          let some : w.add_range-any.result ≡ true = is.any.1 (omega arith) in
+          rw (w.self-is, w.any-is) (matched_more net files c.args.self.now c.args.set fits node c.loop-node.any c.loop-node.self w.add_range-any.new.self (test.0 w.if-matches.true) c.loop-node.invariant is.sets is.patterns is.modules is.count is.sized w.add_range-any.result some)
       | else-matches w ↦
           rw (w.self-is, w.any-is) (matched_same net files c.args.self.now c.args.set fits node c.loop-node.any c.loop-node.self (λ own. let bad : true ≡ false = sym (test.1 own) ∙ w.if-matches.false in cc) c.loop-node.invariant)
     ]

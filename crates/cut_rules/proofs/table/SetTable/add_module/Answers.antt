@@ -13,8 +13,8 @@ returns-in_default c =
     nothing_added net files c.args.self.now c.args.set (Module c.args.text.now) refl
     (no_module_selected net c.invariants.ensures.network files c.args.text.now (ap (λ (ns : List (List ℕ)). index_of (unpinned ns []) c.args.text.now) (sym c.requires.table.names) ∙ sym place ∙ c.in_default.is))
 
-pub add_span-requires-clause-sized : goal.add_span-requires-clause-sized
-add_span-requires-clause-sized c =
+pub add_range-requires-clause-sized : goal.add_range-requires-clause-sized
+add_range-requires-clause-sized c =
     let net = c.args.context.now.net.now in
     let place = rw c.as_bytes.ensures.value at c.name_index.ensures.place in
     let low = (index_takes net c.args.text.now c.in-Some.number (ap (λ (ns : List (List ℕ)). index_of (unpinned ns []) c.args.text.now) (sym c.requires.table.names) ∙ sym place ∙ c.in-Some.is)).0 in
@@ -25,6 +25,6 @@ returns c =
     let net = c.args.context.now.net.now in
     let files = c.args.context.now.files.now in
     let place = rw c.as_bytes.ensures.value at c.name_index.ensures.place in
-    let is = c.add_span.ensures in
-    module_addition net files c.args.self.now c.add_span.new.self c.args.set _ _ c.add_span.result is.sets is.any is.patterns is.modules is.count is.sized c.invariants.ensures.network c.args.text.now c.in-Some.number
+    let is = c.add_range.ensures in
+    module_addition net files c.args.self.now c.add_range.new.self c.args.set _ _ c.add_range.result is.sets is.any is.patterns is.modules is.count is.sized c.invariants.ensures.network c.args.text.now c.in-Some.number
     (ap (λ (ns : List (List ℕ)). index_of (unpinned ns []) c.args.text.now) (sym c.requires.table.names) ∙ sym place ∙ c.in-Some.is) refl refl

@@ -1,7 +1,7 @@
 use Rattle.std.proofs.Common.{◌≡◌, ◌<◌, ◌+◌, ◌∙◌, ◌++◌, ◌∷◌, [], ℕ, true, false, List, get_or, vec_len, refl, sym, ap, subst, arith}
 use Rattle.std.specs.String.{string_bytes}
 use Rattle.std.proofs.lemmas.Result.{err_from_is_err_and}
-use Rattle.text_escape.specs.Places.{writer_style}
+use Rattle.texts.specs.Places.{writer_style}
 use Rattle.byte_sink.proofs.Joining.{no_front}
 use Rattle.digraph.specs.Edges.{Leads}
 use Rattle.digraph.specs.ShortestPaths.{IsPathAround, IsShortestPath}
@@ -84,7 +84,7 @@ returns-in_err-flush_if_full-clause-prefix g c =
     let shortest = subst (λ (is : List Priced). IsShortestPath (Leads for.edges) for.starts for.barrier (get_or is k missing_item).from path) c.imports.ensures (reached for.edges for.starts for.barrier for.search) in
     let v : Violation = record { line = c.args.line; import_number = k; path = path } in
     let line = violation_line (writer_style c.args.lines.now.places) net c.args.self.now.sites.now in
-    let text = on_ok c.push_violation.result c.if-is_err.ensures.value c.push_violation.ensures.appended in
+    let text = on_ok c.append_violation.result c.if-is_err.ensures.value c.append_violation.ensures.appended in
     let whole = text ∙ ap (λ (way : List ℕ). string_bytes c.args.lines.now.text ++ line (record { line = c.args.line; import_number = k; path = way })) c.as_slice.ensures.value in
     (k + 1, v ∷ [], omega arith, violation net network files pieces rules elements c.args.line found for k lt free target path shortest, front_one line (string_bytes c.args.lines.now.text) _ _ v _ whole c.in_err-flush_if_full.ensures.error_prefix))
 
@@ -107,6 +107,6 @@ returns-clause-written g c = λ files pieces elements for.
     let shortest = subst (λ (is : List Priced). IsShortestPath (Leads for.edges) for.starts for.barrier (get_or is k missing_item).from path) c.imports.ensures (reached for.edges for.starts for.barrier for.search) in
     let v : Violation = record { line = c.args.line; import_number = k; path = path } in
     let line = violation_line (writer_style c.args.lines.now.places) net c.args.self.now.sites.now in
-    let text = on_ok c.push_violation.result c.if-is_err.ensures.value c.push_violation.ensures.appended in
+    let text = on_ok c.append_violation.result c.if-is_err.ensures.value c.append_violation.ensures.appended in
     let whole = text ∙ ap (λ (way : List ℕ). string_bytes c.args.lines.now.text ++ line (record { line = c.args.line; import_number = k; path = way })) c.as_slice.ensures.value in
     (v ∷ [], violation net network files pieces rules elements c.args.line found for k lt free target path shortest, refl, puts_one line (string_bytes c.args.lines.now.text) _ _ v _ _ whole c.in_ok-flush_if_full.ensures.moved)

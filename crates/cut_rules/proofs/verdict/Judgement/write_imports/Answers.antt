@@ -1,7 +1,7 @@
 use Rattle.std.proofs.Common.{◌≡◌, ◌+◌, ◌∙◌, ◌++◌, [], ℕ, length, refl, ap, subst, arith}
 use Rattle.std.specs.String.{string_bytes}
 use Rattle.std.proofs.lemmas.Result.{err_from_is_err_and}
-use Rattle.text_escape.specs.Places.{writer_style}
+use Rattle.texts.specs.Places.{writer_style}
 use Rattle.cut_rules.specs.Judged.{AreOfRule}
 use Rattle.cut_rules.specs.Verdicts.{violation_line}
 use Rattle.cut_rules.proofs.Violations.{any_more, none_between, of_rule_joined}

@@ -2,7 +2,7 @@ use Rattle.std.proofs.Common.{◌≡◌, ◌++◌, ℕ, List}
 use Rattle.std.specs.Prelude.{not}
 use Rattle.std.specs.List.{flat_map}
 use Rattle.std.specs.String.{string_bytes}
-use Rattle.text_escape.specs.Places.{writer_style}
+use Rattle.texts.specs.Places.{writer_style}
 use Rattle.byte_sink.specs.Pieces.{WritesAllBut}
 use Rattle.cut_rules.specs.declared.file.File.{File}
 use Rattle.cut_rules.specs.Judged.{AreOfRule, IsSearchFor}

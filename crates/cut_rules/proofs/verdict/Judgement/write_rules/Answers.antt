@@ -8,7 +8,7 @@ use Rattle.cut_rules.specs.Judged.{AreBelow}
 use Rattle.std.proofs.lemmas.List.Elements.{Contains-get_or}
 use Rattle.std.proofs.lemmas.Option.{slice_get-get_or}
 use Rattle.std.proofs.lemmas.Result.{err_from_is_err_and}
-use Rattle.text_escape.specs.Places.{writer_style}
+use Rattle.texts.specs.Places.{writer_style}
 use Rattle.cut_rules.specs.declared.rule.Rule.{Rule}
 use Rattle.cut_rules.specs.Verdicts.{violation_line}
 use Rattle.cut_rules.proofs.Judging.{repeated_rule}

@@ -15,13 +15,13 @@ returns-then-is_err-clause-prefix g c =
 pub returns-in_err-flush_if_full-clause-prefix : goal.returns-in_err-flush_if_full-clause-prefix
 returns-in_err-flush_if_full-clause-prefix g c =
     let p = err_from_is_err_and c.from_residual.result c.from_residual.ensures.1 in
-    let added = on_ok c.push_stale.result c.if-is_err.ensures.value c.push_stale.ensures in
+    let added = on_ok c.append_stale.result c.if-is_err.ensures.value c.append_stale.ensures in
     rw p.1 (stale_front c.args.self.now.rules.now.stale.items c.as_slice-stale-items.result.now c.as_slice-stale-items.ensures.value c.loop-stale.stale-index _ c.loop-stale-test.true (string_bytes c.args.lines.now.text) (string_bytes c.loop-stale.lines.text) _ added _ _ _
     c.loop-stale.invariant.written c.in_err-flush_if_full.ensures.error_prefix)
 
 pub loop-stale-preserved : goal.loop-stale-preserved
 loop-stale-preserved g c =
-    let added = on_ok c.push_stale.result c.if-is_err.ensures.value c.push_stale.ensures in
+    let added = on_ok c.append_stale.result c.if-is_err.ensures.value c.append_stale.ensures in
     record {
       written = stale_next c.args.self.now.rules.now.stale.items c.as_slice-stale-items.result.now c.as_slice-stale-items.ensures.value c.loop-stale.stale-index _ c.loop-stale-test.true (string_bytes c.args.lines.now.text) (string_bytes c.loop-stale.lines.text) _ added _ _ _
           c.loop-stale.invariant.written _ c.in_ok-flush_if_full.ensures.moved;

@@ -1,4 +1,4 @@
--- Until no node is to be looked at again.
+-- The worklist is processed until it is empty.
 use Rattle.std.proofs.Common.{◌≡◌, ℕ, [], ◌∷◌, List, length, refl, sym, ap, ◌∙◌, subst, arith, rules}
 use Rattle.std.proofs.lemmas.List.{get_or_default}
 use Rattle.digraph.specs.declared.edge.Edge.{Edge}
@@ -26,18 +26,18 @@ link_by_key-requires-clause-known c x list has gives =
 pub loop-node-init : goal.loop-node-init
 loop-node-init c = c.requires.begun c.in_ok-again.again.items c.in_ok-again.ensures
 
-pub recheck-requires-clause-ascending : goal.recheck-requires-clause-ascending
-recheck-requires-clause-ascending c = c.requires.ascending
+pub recheck_node-requires-clause-ascending : goal.recheck_node-requires-clause-ascending
+recheck_node-requires-clause-ascending c = c.requires.ascending
 
-pub recheck-requires-clause-between : goal.recheck-requires-clause-between
-recheck-requires-clause-between c =
+pub recheck_node-requires-clause-between : goal.recheck_node-requires-clause-between
+recheck_node-requires-clause-between c =
     let ok = c.loop-node.self.marks.ok in
     let size = c.loop-node.invariant.size in
     let len : c.args.nodes ≡ c.loop-node.self.marks.len = omega arith in
     subst (λ (n : ℕ). AreBetween c.args.edges.now n) len c.requires.between
 
-pub recheck-requires-clause-incoming : goal.recheck-requires-clause-incoming
-recheck-requires-clause-incoming c =
+pub recheck_node-requires-clause-incoming : goal.recheck_node-requires-clause-incoming
+recheck_node-requires-clause-incoming c =
     let ok = c.loop-node.self.marks.ok in
     let size = c.loop-node.invariant.size in
     let len : c.args.nodes ≡ c.loop-node.self.marks.len = omega arith in
@@ -53,7 +53,7 @@ loop-node-preserved c =
     let ok = c.loop-node.self.marks.ok in
     let size = c.loop-node.invariant.size in
     let len : c.args.nodes ≡ c.loop-node.self.marks.len = omega arith in
-    subst (λ (n : ℕ). IsPruning c.args.edges.now n c.recheck.new.self.marks.items c.recheck.new.self.places.items c.recheck.new.again.items) (sym len) c.in_ok-recheck.ensures.settling
+    subst (λ (n : ℕ). IsPruning c.args.edges.now n c.recheck_node.new.self.marks.items c.recheck_node.new.self.places.items c.recheck_node.new.again.items) (sym len) c.in_ok-recheck_node.ensures.settling
 
 pub returns : goal.returns
 returns c =

@@ -1,4 +1,4 @@
--- Node after node of the queue.
+-- The queue, node by node.
 use Rattle.std.proofs.Common.{◌≡◌, ℕ, ◌<◌, ◌+◌, ◌∙◌, ◌++◌, [], List, Option, None, length, length-append, get_or, replicate, refl, sym, ap, subst, arith}
 use Rattle.std.specs.Prelude.{All, AllPairs, vec_len}
 use Rattle.std.proofs.lemmas.List.Elements.{Contains-get_or}
@@ -15,13 +15,13 @@ nodes-init c =
     let size : c.len.result ≡ nodes = (let ok = c.args.self.now.after.ok in let len = c.len.ensures in omega arith) in
     let parents : c.in_ok-parents.parents.items ≡ replicate nodes None =
     none_cloned c.in_ok-parents.parents.items c.len.result _ c.in_ok-parents.ensures.items_if_clones_equal (λ x h. h) ∙ ap (λ (n : ℕ). replicate n None) size in
-    let (found, queued, are) = c.in_ok-discover.ensures in
-    let queue : c.discover.new.queue.items ≡ found = queued ∙ ap (λ (q : List ℕ). q ++ found) c.new-queue.ensures.items in
+    let (found, queued, are) = c.in_ok-discover_nodes.ensures in
+    let queue : c.discover_nodes.new.queue.items ≡ found = queued ∙ ap (λ (q : List ℕ). q ++ found) c.new-queue.ensures.items in
     record {
       within = omega arith;
-      searching = subst (λ (q : List ℕ). IsSearching c.args.self.now.edges.now c.args.starts.now c.args.barrier.now nodes c.discover.new.parents.items q 0) (sym queue)
-          (searching_starts c.args.self.now.edges.now c.args.starts.now c.args.barrier.now nodes c.discover.new.parents.items found
-          (subst (λ (ps : List (Option ℕ)). AreDiscovered c.args.starts.now [] (λ v. v) ps c.discover.new.parents.items found) parents are));
+      searching = subst (λ (q : List ℕ). IsSearching c.args.self.now.edges.now c.args.starts.now c.args.barrier.now nodes c.discover_nodes.new.parents.items q 0) (sym queue)
+          (searching_starts c.args.self.now.edges.now c.args.starts.now c.args.barrier.now nodes c.discover_nodes.new.parents.items found
+          (subst (λ (ps : List (Option ℕ)). AreDiscovered c.args.starts.now [] (λ v. v) ps c.discover_nodes.new.parents.items found) parents are));
     }
 
 pub index-requires : goal.index-requires
@@ -36,8 +36,8 @@ index-requires c =
     let ok = graph.after.ok in
     omega arith
 
-pub discover-requires-in-nodes-clause-within : goal.discover-requires-in-nodes-clause-within
-discover-requires-in-nodes-clause-within c =
+pub discover_nodes-requires-in-nodes-clause-within : goal.discover_nodes-requires-in-nodes-clause-within
+discover_nodes-requires-in-nodes-clause-within c =
     let graph = c.args.self.now in
     let edges = graph.edges.now in
     let nodes = length graph.after.items in
@@ -53,8 +53,8 @@ discover-requires-in-nodes-clause-within c =
     let ok = c.nodes.parents.ok in
     omega arith)
 
-pub discover-requires-in-nodes-clause-ascending : goal.discover-requires-in-nodes-clause-ascending
-discover-requires-in-nodes-clause-ascending c =
+pub discover_nodes-requires-in-nodes-clause-ascending : goal.discover_nodes-requires-in-nodes-clause-ascending
+discover_nodes-requires-in-nodes-clause-ascending c =
     let graph = c.args.self.now in
     let edges = graph.edges.now in
     let nodes = length graph.after.items in
@@ -77,9 +77,9 @@ nodes-preserved c =
     let row = row_is edges graph.after.items node c.index.result.now c.as_slice-successors.result.now c.as_slice-successors.ensures.value c.index.ensures low (c.requires.graph.after node) in
     let s = c.nodes.invariant.searching in
     let old = c.nodes.parents.items in
-    let new = c.discover-in-nodes.new.parents.items in
+    let new = c.discover_nodes-in-nodes.new.parents.items in
     let barrier = c.args.barrier.now in
-    let (found, queued, are) = c.in_ok-discover-2.ensures in
+    let (found, queued, are) = c.in_ok-discover_nodes-2.ensures in
     let own : AreDiscovered (successors edges (get_or queue c.nodes.next 0)) barrier (λ _. get_or queue c.nodes.next 0) old new found =
     subst (λ (n : ℕ). AreDiscovered (successors edges n) barrier (λ _. n) old new found) read
     (subst (λ (ns : List ℕ). AreDiscovered ns barrier (λ _. node) old new found) row are) in

@@ -1,4 +1,4 @@
--- Node after node, from the end to the start.
+-- The path, node by node from its end to its start.
 use Rattle.std.proofs.Common.{ℕ, ◌<◌, ◌++◌, ◌∷◌, [], List, Option, sym, subst}
 use Rattle.digraph.proofs.GoingUp.{goes_up_more, steps_fewer, steps_left, GoesUp}
 use Rattle.digraph.proofs.search.Search.path_to.Goals as goal

@@ -14,5 +14,5 @@ returns-then-not-contains c path =
 pub returns : goal.returns
 returns c path =
     let slash = Decides-contains c.args.pattern.now 47 c.contains.result (contains_decides eqb Decides-eqb c.args.pattern.now 47 c.contains.result c.contains.ensures.cases) in
-    by_path c.args.pattern.now path c.in_ok-globs_of.field-0 (slash.0 c.if-not-contains.false)
-    (subst (λ z. AreGlobs z c.in_ok-globs_of.field-0.items) (ap (map (λ n. n.now)) c.as_slice.ensures.value ∙ c.in_ok-names.ensures) c.in_ok-globs_of.ensures)
+    by_path c.args.pattern.now path c.in_ok-parse_globs.field-0 (slash.0 c.if-not-contains.false)
+    (subst (λ z. AreGlobs z c.in_ok-parse_globs.field-0.items) (ap (map (λ n. n.now)) c.as_slice.ensures.value ∙ c.in_ok-names.ensures) c.in_ok-parse_globs.ensures)

@@ -1,4 +1,4 @@
--- Piece after piece.
+-- The pieces, one by one.
 use Rattle.std.proofs.Common.{subst, rules}
 use Rattle.std.proofs.lemmas.Bool.Decides.{Decides-eqb}
 use Rattle.std.proofs.lemmas.Slice.Eq.{ends_is}

@@ -1,4 +1,4 @@
--- Piece after piece.
+-- The pieces, one by one.
 use Rattle.std.proofs.Common.{◌++◌, ◌∷◌, [], eqb, rules, tests, sym, subst}
 use Rattle.std.specs.List.{count_by}
 use Rattle.std.proofs.lemmas.Iterator.Consumers.{YieldsList-at, YieldsList-end}

@@ -3,7 +3,7 @@ use Rattle.std.specs.Prelude.{◌↔◌}
 use Rattle.glob.specs.Globs.{Floats}
 use Rattle.glob.proofs.pattern.Floating.new.Given as goal
 
--- the pieces so far, before any that follow
+-- the pieces so far, followed by any others
 abbrev pub invariant-loop-piece : goal.invariant-loop-piece
 invariant-loop-piece l =
     (more : List (List ℕ)) (q : List ℕ) (qs : List (List ℕ)) (t : List ℕ) → map (λ p. p.now) l.yielded ++ more ≡ q ∷ qs →

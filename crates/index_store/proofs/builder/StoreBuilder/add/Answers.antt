@@ -1,4 +1,4 @@
--- One occurrence more.
+-- The tables after one more occurrence.
 use Rattle.std.proofs.Common.{sym}
 use Rattle.scip_index.specs.Plain.{occurrence_model}
 use Rattle.index_store.specs.Queries.{occurrence_at}
@@ -12,7 +12,7 @@ returns-in-None-clause-retained c paths found name k at =
 
 pub returns-in-Some-clause-retained : goal.returns-in-Some-clause-retained
 returns-in-Some-clause-retained c paths found name k at =
-    c.add_mention.ensures.retained paths found (occurrence_at name (occurrence_model c.args.occurrence.now)) k at (record {
+    c.add_symbol_entry.ensures.retained paths found (occurrence_at name (occurrence_model c.args.occurrence.now)) k at (record {
       placed = rw c.as_slice.ensures.value at (sym c.in-Some.ensures);
       defines = c.is_definition.ensures;
       named = sym c.as_str.ensures.value;

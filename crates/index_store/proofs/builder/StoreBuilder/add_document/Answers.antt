@@ -1,4 +1,4 @@
--- The path is entered, and then one occurrence after another.
+-- The path is inserted, and then the occurrences are added one after another.
 use Rattle.std.proofs.Common.{◌++◌, ◌∷◌, [], List, map, take, take_all, subst}
 use Rattle.std.specs.String.{string_bytes}
 use Rattle.std.proofs.lemmas.List.{append-nil}
@@ -16,8 +16,8 @@ loop-occurrence-init c =
     let name = string_bytes c.args.document.now.relative_path in
     let old = tables_of c.args.self.now in
     let entered = rw c.as_str.ensures.value at c.in_ok-path.ensures in
-    let ps = texts_in c.enter.new.self in
-    let cs = rows_in c.enter.new.self in
+    let ps = texts_in c.find_or_insert.new.self in
+    let cs = rows_in c.find_or_insert.new.self in
     let whole = c.requires.whole in (
       record { of_paths = entered_whole old.paths old.coverings name ps cs c.in_ok-path.path whole.of_paths entered; of_symbols = whole.of_symbols },
       entered_number old.paths old.coverings name ps cs c.in_ok-path.path whole.of_paths entered,

@@ -1,4 +1,4 @@
--- After each document the tables keep it too.
+-- The tables have the documents so far.
 use Rattle.std.proofs.Common.{map, take}
 use Rattle.std.specs.List.{flat_map}
 use Rattle.scip_index.specs.Plain.{document_model}

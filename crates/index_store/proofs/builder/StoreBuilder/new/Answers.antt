@@ -1,4 +1,4 @@
--- Nothing is kept of nothing.
+-- Empty tables are those of no documents.
 use Rattle.index_store.proofs.StoreLemmas.{nothing_kept}
 use Rattle.index_store.proofs.builder.StoreBuilder.new.Goals as goal
 

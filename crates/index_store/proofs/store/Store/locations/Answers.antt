@@ -1,4 +1,4 @@
--- The path is one of the documents', and the places are those of the index.
+-- The path is that of a document, and the locations are those that the definition states.
 use Rattle.std.proofs.Common.{sym, subst, ◌∙◌}
 use Rattle.index_store.specs.Stores.{IsStoreOf}
 use Rattle.index_store.specs.Tables.{texts_in}

@@ -1,4 +1,4 @@
--- The mentions under the symbol are its places.
+-- The entries of the symbol are its locations.
 use Rattle.std.proofs.Common.{◌<◌, length, sym, subst, arith, refl}
 use Rattle.std.specs.Prelude.{All}
 use Rattle.index_store.specs.declared.row.SymbolEntry.{SymbolEntry}

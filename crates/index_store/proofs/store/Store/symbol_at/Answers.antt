@@ -1,4 +1,4 @@
--- The rows under the path are what covers there.
+-- The entries of the path are the occurrences that may cover a position in its documents.
 use Rattle.std.proofs.Common.{◌<◌, length, Some, None, sym, subst, arith}
 use Rattle.std.specs.Prelude.{All}
 use Rattle.index_store.specs.declared.row.PathEntry.{PathEntry}

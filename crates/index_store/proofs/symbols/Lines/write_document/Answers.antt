@@ -1,7 +1,7 @@
 use Rattle.std.proofs.Common.{◌≡◌, sym, ◌∙◌}
 use Rattle.proto_wire.specs.MessageBytes.{records_of}
 use Rattle.scip_index.specs.Meaning.{document_of}
-use Rattle.text_escape.specs.Places.{writer_style}
+use Rattle.texts.specs.Places.{writer_style}
 use Rattle.byte_sink.proofs.Joining.{broken_as}
 use Rattle.index_store.proofs.SymbolLaws.{lines_asked}
 use Rattle.index_store.proofs.symbols.Lines.write_document.Goals as goal

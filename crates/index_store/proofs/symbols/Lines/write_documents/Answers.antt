@@ -5,7 +5,7 @@ use Rattle.std.proofs.lemmas.Result.{err_from_is_err_and}
 use Rattle.proto_wire.specs.MessageBytes.{records_of}
 use Rattle.proto_wire.specs.Records.{PayloadRecord}
 use Rattle.scip_index.specs.Meaning.{document_of}
-use Rattle.text_escape.specs.Places.{writer_style}
+use Rattle.texts.specs.Places.{writer_style}
 use Rattle.byte_sink.proofs.Joining.{front_joined, joined}
 use Rattle.index_store.specs.Symbols.{lines_of_document, AreTextDocuments}
 use Rattle.index_store.proofs.SymbolLaws.{lines_behind}

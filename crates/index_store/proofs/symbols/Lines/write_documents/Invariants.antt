@@ -1,9 +1,9 @@
--- What was put and what is in hand are what was there and the lines so far.
+-- The written bytes and the buffered ones are the earlier buffer and the lines so far.
 use Rattle.std.proofs.Common.{◌≡◌, ◌+◌, ◌++◌, ℕ, List, length}
 use Rattle.std.specs.Prelude.{option_copied}
 use Rattle.std.specs.List.{flat_map}
 use Rattle.std.specs.String.{string_bytes}
-use Rattle.text_escape.specs.Places.{writer_style}
+use Rattle.texts.specs.Places.{writer_style}
 use Rattle.byte_sink.specs.Pieces.{WritesAllBut}
 use Rattle.index_store.specs.Direct.{documents_of}
 use Rattle.index_store.specs.Symbols.{lines_of_document, AreTextDocuments}

@@ -1,5 +1,5 @@
-use Rattle.initial_flow.specs.Heuristics.{DiffersInFlow}
+use Rattle.initial_flow.specs.Heuristics.{DiffersOnlyInFlow}
 use Rattle.initial_flow.proofs.heuristic.MaxFlowHeuristic.discharge_fifo.Given as goal
 
 abbrev pub invariant-loop-place : goal.invariant-loop-place
-invariant-loop-place l = DiffersInFlow l.initial.self l.self
+invariant-loop-place l = DiffersOnlyInFlow l.initial.self l.self

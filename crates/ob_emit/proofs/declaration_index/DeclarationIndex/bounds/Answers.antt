@@ -1,4 +1,4 @@
--- The marks round the token.
+-- The stored indices around the token.
 use Rattle.std.proofs.Common.{◌+◌, ◌/◌, ℕ, refl, sym, ap, ◌∙◌, List, arith}
 use Rattle.std.specs.Prelude.{slice_get}
 use Rattle.std.proofs.lemmas.Option.{slice_get_read}

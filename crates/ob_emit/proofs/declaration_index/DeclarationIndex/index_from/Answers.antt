@@ -1,4 +1,4 @@
--- The place at hand is the first.
+-- The hint is the first index.
 use Rattle.std.proofs.Common.{sym}
 use Rattle.module_table.specs.declared.rows.Declared.{Declared}
 use Rattle.ob_emit.proofs.Numbered.{position_there}

@@ -1,4 +1,4 @@
--- The place that is found is the first.
+-- The index that is found is the first.
 use Rattle.module_table.specs.declared.rows.Declared.{Declared}
 use Rattle.ob_emit.proofs.Numbered.{position_answer}
 use Rattle.ob_emit.proofs.declaration_index.DeclarationIndex.index_of.Goals as goal

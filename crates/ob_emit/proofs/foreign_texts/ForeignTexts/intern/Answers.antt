@@ -1,4 +1,4 @@
--- One table has a text more.
+-- One table has one more symbol string.
 use Rattle.std.proofs.Common.{◌∙◌}
 use Rattle.std.proofs.lemmas.Result.{on_ok_weaker}
 use Rattle.ob_emit.proofs.foreign_texts.ForeignTexts.intern.Goals as goal

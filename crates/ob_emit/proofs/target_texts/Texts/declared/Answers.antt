@@ -1,4 +1,4 @@
--- The text at the declaration's place.
+-- The symbol string at the declaration's index.
 use Rattle.std.proofs.Common.{◌≡◌, ℕ, List, Option, String, Global, refl, sym, ap, ◌∙◌, subst}
 use Rattle.std.specs.Prelude.{IfOk, slice_get}
 use Rattle.std.specs.Option.{option_and_then, option_map}
@@ -14,7 +14,7 @@ returns-in-Some-get c = λ p made.
     let at = c.in-Some.at in
     let there = ap (option_and_then (option_map string_bytes)) (sym (slice_get_read c.deref.result.now _ at text refl c.in-Some-get.ensures.lookup.3.0 c.in-Some-get.ensures.lookup.1) ∙ ap (λ (xs : List (Option (String Global))). slice_get xs at) c.deref.ensures.value) in
     let is = declared_text c.args.types.now p c.args.number at c.args.self.now.locations.declared.now c.index_of.result all made.declared made.locations c.index_of.ensures c.in-Some.is in
-    subst (λ (t : Option (List ℕ)). IfOk c.copied.result (λ (more : Option (String Global)). option_map string_bytes more ≡ t)) (there ∙ is) c.copied.ensures
+    subst (λ (t : Option (List ℕ)). IfOk c.copy_text.result (λ (more : Option (String Global)). option_map string_bytes more ≡ t)) (there ∙ is) c.copy_text.ensures
 
 pub returns-in-None : goal.returns-in-None
 returns-in-None c = λ p made.

@@ -1,16 +1,16 @@
--- The text that was kept, or one that is made.
+-- The stored symbol string, or a new one.
 use Rattle.std.proofs.Common.{◌≡◌, ℕ, List, Option, String, Global, sym, ◌∙◌, subst}
 use Rattle.std.specs.Prelude.{IfOk}
 use Rattle.std.specs.Option.{option_map}
 use Rattle.std.specs.String.{string_bytes}
-use Rattle.ob_emit.specs.StoredTexts.{AreForeign}
+use Rattle.ob_emit.specs.StoredTexts.{AreForeignTexts}
 use Rattle.ob_emit.proofs.target_texts.Texts.external.Goals as goal
 
 pub returns-in-Some : goal.returns-in-Some
 returns-in-Some c = λ p made.
-    let foreign : AreForeign c.args.types.now p c.deref.result.now = subst (AreForeign c.args.types.now p) (sym c.deref.ensures) made.foreign in
-    subst (λ (t : Option (List ℕ)). IfOk c.copied.result (λ (more : Option (String Global)). option_map string_bytes more ≡ t))
-    (foreign.names (c.args.item, c.args.name) c.in-Some.text.now (sym c.in-Some.ensures.value)) c.copied.ensures
+    let foreign : AreForeignTexts c.args.types.now p c.deref.result.now = subst (AreForeignTexts c.args.types.now p) (sym c.deref.ensures) made.foreign in
+    subst (λ (t : Option (List ℕ)). IfOk c.copy_text.result (λ (more : Option (String Global)). option_map string_bytes more ≡ t))
+    (foreign.names (c.args.item, c.args.name) c.in-Some.text.now (sym c.in-Some.ensures.value)) c.copy_text.ensures
 
 pub returns-in-None : goal.returns-in-None
 returns-in-None c = λ p made. c.external_text.ensures (c.as_str.ensures.value ∙ made.prefixes.outside)

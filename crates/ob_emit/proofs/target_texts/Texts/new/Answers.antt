@@ -1,4 +1,4 @@
--- What stands for a name of an external module is a name, and each turn adds a text.
+-- A token that denotes a name of an external module is an identifier. Each iteration adds a symbol string.
 use Rattle.ob_emit.proofs.Rows.{external_named}
 use Rattle.ob_emit.proofs.target_texts.Texts.new.Goals as goal
 

@@ -1,4 +1,4 @@
--- The text at the declaration's place.
+-- The symbol string at the declaration's index.
 use Rattle.std.proofs.Common.{List, Option, String, Global, refl, sym, ap, ◌∙◌}
 use Rattle.std.specs.Prelude.{slice_get}
 use Rattle.std.specs.Option.{option_and_then, option_map}
@@ -13,4 +13,4 @@ returns-in-Some-get c = λ p made.
     let text = c.in-Some-get.text.now in
     let at = c.in-Some.at in
     let there = ap (option_and_then (option_map string_bytes)) (sym (slice_get_read c.deref.result.now _ at text refl c.in-Some-get.ensures.lookup.3.0 c.in-Some-get.ensures.lookup.1) ∙ ap (λ (xs : List (Option (String Global))). slice_get xs at) c.deref.ensures.value) in
-    c.borrowed.ensures ∙ there ∙ declared_text c.args.types.now p c.args.number at c.args.self.now.locations.declared.now c.index_from.result all made.declared made.locations c.index_from.ensures c.in-Some.is
+    c.borrow_text.ensures ∙ there ∙ declared_text c.args.types.now p c.args.number at c.args.self.now.locations.declared.now c.index_from.result all made.declared made.locations c.index_from.ensures c.in-Some.is

@@ -1,4 +1,4 @@
--- What each kind of target has.
+-- The symbol string of each kind of target.
 use Rattle.std.proofs.Common.{◌≡◌, ℕ, List, Option, String, Global, sym, subst}
 use Rattle.std.specs.Prelude.{IfOk}
 use Rattle.std.specs.Option.{option_map}

@@ -1,4 +1,4 @@
--- The rows are those of the graph.
+-- The adjacency lists are those of the graph.
 use Rattle.std.proofs.Common.{◌≡◌, length, ◌∙◌, subst, arith}
 use Rattle.std.specs.String.{string_bytes}
 use Rattle.std.proofs.lemmas.List.{length-map}

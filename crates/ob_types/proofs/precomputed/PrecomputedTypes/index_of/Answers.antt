@@ -3,7 +3,7 @@ use Rattle.std.specs.Arc.{arc_value}
 use Rattle.std.specs.Option.{option_map}
 use Rattle.std.specs.Prelude.{slice_get}
 use Rattle.std.proofs.lemmas.Option.{slice_get-get_or, slice_get-map}
-use Rattle.ob_types.specs.Parted.{world_of}
+use Rattle.ob_types.specs.WorldOfParts.{world_of}
 use Rattle.ob_types.proofs.Lending.{place_told}
 use Rattle.ob_types.proofs.precomputed.PrecomputedTypes.index_of.Goals as goal
 

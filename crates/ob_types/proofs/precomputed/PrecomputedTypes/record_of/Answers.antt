@@ -1,4 +1,4 @@
-use Rattle.ob_types.specs.Alike.{record_alike}
+use Rattle.ob_types.specs.CommonModules.{record_alike}
 use Rattle.ob_types.proofs.precomputed.PrecomputedTypes.record_of.Goals as goal
 
 pub returns-in_ok-index_of-in-Other : goal.returns-in_ok-index_of-in-Other

@@ -5,7 +5,7 @@ use Rattle.ob_walk.proofs.walk.statements.+statements.Goals as goal
 
 pub walk_stmt-returns-in-If : goal.walk_stmt-returns-in-If
 walk_stmt-returns-in-If t c =
-    rw (c.in-If.is, if_items, c.emit-in-If-2.ensures, c.walk_otherwise.ensures, c.walk_branches.ensures, c.walk_branch.ensures, c.deref.ensures, c.emit-in-If.ensures) (simp (with_items-with_items, append_assoc))
+    rw (c.in-If.is, if_items, c.emit-in-If-2.ensures, c.walk_else.ensures, c.walk_branches.ensures, c.walk_branch.ensures, c.deref.ensures, c.emit-in-If.ensures) (simp (with_items-with_items, append_assoc))
 
 pub walk_stmt-returns-in-Case : goal.walk_stmt-returns-in-Case
 walk_stmt-returns-in-Case t c =
@@ -57,11 +57,11 @@ walk_cases-returns t c = grind (arith, statement_items)
 pub walk_for-returns : goal.walk_for-returns
 walk_for-returns t c = grind (arith, statement_items)
 
-pub walk_otherwise-returns-in-None : goal.walk_otherwise-returns-in-None
-walk_otherwise-returns-in-None t c = grind (arith, statement_items)
+pub walk_else-returns-in-None : goal.walk_else-returns-in-None
+walk_else-returns-in-None t c = grind (arith, statement_items)
 
-pub walk_otherwise-returns-in-Some : goal.walk_otherwise-returns-in-Some
-walk_otherwise-returns-in-Some t c = grind (arith, statement_items)
+pub walk_else-returns-in-Some : goal.walk_else-returns-in-Some
+walk_else-returns-in-Some t c = grind (arith, statement_items)
 
 pub walk_stmt-returns-in-Empty : goal.walk_stmt-returns-in-Empty
 walk_stmt-returns-in-Empty t c = grind (arith, statement_items)

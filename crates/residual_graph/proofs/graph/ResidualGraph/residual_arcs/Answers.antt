@@ -7,7 +7,7 @@ use Rattle.residual_graph.specs.OutArcs.{IsOutOf, begin_of, step_of}
 use Rattle.residual_graph.proofs.Listing.{run_all, run_each}
 use Rattle.residual_graph.proofs.graph.ResidualGraph.residual_arcs.Goals as goal
 
--- the list between the two places that are read
+-- the list between the two indices that are read
 run_is : (begins : List ℕ) (outs lent : List OutArc) (u begin end : ℕ) → u + 1 < length begins → begin ≡ get_or begins u begin → end ≡ get_or begins (u + 1) end → lent ≡ outs →
     take (begin_of begins (u + 1) - begin_of begins u) (drop (begin_of begins u) outs) ≡ take (end - begin) (drop begin lent)
 run_is begins outs lent u begin end low at_begin at_end is =

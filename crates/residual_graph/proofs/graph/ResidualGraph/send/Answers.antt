@@ -2,15 +2,15 @@ use Rattle.std.proofs.Common.{◌≡◌, ◌≤◌, ◌<◌, ◌+◌, ◌∙◌,
 use Rattle.std.proofs.Math.Seq.{map-set_same}
 use Rattle.std.proofs.lemmas.List.{get_or_default}
 use Rattle.residual_graph.specs.declared.arc.Arc.{Arc}
-use Rattle.residual_graph.specs.declared.groups.Indexes.{Indexes}
+use Rattle.residual_graph.specs.declared.groups.OutArcIndexes.{OutArcIndexes}
 use Rattle.residual_graph.specs.Flows.{emptied, pushed, DifferInFlowOnly}
 use Rattle.residual_graph.specs.Graphs.{no_arc, residual, Graph}
-use Rattle.residual_graph.specs.OutArcs.{begin_of, no_indexes, out_of}
+use Rattle.residual_graph.specs.OutArcs.{begin_of, no_indexes, out_arc_of}
 use Rattle.residual_graph.proofs.Augmenting.{pushed_within}
 use Rattle.residual_graph.proofs.Listing.{back_at, back_low, forth_at, forth_low, sent}
 use Rattle.residual_graph.proofs.graph.ResidualGraph.send.Goals as goal
 
--- the place that is read of a node's list, by its first place and an index
+-- the index that is read of a node's list, by its first index and an index
 place_is : (begins : List ℕ) (u v begin first index : ℕ) → u ≡ v → begin ≡ get_or begins v begin → v < length begins → first ≡ index → begin + first ≡ begin_of begins u + index
 place_is begins u v begin first index e at low f =
     let begin_is : begin ≡ get_or begins u 0 = at ∙ get_or_default begins v begin 0 low ∙ ap (λ n. get_or begins n 0) (sym e) in
@@ -42,11 +42,11 @@ invariant_of-self c =
     let from_low : c.push-arc.result.from < length g.begins.items = omega arith in
     let to_low : c.push-arc.result.to < length g.begins.items = omega arith in
     let forth_is : c.index-2.result.now + c.index-indexes.result.now.forward ≡ forth_at arcs g.nodes g.begins.items g.outs.items g.indexes.items l k known r refl (pushed_within old c.args.step.forward c.args.amount (l.graph.within k no_arc known) left) =
-    place_is g.begins.items old.from c.push-arc.result.from c.index-2.result.now c.index-indexes.result.now.forward (get_or g.indexes.items k no_indexes).forward from_is c.index-2.ensures from_low (ap (λ (i : Indexes). i.forward) indexes_is) in
+    place_is g.begins.items old.from c.push-arc.result.from c.index-2.result.now c.index-indexes.result.now.forward (get_or g.indexes.items k no_indexes).forward from_is c.index-2.ensures from_low (ap (λ (i : OutArcIndexes). i.forward) indexes_is) in
     let back_is : c.index-3.result.now + c.index-indexes.result.now.backward ≡ back_at arcs g.nodes g.begins.items g.outs.items g.indexes.items l k known r refl (pushed_within old c.args.step.forward c.args.amount (l.graph.within k no_arc known) left) =
-    place_is g.begins.items old.to c.push-arc.result.to c.index-3.result.now c.index-indexes.result.now.backward (get_or g.indexes.items k no_indexes).backward to_is c.index-3.ensures to_low (ap (λ (i : Indexes). i.backward) indexes_is) in
-    let forth_out : c.out_of.result ≡ out_of r (record { arc = k; forward = true }) = c.out_of.ensures ∙ ap (λ (a : Arc). out_of a (record { arc = k; forward = true })) is in
-    let back_out : c.out_of-2.result ≡ out_of r (record { arc = k; forward = false }) = c.out_of-2.ensures ∙ ap (λ (a : Arc). out_of a (record { arc = k; forward = false })) is in
+    place_is g.begins.items old.to c.push-arc.result.to c.index-3.result.now c.index-indexes.result.now.backward (get_or g.indexes.items k no_indexes).backward to_is c.index-3.ensures to_low (ap (λ (i : OutArcIndexes). i.backward) indexes_is) in
+    let forth_out : c.out_arc_of.result ≡ out_arc_of r (record { arc = k; forward = true }) = c.out_arc_of.ensures ∙ ap (λ (a : Arc). out_arc_of a (record { arc = k; forward = true })) is in
+    let back_out : c.out_arc_of-2.result ≡ out_arc_of r (record { arc = k; forward = false }) = c.out_arc_of-2.ensures ∙ ap (λ (a : Arc). out_arc_of a (record { arc = k; forward = false })) is in
     rw (is, forth_is, back_is, forth_out, back_out)
     (sent arcs g.nodes g.begins.items g.outs.items g.indexes.items l k known r refl (pushed_within old c.args.step.forward c.args.amount (l.graph.within k no_arc known) left))
 
@@ -74,7 +74,7 @@ overflow_add-forth c =
     let indexed = l.each_indexed in
     let indexes_is : c.index-indexes.result.now ≡ get_or g.indexes.items k no_indexes = c.index-indexes.ensures ∙ get_or_default g.indexes.items k c.index-indexes.result.now no_indexes (omega arith) in
     let from_is : old.from ≡ c.push-arc.result.from = sym (ap (λ (a : Arc). a.from) is) in
-    let at = place_is g.begins.items old.from c.push-arc.result.from c.index-2.result.now c.index-indexes.result.now.forward (get_or g.indexes.items k no_indexes).forward from_is c.index-2.ensures (omega arith) (ap (λ (i : Indexes). i.forward) indexes_is) in
+    let at = place_is g.begins.items old.from c.push-arc.result.from c.index-2.result.now c.index-indexes.result.now.forward (get_or g.indexes.items k no_indexes).forward from_is c.index-2.ensures (omega arith) (ap (λ (i : OutArcIndexes). i.forward) indexes_is) in
     let low = forth_low arcs g.nodes g.begins.items g.outs.items g.indexes.items l k known old refl (l.graph.within k no_arc known) in
     omega (arith, g.outs.ok.0, g.outs.ok.1, g.outs.small)
 
@@ -93,6 +93,6 @@ overflow_add-back c =
     let indexed = l.each_indexed in
     let indexes_is : c.index-indexes.result.now ≡ get_or g.indexes.items k no_indexes = c.index-indexes.ensures ∙ get_or_default g.indexes.items k c.index-indexes.result.now no_indexes (omega arith) in
     let to_is : old.to ≡ c.push-arc.result.to = sym (ap (λ (a : Arc). a.to) is) in
-    let at = place_is g.begins.items old.to c.push-arc.result.to c.index-3.result.now c.index-indexes.result.now.backward (get_or g.indexes.items k no_indexes).backward to_is c.index-3.ensures (omega arith) (ap (λ (i : Indexes). i.backward) indexes_is) in
+    let at = place_is g.begins.items old.to c.push-arc.result.to c.index-3.result.now c.index-indexes.result.now.backward (get_or g.indexes.items k no_indexes).backward to_is c.index-3.ensures (omega arith) (ap (λ (i : OutArcIndexes). i.backward) indexes_is) in
     let low = back_low arcs g.nodes g.begins.items g.outs.items g.indexes.items l k known old refl (l.graph.within k no_arc known) in
     omega (arith, g.outs.ok.0, g.outs.ok.1, g.outs.small)

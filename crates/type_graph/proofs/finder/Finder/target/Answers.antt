@@ -5,4 +5,4 @@ use Rattle.type_graph.proofs.finder.Finder.target.Goals as goal
 
 pub returns-clause-none : goal.returns-clause-none
 returns-clause-none g c =
-    subst (λ (v : g.row.G.Denot). IfOk c.target_in.result (λ o. IfNone o ((n : g.row.G-Node.Denot) → HasTarget g.G.Declaration.PartialEq.eq (g.G.TypeGraph.shape v) c.args.from n → ⊥))) c.self.view_is c.target_in.ensures.none
+    subst (λ (v : g.row.G.Denot). IfOk c.find_target.result (λ o. IfNone o ((n : g.row.G-Node.Denot) → HasTarget g.G.Declaration.PartialEq.eq (g.G.TypeGraph.shape v) c.args.from n → ⊥))) c.self.view_is c.find_target.ensures.none

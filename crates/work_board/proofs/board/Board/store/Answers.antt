@@ -20,16 +20,16 @@ at_n g c =
 transposed : (g : _) (c : goal.After-importers_of g) (m : ℕ) → times_in m c.importers_of.result.now ≡ times_in c.args.number (list_at g.T.NamedTree.graph.imports m)
 transposed g c m = c.importers_of.ensures.transposed m ∙ ap (λ (t : Modules). times_in c.args.number (list_at t.imports m)) c.self.invariant.0
 
-pub count_delivered-requires-clause-counted : goal.count_delivered-requires-clause-counted
-count_delivered-requires-clause-counted g c = λ m lt.
+pub decrement_waiting-requires-clause-counted : goal.decrement_waiting-requires-clause-counted
+decrement_waiting-requires-clause-counted g c = λ m lt.
     let b = c.self.inside in
     let at = at_n g c in
     let l = ap length c.as_mut_slice.ensures.value in
     let h = counted g.E.WorkEntry.is_of g.T.NamedTree.graph b.waiting.items b.states.items (lists b.reached.items) b.spare.items b.entries.items c.self.invariant.1 c.args.number c.args.entry at.0 at.1 c.importers_of.result.now (transposed g c) m (omega arith) in
     subst (λ ws. times_in m c.importers_of.result.now ≤ slice_index ws m) (sym c.as_mut_slice.ensures.value) h
 
-pub count_delivered-requires-clause-fits_state : goal.count_delivered-requires-clause-fits_state
-count_delivered-requires-clause-fits_state g c = λ m lt.
+pub decrement_waiting-requires-clause-fits_state : goal.decrement_waiting-requires-clause-fits_state
+decrement_waiting-requires-clause-fits_state g c = λ m lt.
     let b = c.self.inside in
     let at = at_n g c in
     let l = ap length c.as_mut_slice.ensures.value in
@@ -37,22 +37,22 @@ count_delivered-requires-clause-fits_state g c = λ m lt.
     subst (λ ss. IsFit (state_at ss m) (slice_index c.as_mut_slice.result.now m)) (sym c.as_mut_slice-2.ensures.value)
     (subst (λ ws. IsFit (state_at (set b.states.items c.args.number Delivered) m) (slice_index ws m)) (sym c.as_mut_slice.ensures.value) h)
 
-w_size : (g : _) (c : goal.After-self-4-1 g) → length c.count_delivered.new.waiting ≡ length c.self.inside.waiting.items
-w_size g c = c.count_delivered.auto.waiting ∙ ap length c.as_mut_slice.ensures.value
+w_size : (g : _) (c : goal.After-self-4-1 g) → length c.decrement_waiting.new.waiting ≡ length c.self.inside.waiting.items
+w_size g c = c.decrement_waiting.auto.waiting ∙ ap length c.as_mut_slice.ensures.value
 
-s_size : (g : _) (c : goal.After-self-4-1 g) → length c.count_delivered.new.states ≡ length c.self.inside.states.items
-s_size g c = c.count_delivered.auto.states ∙ ap length c.as_mut_slice-2.ensures.value ∙ length-set c.self.inside.states.items c.args.number Delivered
+s_size : (g : _) (c : goal.After-self-4-1 g) → length c.decrement_waiting.new.states ≡ length c.self.inside.states.items
+s_size g c = c.decrement_waiting.auto.states ∙ ap length c.as_mut_slice-2.ensures.value ∙ length-set c.self.inside.states.items c.args.number Delivered
 
-counts : (g : _) (c : goal.After-self-4-1 g) (m : ℕ) → m < length c.self.inside.waiting.items → slice_index c.count_delivered.new.waiting m + times_in m c.importers_of.result.now ≡ slice_index c.self.inside.waiting.items m
+counts : (g : _) (c : goal.After-self-4-1 g) (m : ℕ) → m < length c.self.inside.waiting.items → slice_index c.decrement_waiting.new.waiting m + times_in m c.importers_of.result.now ≡ slice_index c.self.inside.waiting.items m
 counts g c m lt =
     let l = ap length c.as_mut_slice.ensures.value in
-    c.count_delivered.ensures.waiting m (omega arith) ∙ ap (λ ws. slice_index ws m) c.as_mut_slice.ensures.value
+    c.decrement_waiting.ensures.waiting m (omega arith) ∙ ap (λ ws. slice_index ws m) c.as_mut_slice.ensures.value
 
 tells : (g : _) (c : goal.After-self-4-1 g) (m : ℕ) → m < length c.self.inside.waiting.items
-    → state_at c.count_delivered.new.states m ≡ freed (state_at (set c.self.inside.states.items c.args.number Delivered) m) (slice_index c.count_delivered.new.waiting m)
+    → state_at c.decrement_waiting.new.states m ≡ freed (state_at (set c.self.inside.states.items c.args.number Delivered) m) (slice_index c.decrement_waiting.new.waiting m)
 tells g c m lt =
     let l = ap length c.as_mut_slice.ensures.value in
-    c.count_delivered.ensures.states m (omega arith) ∙ ap (λ ss. freed (state_at ss m) (slice_index c.count_delivered.new.waiting m)) c.as_mut_slice-2.ensures.value
+    c.decrement_waiting.ensures.states m (omega arith) ∙ ap (λ ss. freed (state_at ss m) (slice_index c.decrement_waiting.new.waiting m)) c.as_mut_slice-2.ensures.value
 
 at_end : (g : _) (c : goal.After-self-4-1 g) → (c.args.number < length c.self.inside.states.items) × (state_at c.self.inside.states.items c.args.number ≡ Claimed)
 at_end g c =
@@ -64,34 +64,34 @@ at_end g c =
 turned_end : (g : _) (c : goal.After-self-4-1 g) (m : ℕ) → times_in m c.importers_of.result.now ≡ times_in c.args.number (list_at g.T.NamedTree.graph.imports m)
 turned_end g c m = c.importers_of.ensures.transposed m ∙ ap (λ (t : Modules). times_in c.args.number (list_at t.imports m)) c.self.invariant.0
 
-new_waiting : (g : _) (c : goal.After-self-4-1 g) → take c.self.inside.waiting.len (c.count_delivered.new.waiting ++ drop (length c.count_delivered.new.waiting) c.self.inside.waiting.items) ≡ c.count_delivered.new.waiting
-new_waiting g c = restored c.self.inside.waiting.len c.count_delivered.new.waiting c.self.inside.waiting.items (w_size g c) c.self.inside.waiting.ok.0
+new_waiting : (g : _) (c : goal.After-self-4-1 g) → take c.self.inside.waiting.len (c.decrement_waiting.new.waiting ++ drop (length c.decrement_waiting.new.waiting) c.self.inside.waiting.items) ≡ c.decrement_waiting.new.waiting
+new_waiting g c = restored c.self.inside.waiting.len c.decrement_waiting.new.waiting c.self.inside.waiting.items (w_size g c) c.self.inside.waiting.ok.0
 
 new_states : (g : _) (c : goal.After-self-4-1 g)
-    → take c.self.inside.states.len (c.count_delivered.new.states ++ drop (length c.count_delivered.new.states) (set c.self.inside.states.items c.args.number Delivered)) ≡ c.count_delivered.new.states
+    → take c.self.inside.states.len (c.decrement_waiting.new.states ++ drop (length c.decrement_waiting.new.states) (set c.self.inside.states.items c.args.number Delivered)) ≡ c.decrement_waiting.new.states
 new_states g c =
     let old = c.self.inside.states in
-    restored old.len c.count_delivered.new.states (set old.items c.args.number Delivered) (s_size g c ∙ sym (length-set old.items c.args.number Delivered))
+    restored old.len c.decrement_waiting.new.states (set old.items c.args.number Delivered) (s_size g c ∙ sym (length-set old.items c.args.number Delivered))
     (old.ok.0 ∙ sym (length-set old.items c.args.number Delivered))
 
 kept : (g : _) (c : goal.After-self-4-1 g)
-    → IsValidBoard g.E.WorkEntry.is_of g.T.NamedTree.graph c.count_delivered.new.waiting c.count_delivered.new.states (lists c.self.inside.reached.items) c.self.inside.spare.items (set c.self.inside.entries.items c.args.number (Some c.args.entry))
+    → IsValidBoard g.E.WorkEntry.is_of g.T.NamedTree.graph c.decrement_waiting.new.waiting c.decrement_waiting.new.states (lists c.self.inside.reached.items) c.self.inside.spare.items (set c.self.inside.entries.items c.args.number (Some c.args.entry))
 kept g c =
     let b = c.self.inside in
     let at = at_end g c in
     delivered_kept g.E.WorkEntry.is_of g.T.NamedTree.graph b.waiting.items b.states.items (lists b.reached.items) b.spare.items b.entries.items c.self.invariant.1 c.args.number c.args.entry at.0 at.1
-    c.count_delivered.new.waiting c.count_delivered.new.states c.importers_of.result.now
+    c.decrement_waiting.new.waiting c.decrement_waiting.new.states c.importers_of.result.now
     (w_size g c) (s_size g c) (turned_end g c) (counts g c) (tells g c) c.requires.own
 
 pub invariant_of-self : goal.invariant_of-self
 invariant_of-self g c = (c.self.invariant.0, rw (new_waiting g c, new_states g c) (kept g c))
 
-same_claimed : (g : _) (c : goal.After-self-4-1 g) → map taken c.count_delivered.new.states ≡ map taken c.self.inside.states.items
+same_claimed : (g : _) (c : goal.After-self-4-1 g) → map taken c.decrement_waiting.new.states ≡ map taken c.self.inside.states.items
 same_claimed g c =
     let b = c.self.inside in
     let at = at_end g c in
     claimed_same g.E.WorkEntry.is_of g.T.NamedTree.graph b.waiting.items b.states.items (lists b.reached.items) b.spare.items b.entries.items c.self.invariant.1 c.args.number c.args.entry at.0 at.1
-    c.count_delivered.new.waiting c.count_delivered.new.states (s_size g c) (tells g c)
+    c.decrement_waiting.new.waiting c.decrement_waiting.new.states (s_size g c) (tells g c)
 
 pub returns : goal.returns
 returns g c =

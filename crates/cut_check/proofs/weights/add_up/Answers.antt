@@ -1,7 +1,0 @@
-use Rattle.std.proofs.lemmas.Bool.{false≢true}
-use Rattle.cut_check.specs.Reaching.{any}
-use Rattle.cut_check.proofs.weights.add_up.Goals as goal
-
-pub returns-then-not-is_weight : goal.returns-then-not-is_weight
-returns-then-not-is_weight c x marks =
-    (λ t. absurd (false≢true t), λ right. c.if-not-is_weight.ensures.1 (right.0 c.loop-k.k any c.loop-k-test.true))

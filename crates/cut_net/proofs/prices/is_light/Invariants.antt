@@ -1,8 +1,0 @@
-use Rattle.std.proofs.Common.{◌≡◌, ◌≤◌, take}
-use Rattle.std.specs.Prelude.{sum_by}
-use Rattle.cut_net.specs.Pins.{most_weight}
-use Rattle.cut_net.specs.PriceReading.{unpinned_part}
-use Rattle.cut_net.proofs.prices.is_light.Given as goal
-
-abbrev pub invariant-loop-pin_state : goal.invariant-loop-pin_state
-invariant-loop-pin_state l = (l.total ≡ sum_by unpinned_part (take l.pin_state-index l.pin_states)) × (l.total ≤ most_weight)

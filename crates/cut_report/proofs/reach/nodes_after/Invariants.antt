@@ -1,5 +1,0 @@
-use Rattle.cut_report.proofs.Reached.{AreThoseBelow, IsOther}
-use Rattle.cut_report.proofs.reach.nodes_after.Given as goal
-
-abbrev pub invariant-loop-node : goal.invariant-loop-node
-invariant-loop-node l = AreThoseBelow (IsOther l.edges l.start) l.node l.reached.items

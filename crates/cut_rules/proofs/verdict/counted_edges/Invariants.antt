@@ -1,7 +1,0 @@
-use Rattle.std.specs.Prelude.{◌↔◌, Contains}
-use Rattle.digraph.specs.declared.edge.Edge.{Edge}
-use Rattle.cut_rules.specs.Judged.{IsCountedBefore}
-use Rattle.cut_rules.proofs.verdict.counted_edges.Given as goal
-
-abbrev pub invariant-loop-number : goal.invariant-loop-number
-invariant-loop-number l = (p : Edge) → Contains l.edges.items p ↔ IsCountedBefore l.net l.allowed l.number p

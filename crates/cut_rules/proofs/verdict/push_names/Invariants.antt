@@ -1,8 +1,0 @@
-use Rattle.std.proofs.Common.{◌≡◌, ◌++◌, map, take}
-use Rattle.std.specs.String.{string_bytes}
-use Rattle.cut_net.specs.Network.{name_of}
-use Rattle.cut_rules.specs.Verdicts.{spaced}
-use Rattle.cut_rules.proofs.verdict.push_names.Given as goal
-
-abbrev pub invariant-loop-module : goal.invariant-loop-module
-invariant-loop-module l = string_bytes l.text ≡ string_bytes l.initial.text ++ spaced (map (name_of l.net) (take l.module-index l.modules))

@@ -1,6 +1,0 @@
-use Rattle.std.proofs.Common.{◌≡◌, map, take}
-use Rattle.cut_solve.specs.Lines.{flow_line}
-use Rattle.cut_solve.proofs.arcs.flows_of.Given as goal
-
-abbrev pub invariant-loop-arc : goal.invariant-loop-arc
-invariant-loop-arc l = l.imports.items ≡ map flow_line (take l.arc-index l.arcs)

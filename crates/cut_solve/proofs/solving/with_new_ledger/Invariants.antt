@@ -1,9 +1,0 @@
-use Rattle.std.proofs.Common.{length}
-use Rattle.cut_preflow.specs.Flows.{network_on}
-use Rattle.cut_solve.proofs.solving.with_new_ledger.Given as goal
-
-abbrev pub ghosts-with_ledger-L-NetworkLedger : goal.ghosts-with_ledger-L-NetworkLedger
-ghosts-with_ledger-L-NetworkLedger g a = record { net = network_on (length a.net.now.names) a.start.imports.items a.start.source a.start.sink }
-
-abbrev pub ghosts-with_ledger-L-Ledger : goal.ghosts-with_ledger-L-Ledger
-ghosts-with_ledger-L-Ledger g a = record { name = a.blank.name; parts = a.blank.parts }

@@ -1,4 +1,0 @@
-use Rattle.cut_solve.proofs.workers.event_or_mark.Goals as goal
-
-pub returns-in-Try-clause-some : goal.returns-in-Try-clause-some
-returns-in-Try-clause-some g c = c.look.ensures.event c.in-Try.event c.in-Try.is

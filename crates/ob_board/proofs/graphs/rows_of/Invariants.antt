@@ -1,7 +1,0 @@
-use Rattle.std.proofs.Common.{◌≡◌}
-use Rattle.work_board.specs.Graphs.{lists}
-use Rattle.ob_board.specs.Boards.{rows_below}
-use Rattle.ob_board.proofs.graphs.rows_of.Given as goal
-
-abbrev pub invariant-loop-node : goal.invariant-loop-node
-invariant-loop-node l = lists l.rows.items ≡ rows_below l.graph l.node

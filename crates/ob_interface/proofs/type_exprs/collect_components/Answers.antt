@@ -1,0 +1,23 @@
+-- One component after another.
+use Rattle.std.proofs.Common.{map, refl}
+use Rattle.ob_interface.specs.Interfaces.{part_of}
+use Rattle.ob_interface.specs.Texts.{part_row_in}
+use Rattle.ob_interface.proofs.Growing.{all_told, grown_none, grown_twice, map_told}
+use Rattle.ob_interface.proofs.type_exprs.collect_components.Goals as goal
+
+pub loop-i-init : goal.loop-i-init
+loop-i-init c = record { grown = grown_none _; decode = λ more. rw c.new-rows.ensures.items refl }
+
+pub loop-i-preserved : goal.loop-i-preserved
+loop-i-preserved c =
+    let h = part_of c.args.source.now.bytes.now c.args.source.now.tokens.now in
+    record {
+      grown = grown_twice c.loop-i.invariant.grown c.in_ok-row.ensures.grown;
+      decode = rw c.in_ok-push.ensures.items (map_told part_row_in h _ _ _ c.args.parts.now c.loop-i.i _ _ c.loop-i.invariant.decode c.in_ok-row.ensures.grown c.in_ok-row.ensures.decoded c.loop-i-test.true);
+    }
+
+pub returns-clause-grown : goal.returns-clause-grown
+returns-clause-grown c = c.loop-i.invariant.grown
+
+pub returns-clause-decode : goal.returns-clause-decode
+returns-clause-decode c = all_told part_row_in _ _ (map (part_of c.args.source.now.bytes.now c.args.source.now.tokens.now)) c.args.parts.now c.loop-i.i c.loop-i.invariant.decode c.loop-i-test.false

@@ -1,5 +1,0 @@
-use Rattle.std.proofs.Common.{◌-◌, length}
-use Rattle.ob_resolve.proofs.groups.first_after.Given as goal
-
-abbrev pub decreases-selectors : goal.decreases-selectors
-decreases-selectors l = length l.selectors - l.at

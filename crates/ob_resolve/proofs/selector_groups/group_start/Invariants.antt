@@ -1,0 +1,5 @@
+use Rattle.std.proofs.Common.{◌-◌, length}
+use Rattle.ob_resolve.proofs.selector_groups.group_start.Given as goal
+
+abbrev pub decreases-selectors : goal.decreases-selectors
+decreases-selectors l = length l.selectors - l.at

@@ -1,9 +1,0 @@
--- The count of the member that was found.
-use Rattle.ob_scope.proofs.Placing.{count_found, count_none}
-use Rattle.ob_scope.proofs.build.count_of_alias.Goals as goal
-
-pub returns-in-Some : goal.returns-in-Some
-returns-in-Some c = count_found c.args.members.now c.args.counts.now c.args.alias c.in-Some.at c.requires.ascending_starts c.in-Some.ensures.found
-
-pub returns-in-None : goal.returns-in-None
-returns-in-None c = count_none c.args.members.now c.args.counts.now c.args.alias c.in-None.ensures.none

@@ -1,7 +1,0 @@
-use Rattle.std.specs.Prelude.{take}
-use Rattle.ob_scan.specs.Texts.{text_at}
-use Rattle.ob_scope.specs.Locations.{IsIndex}
-use Rattle.ob_scope.proofs.locations.build_index.Given as goal
-
-abbrev pub invariant-loop-i : goal.invariant-loop-i
-invariant-loop-i l = IsIndex (text_at l.text.bytes.now l.text.tokens.now) (take l.i l.members) l.index.keys

@@ -1,7 +1,0 @@
-use Rattle.ob_types.specs.Parted.{world_of}
-use Rattle.ob_types.specs.Listed.{StayListed}
-use Rattle.ob_types.proofs.Telling.{RowsTold}
-use Rattle.ob_types.proofs.listed.add_local.Given as goal
-
-abbrev pub invariant-loop-index : goal.invariant-loop-index
-invariant-loop-index l = record { stay : StayListed l.fn.fields.items l.fields.items; listed : RowsTold (world_of l.parts) l.rows l.index l.fields.items }

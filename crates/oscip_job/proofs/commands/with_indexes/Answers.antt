@@ -1,4 +1,0 @@
-use Rattle.oscip_job.proofs.commands.with_indexes.Goals as goal
-
-pub returns : goal.returns
-returns c app is = c.with_sub.ensures _ _ (c.with_sub-program.ensures _ _ is c.asking-def.ensures) c.asking-refs.ensures

@@ -1,4 +1,0 @@
-use Rattle.oscip_job.proofs.commands.with_users.Goals as goal
-
-pub returns : goal.returns
-returns c app reads = c.with_required.ensures _ (c.with_required-command.ensures app reads)

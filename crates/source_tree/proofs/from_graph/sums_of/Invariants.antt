@@ -1,7 +1,0 @@
-use Rattle.std.proofs.Common.{◌≡◌, ℕ, List, take}
-use Rattle.ob_scope.specs.Weights.{uses_of_import}
-use Rattle.source_tree.specs.GraphNet.{sum_in}
-use Rattle.source_tree.proofs.from_graph.sums_of.Given as goal
-
-abbrev pub invariant-loop-alias : goal.invariant-loop-alias
-invariant-loop-alias l = (name : List ℕ) → sum_in l.sums name ≡ uses_of_import (take l.alias-index l.scopes.aliases) name

@@ -1,0 +1,12 @@
+use Rattle.std.proofs.Common.{◌≡◌, length}
+use Rattle.table_rules.specs.Types.{identdef_rows}
+use Rattle.ob_grammar.specs.AgreesWith.{remaining}
+use Rattle.ob_grammar.proofs.Repetitions.{declared_names}
+use Rattle.table_reader.proofs.Lists.{behind_token, RepeatListing}
+use Rattle.table_reader.proofs.names.more_declared_names.Given as goal
+
+abbrev pub invariant-more : goal.invariant-more
+invariant-more l = (RepeatListing l.fn.tokens declared_names (behind_token identdef_rows) l.context l.initial.builder l.builder l.fn.input l.here) × (l.builder.number ≡ l.here.at)
+
+abbrev pub decreases-more : goal.decreases-more
+decreases-more l = length (remaining l.fn.tokens l.here)

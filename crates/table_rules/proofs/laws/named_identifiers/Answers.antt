@@ -1,5 +1,0 @@
-use Rattle.table_rules.proofs.Derived.{each_named}
-use Rattle.table_rules.proofs.laws.named_identifiers.Goals as goal
-
-pub returns : goal.returns
-returns c = each_named

@@ -1,8 +1,0 @@
--- The characters so far are written.
-use Rattle.std.proofs.Common.{◌≡◌, ◌++◌}
-use Rattle.std.specs.String.{string_bytes}
-use Rattle.text_escape.proofs.EscapeLemmas.{escaped_chars}
-use Rattle.text_escape.proofs.escape.push_chars.Given as goal
-
-abbrev pub invariant-loop-character : goal.invariant-loop-character
-invariant-loop-character l = string_bytes l.out ≡ string_bytes l.initial.out ++ escaped_chars l.yielded
