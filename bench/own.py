@@ -15,7 +15,7 @@ from crates import ROOT, copied, crates_of, proved
 
 # What each program says in crates.txt.
 PROGRAMS = {
-    "timing": "timing: ob_scan ob_tree ob_walk module_table ob_parse table_reader ob_scope ob_types ob_resolve ob_emit scip_index",
+    "timing": "timing: ob_scan ob_tree ob_walk module_table ob_parse table_reader ob_scope ob_types ob_resolve ob_emit ob_board scip_index",
     "wire": "wire: byte_sink proto_wire scip_index",
     "workers": "workers may_wait=3: cut_net cut_preflow cut_solve cut_plain",
 }

@@ -5,11 +5,11 @@ use Rattle.atomic_file.specs.declared.replace.ReplaceFault.{ReplaceFault}
 use Rattle.atomic_file.specs.declared.replace.ReplaceFault.TheVariants.{Target, Partial, Content, Memory}
 
 -- the error is `Target` or `Memory`
-abbrev pub IsOfTarget : {E : Type 0} → ReplaceFault E → Type 0
-IsOfTarget Target = Unit {0}
-IsOfTarget (Partial path) = ⊥
-IsOfTarget (Content fault) = ⊥
-IsOfTarget Memory = Unit {0}
+abbrev pub IsTargetOrMemory : {E : Type 0} → ReplaceFault E → Type 0
+IsTargetOrMemory Target = Unit {0}
+IsTargetOrMemory (Partial path) = ⊥
+IsTargetOrMemory (Content fault) = ⊥
+IsTargetOrMemory Memory = Unit {0}
 
 -- if the error is `Partial`, it has this path
 abbrev pub HasPath : {E : Type 0} → ReplaceFault E → List ℕ → Type 0
@@ -25,7 +25,7 @@ IsMemory (Partial path) = ⊥
 IsMemory (Content fault) = ⊥
 IsMemory Memory = Unit {0}
 
--- if the error is `Content`, the content's writer may return its error
+-- if the error is `Content`, the error of the writer in it has the property `HasFault`
 abbrev pub IsFaultOf : {E : Type 0} → (E → Type 0) → ReplaceFault E → Type 0
 IsFaultOf HasFault Target = Unit {0}
 IsFaultOf HasFault (Partial path) = Unit {0}

@@ -2,7 +2,7 @@
 use Rattle.std.specs.Prelude.{◌≡◌, ℕ, List, [], ◌++◌, Option, Some, codes}
 use Rattle.atomic_file.specs.Entries.{Entry, Missing, File, Link, Other, RenamedTo}
 
--- the path of the file to replace: the target of a link, or else the path itself
+-- the path of the file to replace: if the path names a link, the link's target, otherwise the path itself
 abbrev pub target_of : (List ℕ → Entry) → List ℕ → List ℕ
 target_of entries path = elim (entries path) [ Missing ↦ path | File bytes ↦ path | Link target ↦ target | Other ↦ path ]
 
@@ -21,11 +21,12 @@ IsFile Other = ⊥
 abbrev pub CanBeReplaced : (List ℕ → Entry) → List ℕ → Type 0
 CanBeReplaced entries path = elim (entries path) [ Missing ↦ Unit {0} | File bytes ↦ Unit {0} | Link target ↦ IsFile (entries target) | Other ↦ ⊥ ]
 
--- `Returns` holds for the file before and after some call of the writer
+-- the relation `Returns` between a file before and after a call of the writer holds for some two files
 abbrev pub IsReturned : {F : Type 0} → (F → F → Type 0) → Type 0
 IsReturned {F} Returns = (before after : F) × Returns before after
 
--- the writer was called on an empty file, `Returns` holds for the file before and after the call, and the file then had these bytes
+-- the writer was called on a file, which was empty if `IsKnown` holds. The relation `Returns` holds for the file before and after the
+-- call, and the file then had these bytes
 pub record IsWritten {F : Type 0} (IsKnown : Type 0) (taken : F → Option (List ℕ)) (Returns : F → F → Type 0) (bytes : Option (List ℕ)) : Type 0 where
   pub before : F
   pub after : F
@@ -33,7 +34,8 @@ pub record IsWritten {F : Type 0} (IsKnown : Type 0) (taken : F → Option (List
   pub returned : Returns before after
   pub bytes_are : taken after ≡ bytes
 
--- the writer left bytes in the new file, which was empty before, and this file was renamed to the target
+-- the writer wrote bytes to the new file, which was empty before, and this file was renamed to the target; the effect on paths is claimed
+-- only if `IsKnown` holds
 pub record IsRenamed {F : Type 0} (IsKnown : Type 0) (old new : List ℕ → Entry) (partial target : List ℕ) (taken : F → Option (List ℕ)) (Returns : F → F → Type 0) : Type 0 where
   pub left : Option (List ℕ)
   pub is_written : IsWritten IsKnown taken Returns left

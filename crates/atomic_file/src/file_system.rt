@@ -18,7 +18,7 @@ pub enum FileFault {
     System,
 }
 
-/// The kind of what a path names. A link at the end of the path isn't followed.
+/// What a path names, without the content. If the path names a link, it is the link's own kind, not that of its target.
 #[derive(Clone, Copy, Debug, PartialEq, Eq)]
 pub enum FileKind {
     /// Nothing.
@@ -43,16 +43,16 @@ pub trait FileSystem {
     /// What a path names: nothing, a file with its content, a link, or anything else.
     ghost entry_at: { Self → List ℕ → Entry };
 
-    /// This open file has this path, and no other.
+    /// Whether the open file has this path and no other.
     ghost is_named: { Self → List ℕ → Self.NewFile → Type 0 };
 
-    /// The file was synced to the disk after its last write.
+    /// Whether the file was synced to the disk after its last write.
     ghost is_synced: { Self.NewFile → Type 0 };
 
-    /// The attributes of the file with this path were copied to the new file, as `copy_attributes` does, if there is such a file.
+    /// Whether the attributes of the file with this path, if there is one, were copied to the new file by `copy_attributes`.
     ghost is_like: { Self → List ℕ → Self.NewFile → Type 0 };
 
-    /// What the path names.
+    /// The kind of what the path names, without following a link.
     fn kind(&self, path: &str) -> Result<FileKind, FileFault>
         // The result is the kind of what the path names.
         ensures { IfOk result (λ kind. is_known → kind ≡ kind_of (entry_at self.now path.now)) };
@@ -77,13 +77,18 @@ pub trait FileSystem {
         // All other paths name what they named before.
         ensures others { is_known → KeepsOthers (entry_at self.old) (entry_at self.new) path.now };
 
-    /// Whether this open file has this path, and no other.
-    fn names(&self, path: &str, file: &Self::NewFile) -> bool
+    /// Whether the open file has this path and no other, so that it wasn't replaced, renamed or linked meanwhile.
+    fn has_path(&self, path: &str, file: &Self::NewFile) -> bool
         // With `true` the open file has this path.
         ensures { IsTrue result → is_named self.now path.now file.now };
 
     /// Truncates the file to no bytes. If `is_private` is true, no other user may read it from then on.
-    fn empty(&self, path: &str, file: &mut Self::NewFile, is_private: bool) -> Result<(), FileFault>
+    fn truncate(
+        &self,
+        path: &str,
+        file: &mut Self::NewFile,
+        is_private: bool,
+    ) -> Result<(), FileFault>
         // The open file has this path.
         requires named { is_named self.now path.now file.old }
         // With `Ok` the file has no bytes.

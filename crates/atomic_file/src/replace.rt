@@ -4,7 +4,7 @@ ghost use Rattle.std.specs.Prelude.{◌≡◌, ◌≢◌, Err, Ok, OnOk, OnErr, 
 ghost use Rattle.std.specs.String.{string_bytes};
 ghost use Rattle.atomic_file.specs.Entries.{IsFileOrMissing, KeepsAll, KeepsOthers};
 ghost use Rattle.atomic_file.specs.declared.file_system.ContentFault.TheVariants.{Other};
-ghost use Rattle.atomic_file.specs.Faults.{HasPath, IsFaultOf, IsMemory, IsOfTarget};
+ghost use Rattle.atomic_file.specs.Faults.{HasPath, IsFaultOf, IsMemory, IsTargetOrMemory};
 ghost use Rattle.atomic_file.specs.StepFaults.{IsStepFaultOf};
 ghost use Rattle.atomic_file.specs.Replacements.{CanBeReplaced, IsRenamed, IsReturned, IsWritten, partial_path, target_of};
 
@@ -30,7 +30,7 @@ pub enum ReplaceFault<E> {
     Memory,
 }
 
-/// Why a step failed, without the path, which the caller has.
+/// Why a step of a replacement failed: as `ReplaceFault`, but without the path, which the caller has, and without `Memory`.
 #[derive(Drop)]
 enum StepFault<E> {
     Target,
@@ -84,6 +84,7 @@ fn find_target<F: FileSystem>(
     }
 }
 
+/// A copy of the path.
 fn copy_string(alloc: Global, path: &str) -> Result<String, FileFault>
     ensures { IfOk result (λ copy. string_bytes copy ≡ path.now) }
 {
@@ -125,22 +126,22 @@ fn open_or_create_locked<F: FileSystem>(files: &mut F, paths: &Paths) -> Option<
     let Ok(file) = files.open_or_create_locked(partial, paths.is_file) else {
         return None;
     };
-    if files.names(partial, &file) {
+    if files.has_path(partial, &file) {
         Some(file)
     } else {
         None
     }
 }
 
-/// Calls the content's writer.
-fn call<F, R, W: FnOnce(&mut F) -> R>(file: &mut F, write: W) -> R
+/// Calls the content's writer `write` on the file.
+fn call_writer<F, R, W: FnOnce(&mut F) -> R>(file: &mut F, write: W) -> R
     requires { W.IsAlwaysCallable write }
     ensures { FnOnceReturnsAtMut W.FnOnce write file.old result file.new }
 {
     write(file)
 }
 
-/// Writes the content of the new file.
+/// Calls the content's writer on the new file. A failed device is an error of the new file, any other error is the writer's.
 fn write_content<F, E: Drop, W: FnOnce(&mut F) -> Result<(), ContentFault<E>>>(
     file: &mut F,
     write: W,
@@ -149,7 +150,7 @@ fn write_content<F, E: Drop, W: FnOnce(&mut F) -> Result<(), ContentFault<E>>>(
     ensures returned { OnOk result (FnOnceReturnsAtMut W.FnOnce write file.old (Ok tt) file.new) }
     ensures fault { IfErr result (IsStepFaultOf (λ fault. IsReturned (λ before after. FnOnceReturnsAtMut W.FnOnce write before (Err (Other fault)) after))) }
 {
-    match call(file, write) {
+    match call_writer(file, write) {
         Ok(()) => Ok(()),
         Err(ContentFault::Device) => Err(StepFault::Partial),
         Err(ContentFault::Other(fault)) => Err(StepFault::Content(fault)),
@@ -171,11 +172,11 @@ fn write_new_file<
     ensures written { OnOk result (IsWritten F.is_known F.NewFile.taken (λ before after. FnOnceReturnsAtMut W.FnOnce write before (Ok tt) after) (F.NewFile.taken file.new)) }
     ensures fault { IfErr result (IsStepFaultOf (λ fault. IsReturned (λ before after. FnOnceReturnsAtMut W.FnOnce write before (Err (Other fault)) after))) }
 {
-    files.empty(paths.partial.as_str(), file, paths.is_file)?;
+    files.truncate(paths.partial.as_str(), file, paths.is_file)?;
     write_content(file, write)?;
     files.sync(file)?;
     files.copy_attributes(paths.target.as_str(), file)?;
-    if files.names(paths.partial.as_str(), file) {
+    if files.has_path(paths.partial.as_str(), file) {
         Ok(())
     } else {
         Err(StepFault::Partial)
@@ -187,7 +188,7 @@ fn remove_new_file<F: FileSystem>(files: &mut F, paths: &Paths, file: &F::NewFil
     ensures { F.is_known → KeepsOthers (F.entry_at files.old) (F.entry_at files.new) (string_bytes paths.now.partial) }
 {
     let partial = paths.partial.as_str();
-    if files.names(partial, file) {
+    if files.has_path(partial, file) {
         files.remove(partial, file);
     }
 }
@@ -221,7 +222,8 @@ fn write_and_rename<
     }
 }
 
-/// Replaces the target's content.
+/// Opens the new file, writes the content to it, and renames it to the target. After an error removes the new file, if it still has its
+/// path.
 fn replace_target<
     F: FileSystem,
     E: Drop,
@@ -258,7 +260,7 @@ pub fn replace_file<
     ensures unchanged { OnErr result (F.is_known → KeepsOthers (F.entry_at files.old) (F.entry_at files.new)
         (partial_path (target_of (F.entry_at files.old) path.now))) }
     // If the path names neither a file, nor a link to one, nor nothing, the call fails and nothing is changed.
-    ensures unreplaced { F.is_known → ¬ CanBeReplaced (F.entry_at files.old) path.now → IsErrAnd result (λ fault. IsOfTarget fault × KeepsAll (F.entry_at files.old) (F.entry_at files.new)) }
+    ensures unreplaced { F.is_known → ¬ CanBeReplaced (F.entry_at files.old) path.now → IsErrAnd result (λ fault. IsTargetOrMemory fault × KeepsAll (F.entry_at files.old) (F.entry_at files.new)) }
     // If an allocation of this call itself failed, nothing is changed.
     ensures memory { IfErr result (λ fault. IsMemory fault → F.is_known → KeepsAll (F.entry_at files.old) (F.entry_at files.new)) }
     // The error in `Content` is an error that the content's writer returned.

@@ -46,6 +46,7 @@ impl Sink for StdFile {
     }
 }
 
+/// The kind of the file with these metadata, which exists.
 fn kind_of(metadata: &Metadata) -> FileKind {
     if metadata.is_file() {
         FileKind::File
@@ -56,8 +57,8 @@ fn kind_of(metadata: &Metadata) -> FileKind {
     }
 }
 
-/// Copies the owner and the group from these metadata to the file, or the group alone, or neither, as the system permits; then copies the
-/// mode.
+/// Copies owner and group from the metadata to the file; if the system forbids that, the group alone, and if it forbids that too, neither.
+/// Then copies the mode. Fails only if the mode can't be set.
 fn copy_metadata(file: &File, metadata: &Metadata) -> Result<(), FileFault> {
     let (owner, group) = (metadata.uid(), metadata.gid());
     if fchown(file, Some(owner), Some(group)).is_err() {
@@ -128,7 +129,7 @@ impl<R: Files<File = File> + AllocGlobal> FileSystem for StdFiles<'_, R> {
         }
     }
 
-    fn names(&self, path: &str, file: &StdFile) -> bool {
+    fn has_path(&self, path: &str, file: &StdFile) -> bool {
         match (fs::symlink_metadata(self.0, path), file.file.metadata()) {
             (Ok(named), Ok(open)) => {
                 named.dev() == open.dev() && named.ino() == open.ino() && open.nlink() == 1
@@ -137,7 +138,7 @@ impl<R: Files<File = File> + AllocGlobal> FileSystem for StdFiles<'_, R> {
         }
     }
 
-    fn empty(&self, _path: &str, file: &mut StdFile, is_private: bool) -> Result<(), FileFault> {
+    fn truncate(&self, _path: &str, file: &mut StdFile, is_private: bool) -> Result<(), FileFault> {
         if is_private {
             file.file
                 .set_permissions(Permissions::from_mode(PRIVATE_FILE_MODE))

@@ -4,11 +4,11 @@ use Rattle.std.specs.Prelude.{Option, None, Some, Bool, false, cond, count_by, i
 use Rattle.std.proofs.lemmas.List.Sums.{sum_by-set}
 use Rattle.std.proofs.lemmas.List.{get_or-map, length-map}
 use Rattle.work_board.specs.Graphs.{Modules}
-use Rattle.work_board.specs.Cores.{has_entry, AreOf}
+use Rattle.work_board.specs.Cores.{has_entry, AreModuleEntries}
 use Rattle.board_workers.specs.Parts.{AreEntries}
 
 pub entries_from : {E : Type 0} (is_of : List ℕ → E → Type 0) (g : Modules) (entries : List E) (gathered : List (Option E)) → map Some entries ≡ gathered
-    → length gathered ≡ length g.names → AreOf is_of g.names gathered → AreEntries is_of g entries
+    → length gathered ≡ length g.names → AreModuleEntries is_of g.names gathered → AreEntries is_of g entries
 entries_from is_of g entries gathered same size own = record {
   size = sym (length-map entries Some) ∙ ap length same ∙ size;
   own = λ n d lt. own n (get_or entries n d) (sym (ap (λ es. get_or es n None) same) ∙ get_or-map Some entries n d None lt);

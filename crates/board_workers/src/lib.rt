@@ -1,6 +1,6 @@
-//! Threads that work at one scheduler: each claims a module, makes its entry and delivers it, until all are delivered. Depends on
-//! `work_board`, and on std for threads and the lock. The main call is `entries`: for every number of workers, every gate and every
-//! schedule, the result has the entry of each module, by number.
+//! Threads that share one scheduler: each repeatedly claims a module, makes its entry and delivers it, until all are delivered. Depends on
+//! `work_board`, and on std for threads and the lock.
+//! The main call is `make_entries`: for every number of workers, every gate and every schedule its result has the entry of each module.
 #![tactic(auto)]
 
 mod gate;
@@ -9,6 +9,6 @@ mod work;
 mod workers;
 
 pub use gate::BoardGate;
-pub use single_thread::entries_by_caller;
+pub use single_thread::make_entries_by_caller;
 pub use work::Work;
-pub use workers::entries;
+pub use workers::make_entries;

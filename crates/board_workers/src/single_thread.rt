@@ -1,8 +1,8 @@
-//! The work of one thread at a scheduler that no other thread uses.
+//! How one thread makes all entries, with a scheduler that no other thread uses.
 ghost use Rattle.std.specs.Prelude.{◌≡◌, ◌<◌, ◌≤◌, ℕ, true, false, length, map, slice_set, IfNone, IfOk, IfSome, OnOk, Some};
 ghost use Rattle.std.specs.Arc.{arc_value};
 ghost use Rattle.work_board.specs.Graphs.{list_at, IsAcyclic};
-ghost use Rattle.work_board.specs.Cores.{has_entry, is_claimed, missing, AreOf, IsIdle};
+ghost use Rattle.work_board.specs.Cores.{has_entry, is_claimed, missing, AreModuleEntries, IsIdle};
 ghost use Rattle.board_workers.specs.Parts.{AreAllDelivered, AreEntries, IsHeld, IsJob};
 
 use crate::Work;
@@ -11,8 +11,9 @@ use std::marker::Brand;
 use std::sync::Arc;
 use work_board::{Board, BoardFault, Claim, Graph, NamedTree, WorkEntry};
 
-/// Claims the next module, and returns it with the shared parts from which its entry is made; none if all modules are delivered.
-fn claimed<T: NamedTree, E: WorkEntry>(
+/// Claims the ready module with the smallest number. Returns it with the shared parts from which its entry is made; none if all modules
+/// are delivered.
+fn claim_next<T: NamedTree, E: WorkEntry>(
     board: &mut Board<'_, T, E>,
 ) -> Result<Option<(u32, Vec<Arc<E::Shared>>)>, AllocError>
     requires acyclic { IsAcyclic T.graph.imports }
@@ -37,7 +38,7 @@ fn claimed<T: NamedTree, E: WorkEntry>(
     }
 }
 
-/// Delivers the entry of a claimed module.
+/// Delivers the entry of a claimed module, which can't fail under these conditions.
 fn store_entry<T: NamedTree, E: WorkEntry>(board: &mut Board<'_, T, E>, number: u32, entry: E)
     requires claimed { is_claimed board.old number ≡ true }
     requires none { has_entry board.old.entries number ≡ false }
@@ -50,7 +51,7 @@ fn store_entry<T: NamedTree, E: WorkEntry>(board: &mut Board<'_, T, E>, number: 
     }
 }
 
-/// Makes and delivers the entry of the next module. Returns false if all are delivered.
+/// Makes and delivers the entry of one more module. Returns false if all modules were delivered already.
 fn deliver_next<T: NamedTree, W: Work>(
     board: &mut Board<'_, T, W::Entry>,
     work: &W,
@@ -64,7 +65,7 @@ fn deliver_next<T: NamedTree, W: Work>(
     ensures more { IfOk result (λ more. more ≡ true → missing board.new < missing board.old) }
     ensures end { IfOk result (λ more. more ≡ false → AreAllDelivered board.new) }
 {
-    match claimed(board)? {
+    match claim_next(board)? {
         Some((number, parts)) => {
             let entry = work.make(number, parts.as_slice())?;
             store_entry(board, number, entry);
@@ -92,7 +93,7 @@ fn deliver_missing<T: NamedTree, W: Work>(
     }
 }
 
-/// The entries without the `Option`; none of them is missing.
+/// The entries without the `Option`. Each must be `Some`.
 fn unwrap_entries<E: Drop>(alloc: Global, gathered: Vec<Option<E>>) -> Result<Vec<E>, AllocError>
     requires { (n : ℕ) → n < length gathered.items → has_entry gathered.items n ≡ true }
     ensures { IfOk result (λ entries. map Some entries.items ≡ gathered.items) }
@@ -122,13 +123,13 @@ pub(crate) fn complete_entries<T: NamedTree, W: Work>(
     if board.is_abandoned() {
         return Err(AllocError);
     }
-    board.take_back();
+    board.release_claims();
     deliver_missing(&mut board, work)?;
     unwrap_entries(alloc, board.gather())
 }
 
-/// The entries of a graph's modules by number. The type parameter `T` names the graph.
-fn entries_by_one_thread<T: NamedTree, W: Work>(
+/// The entries of a graph's modules by number, made by the calling thread. The type parameter `T` identifies the graph.
+fn make_entries_by_one_thread<T: NamedTree, W: Work>(
     alloc: Global,
     graph: &Graph,
     work: &W,
@@ -143,7 +144,7 @@ fn entries_by_one_thread<T: NamedTree, W: Work>(
 }
 
 /// The entries of a graph's modules by number, made by the calling thread alone. Fails if an allocation fails.
-pub fn entries_by_caller<W: Work>(
+pub fn make_entries_by_caller<W: Work>(
     alloc: Global,
     graph: &Graph,
     work: &W,
@@ -155,5 +156,5 @@ pub fn entries_by_caller<W: Work>(
     // The result has the entry of each module, by module number.
     ensures { IfOk result (λ entries. AreEntries W.Entry.is_of graph.now entries.items) }
 {
-    entries_by_one_thread::<Brand, W>(alloc, graph, work)
+    make_entries_by_one_thread::<Brand, W>(alloc, graph, work)
 }

@@ -1,4 +1,4 @@
-//! Workers in threads, at a scheduler guarded by a lock.
+//! Workers in threads that share a scheduler guarded by a lock.
 ghost use Rattle.std.specs.Prelude.{◌≡◌, map, IfErr, IfNone, IfOk, IfSome};
 ghost use Rattle.std.specs.Arc.{arc_value};
 ghost use Rattle.std.specs.Sync.Mutex.{mutex_guard_value};
@@ -21,11 +21,11 @@ type Locked<'g, T, E> = Mutex<Board<'g, T, E>>;
 /// A scheduler whose lock is held.
 type Held<'l, 'g, T, E> = MutexGuard<'l, Board<'g, T, E>>;
 
-/// The outcome of a claim while no module is ready.
+/// The error of a claim while no module is ready but the work isn't over.
 struct Later;
 
 /// Claims a module, and returns it with the shared parts from which its entry is made; none if the work is over. If an allocation fails,
-/// the module is abandoned, so the work is over.
+/// abandons the module, which ends the work.
 fn claim_with_parts<T: NamedTree, E: WorkEntry>(
     board: &mut Board<'_, T, E>,
 ) -> Result<Option<(u32, Vec<Arc<E::Shared>>)>, Later>
@@ -71,8 +71,8 @@ fn wait_for_job<'l, 'g, T: NamedTree, E: WorkEntry, R: Wait>(
     unreachable!()
 }
 
-/// Delivers an entry, or abandons the module if an allocation failed. Drops an entry that isn't accepted.
-fn submit<T: NamedTree, E: WorkEntry>(
+/// Delivers the entry that a worker made, or abandons the module if an allocation failed. Drops an entry that the scheduler rejects.
+fn deliver_or_abandon<T: NamedTree, E: WorkEntry>(
     board: &mut Board<'_, T, E>,
     number: u32,
     made: Result<E, AllocError>,
@@ -87,7 +87,7 @@ fn submit<T: NamedTree, E: WorkEntry>(
 
 /// Runs the worker of this number. It returns only when the work is over, with the lock: all modules are delivered, or one was abandoned
 /// since an allocation failed.
-fn worker<'l, 'g, T: NamedTree, W: Work, G: BoardGate, R: Wait>(
+fn run_worker<'l, 'g, T: NamedTree, W: Work, G: BoardGate, R: Wait>(
     rt: &R,
     locked: &'l Locked<'g, T, W::Entry>,
     changed: &Condvar,
@@ -110,7 +110,7 @@ fn worker<'l, 'g, T: NamedTree, W: Work, G: BoardGate, R: Wait>(
         gate.at(number, turn);
         turn = turn.saturating_add(1);
         let made = work.make(module, parts.as_slice());
-        submit(&mut *locked.lock(rt), module, made);
+        deliver_or_abandon(&mut *locked.lock(rt), module, made);
         changed.notify_all();
     }
     unreachable!()
@@ -140,16 +140,16 @@ where
                 let _ = scope.spawn(
                     move ||
                         requires { W.graph work.now ≡ T.graph }
-                    { drop(worker(rt, locked, waked, number, work, gate)) },
+                    { drop(run_worker(rt, locked, waked, number, work, gate)) },
                 );
             }
-            drop(worker(rt, locked, waked, 0, work, gate));
+            drop(run_worker(rt, locked, waked, 0, work, gate));
         },
     );
 }
 
-/// The entries of a graph's modules by number. The type parameter `T` names the graph.
-fn entries_by_workers<
+/// The entries of a graph's modules by number, made by `workers` workers. The type parameter `T` identifies the graph.
+fn make_entries_by_workers<
     T: NamedTree + Send + Sync,
     W: Work + Sync,
     G: BoardGate + Sync,
@@ -179,7 +179,7 @@ where
 /// Each worker calls `gate` between a claim and its delivery. The result is the same for every schedule: the calling thread makes the
 /// entries that are missing at the end. It goes on without threads that can't be started, and starts none for one worker.
 /// Fails if an allocation fails. It may wait for the lock and for its threads.
-pub fn entries<W: Work + Sync, G: BoardGate + Sync, R: Threads + Wait + Sync>(
+pub fn make_entries<W: Work + Sync, G: BoardGate + Sync, R: Threads + Wait + Sync>(
     rt: &R,
     alloc: Global,
     graph: &Graph,
@@ -197,5 +197,5 @@ where
     // For every number of workers, every gate and every schedule the result has the entry of each module, by module number.
     ensures { IfOk result (λ entries. AreEntries W.Entry.is_of graph.now entries.items) }
 {
-    entries_by_workers::<Brand, W, G, R>(rt, alloc, graph, workers, work, gate)
+    make_entries_by_workers::<Brand, W, G, R>(rt, alloc, graph, workers, work, gate)
 }

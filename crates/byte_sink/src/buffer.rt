@@ -12,9 +12,9 @@ const BUFFER_SIZE: usize = 65536;
 /// Writes the buffer to the sink and empties it, if it has 65,536 bytes or more. After an error the sink has accepted a prefix of the
 /// buffer, which is unchanged.
 pub fn flush_if_full<S: Sink>(text: &mut String, sink: &mut S) -> Result<(), SinkFault>
-    // The known bytes of the sink grow by what the buffer had before and has no longer.
+    // The known bytes of the sink grow by exactly the bytes that have left the buffer.
     ensures moved { OnOk result (WritesAllBut (S.taken sink.old) (S.taken sink.new) (string_bytes text.old) (string_bytes text.new)) }
-    // After an error they grow by a prefix of the buffer.
+    // After an error the known bytes of the sink grow by a prefix of the buffer.
     ensures error_prefix { IfErr result (λ _. AppendsPrefix (S.taken sink.old) (S.taken sink.new) (string_bytes text.old)) }
     // After an error the buffer is unchanged.
     ensures unchanged { OnErr result (string_bytes text.new ≡ string_bytes text.old) }

@@ -1,6 +1,6 @@
-//! Output as a trait: a `Sink` accepts a prefix of the bytes that it is given, so a caller never holds its whole output.
+//! Output as a trait: a `Sink` accepts bytes piece by piece, so a caller needn't hold its whole output in memory.
 //! Depends on std alone, and on `thiserror` for the messages of its errors.
-//! Main call: `write_fully`. The sink has received all bytes, or a prefix of them after an error, and failures of the device are counted.
+//! Main call: `write_fully` writes all bytes to a sink, or a prefix of them if it returns an error. A sink counts failures of its device.
 #![tactic(auto)]
 
 mod buffer;

@@ -16,7 +16,7 @@ pub enum SinkFault {
     Device,
 }
 
-/// Accepts bytes, some at each call.
+/// A receiver of bytes, which may accept fewer bytes at a call than it is given.
 pub trait Sink {
     /// The bytes accepted so far, or `None` if the sink does not report them.
     ghost taken: { Self → Option (List ℕ) };
@@ -29,9 +29,9 @@ pub trait Sink {
     fn put(&mut self, bytes: &[u8]) -> Result<usize, SinkFault>
         // The count is at most the number of bytes.
         ensures bound { IfOk result (λ k. k ≤ length bytes.now) }
-        // It is not 0 unless `bytes` is empty.
+        // The count is not 0 unless `bytes` is empty.
         ensures some { 0 < length bytes.now → IfOk result (λ k. 0 < k) }
-        // The known bytes grow by the accepted prefix, and after an error they are unchanged.
+        // The known bytes of the sink grow by the accepted prefix; after an error they are unchanged.
         ensures takes { Takes (taken self.old) (taken self.new) result bytes.now }
         // The count of failures grows by one, up to 2^64 - 1, exactly if the result is Device.
         ensures failures { failures self.new ≡ failures_after result (failures self.old) };
@@ -91,7 +91,7 @@ impl<W: io::Write> Sink for ToWrite<W> {
 /// Writes all bytes with as many calls of `put` as the sink needs, none of them with an empty slice. After an error the sink has accepted
 /// a prefix of them.
 pub fn write_fully<S: Sink>(sink: &mut S, bytes: &[u8]) -> Result<(), SinkFault>
-    // The known bytes grow by all bytes, or after an error by a prefix of them.
+    // The known bytes of the sink grow by all of `bytes`, or after an error by a prefix of `bytes`.
     ensures writes { Writes (S.taken sink.old) (S.taken sink.new) result bytes.now }
     // The count of failures grows by one, up to 2^64 - 1, exactly if the result is Device.
     ensures failures { S.failures sink.new ≡ failures_after result (S.failures sink.old) }

@@ -7,8 +7,8 @@ use Rattle.std.proofs.lemmas.Option.{slice_get_within, get_or_from_slice_get}
 use Rattle.cut_net.specs.declared.priced.Priced.{Priced}
 use Rattle.cut_net.specs.Network.{Network}
 use Rattle.cut_net.specs.Lines.{AreImportsInOrder, flow_by}
-use Rattle.cut_net.specs.Pins.{IsRightWithPins}
-use Rattle.cut_check.specs.Verdicts.{AreConserved, AreImportLines, AreWithinWeights, IsFirstUnbalanced, IsFirstOverWeight, IsFirstStray, IsStrayLine, IsCutVerdict}
+use Rattle.cut_net.specs.Pins.{IsValidClaimWithPins}
+use Rattle.cut_check.specs.Verdicts.{AreConserved, AreImportLines, AreWithinWeights, IsFirstUnbalanced, IsFirstOverWeight, IsFirstInvalidIn, IsFirstInvalidLine, IsCutVerdict}
 use Rattle.cut_check.specs.declared.verdict.Verdict.{Verdict}
 use Rattle.cut_check.specs.declared.verdict.Verdict.TheVariants.{Yes, NoSuchImport, StillChain, WrongWeight, OverWeight, NotKept, WrongValue, NotPinned}
 use Rattle.cut_check.proofs.Parts.{front_in_order}
@@ -37,19 +37,19 @@ same_place xs p q x y from to f t e at_p at_q x_ends y_ends =
     record { from_is = sym x_ends.0 ∙ ap (λ (v : Priced). v.from) same ∙ y_ends.0; to_is = sym x_ends.1 ∙ ap (λ (v : Priced). v.to) same ∙ y_ends.1 }
 
 module _ (net : Network) (lines : List Priced) where
-  later_stray : (from to f t : ℕ) (s : IsFirstStray net lines from to) (r : IsFirstStray net lines f t) → s.index < r.index → ⊥
+  later_stray : (from to f t : ℕ) (s : IsFirstInvalidIn net lines from to) (r : IsFirstInvalidIn net lines f t) → s.index < r.index → ⊥
   later_stray from to f t s r lt =
       let in_lines = slice_get_within lines r.index r.line r.at_index in
       let len : length (take r.index lines) ≡ r.index = length-take-le r.index lines (omega arith) in
       s.stray (subst (AreImportsInOrder net) (take-take (s.index + 1) r.index lines (omega arith)) (front_in_order net (take r.index lines) (s.index + 1) (omega arith) r.before))
 
-  stray_same : (from to f t : ℕ) → IsFirstStray net lines from to → IsFirstStray net lines f t → Ends from to f t
+  stray_same : (from to f t : ℕ) → IsFirstInvalidIn net lines from to → IsFirstInvalidIn net lines f t → Ends from to f t
   stray_same from to f t s r = elim (cases_order s.index r.index) [
     | inl e ↦ same_place lines s.index r.index s.line r.line from to f t e s.at_index r.at_index s.ends r.ends
     | inr h ↦ elim h [ inl lt ↦ absurd (later_stray from to f t s r lt) | inr lt ↦ absurd (later_stray f t from to r s lt) ]
   ]
 
-  not_stray : (from to : ℕ) → AreImportsInOrder net lines → IsFirstStray net lines from to → ⊥
+  not_stray : (from to : ℕ) → AreImportsInOrder net lines → IsFirstInvalidIn net lines from to → ⊥
   not_stray from to o s = let in_lines = slice_get_within lines s.index s.line s.at_index in s.stray (front_in_order net lines (s.index + 1) (omega arith) o)
 
 module _ (net : Network) (flow : Priced → ℕ) where
@@ -80,23 +80,23 @@ module _ (net : Network) (a b : ℕ) (printed : List Priced) (total : ℕ) (flow
   Is : Verdict → Type 0
   Is v = IsCutVerdict net a b printed total flow v
 
-  no_stray : (from to : ℕ) → AreImportLines net printed flow → IsStrayLine net printed flow from to → ⊥
+  no_stray : (from to : ℕ) → AreImportLines net printed flow → IsFirstInvalidLine net printed flow from to → ⊥
   no_stray from to read (inl s) = not_stray net printed from to read.printed_in_order s
   no_stray from to read (inr (_, s)) = not_stray net flow from to read.flow_in_order s
 
-  strays_same : (from to f t : ℕ) → IsStrayLine net printed flow from to → IsStrayLine net printed flow f t → Ends from to f t
+  strays_same : (from to f t : ℕ) → IsFirstInvalidLine net printed flow from to → IsFirstInvalidLine net printed flow f t → Ends from to f t
   strays_same from to f t (inl s) (inl r) = stray_same net printed from to f t s r
   strays_same from to f t (inl s) (inr (o, _)) = absurd (not_stray net printed from to o s)
   strays_same from to f t (inr (o, _)) (inl r) = absurd (not_stray net printed f t o r)
   strays_same from to f t (inr (_, s)) (inr (_, r)) = stray_same net flow from to f t s r
 
-  read_of : IsRightWithPins net a b printed total flow → AreImportLines net printed flow
+  read_of : IsValidClaimWithPins net a b printed total flow → AreImportLines net printed flow
   read_of r = record { printed_in_order = r.printed_in_order; flow_in_order = r.flow_in_order }
 
-  under_of : IsRightWithPins net a b printed total flow → AreWithinWeights net (flow_by flow)
+  under_of : IsValidClaimWithPins net a b printed total flow → AreWithinWeights net (flow_by flow)
   under_of r i c free over = let le = r.is_flow.within i c free in absurd (omega arith)
 
-  kept_of : IsRightWithPins net a b printed total flow → AreConserved net a b (flow_by flow)
+  kept_of : IsValidClaimWithPins net a b printed total flow → AreConserved net a b (flow_by flow)
   kept_of r m off = off.2 (r.is_flow.kept m off.0 off.1)
 
   stray_only : (from to : ℕ) → Is (NoSuchImport from to) → (w : Verdict) → Is w → NoSuchImport from to ≡ w

@@ -13,9 +13,9 @@ use Rattle.cut_net.specs.Pins.{AreWeightsWithPins, IsRemovable}
 use Rattle.cut_net.proofs.Chains.{widened}
 use Rattle.cut_check.specs.MatchedLines.{AreMatched}
 use Rattle.cut_check.specs.Reaching.{IsAllowed}
-use Rattle.cut_check.specs.Sums.{AreAmounts, HaveAmounts, AreTheirWeights}
+use Rattle.cut_check.specs.Sums.{AreAmounts, HaveAmounts, AreImportWeights}
 use Rattle.cut_check.specs.Sums.{IsFlowVerdict}
-use Rattle.cut_check.specs.Verdicts.{HasCut, IsFirstStray, IsCutVerdict}
+use Rattle.cut_check.specs.Verdicts.{HasCut, IsFirstInvalidIn, IsCutVerdict}
 use Rattle.cut_check.specs.declared.verdict.Verdict.{Verdict}
 use Rattle.cut_check.specs.declared.verdict.Verdict.TheVariants.{Yes, NoSuchImport, StillChain, WrongWeight, OverWeight, NotKept, WrongValue, NotPinned}
 
@@ -84,23 +84,23 @@ module _ (net : Network) (lines : List Priced) (amounts : List (Option ℕ)) (r 
   line_weight_back None w h = tt
   line_weight_back (Some l) w h = h
 
-  pub weights : AreTheirWeights net.imports amounts → (i : Priced) → Contains net.imports i → IfSome (find (have_equal_ends i) lines) (λ line. line.amount ≡ i.amount)
+  pub weights : AreImportWeights net.imports amounts → (i : Priced) → Contains net.imports i → IfSome (find (have_equal_ends i) lines) (λ line. line.amount ≡ i.amount)
   weights w i c =
       let h = w c.0 i c.1 in
       let at_i : IfSome (find (have_equal_ends (get_or net.imports c.0 i)) lines) (λ line. line.amount ≡ (get_or net.imports c.0 i).amount) =
       line_weight _ _ (subst (λ o. IfSome o (λ x. x ≡ (get_or net.imports c.0 i).amount)) (r.each c.0 i c.1) h) in
       subst (λ v. IfSome (find (have_equal_ends v) lines) (λ line. line.amount ≡ v.amount)) c.2 at_i
 
-  pub weights_back : ((i : Priced) → Contains net.imports i → IfSome (find (have_equal_ends i) lines) (λ line. line.amount ≡ i.amount)) → AreTheirWeights net.imports amounts
+  pub weights_back : ((i : Priced) → Contains net.imports i → IfSome (find (have_equal_ends i) lines) (λ line. line.amount ≡ i.amount)) → AreImportWeights net.imports amounts
   weights_back w k d in_k =
       let i = get_or net.imports k d in
       let h = w i (k, in_k, get_or_default net.imports k i d in_k) in
       subst (λ o. IfSome o (λ x. x ≡ i.amount)) (sym (r.each k d in_k)) (line_weight_back _ _ h)
 
-  pub are_weights : (total : ℕ) → IsRemovable net (removed_by lines) × AreTheirWeights net.imports amounts × (total ≡ weight net.imports (removed_by lines)) → AreWeightsWithPins net lines total
+  pub are_weights : (total : ℕ) → IsRemovable net (removed_by lines) × AreImportWeights net.imports amounts × (total ≡ weight net.imports (removed_by lines)) → AreWeightsWithPins net lines total
   are_weights total h = record { removable = h.0; each = weights h.1; sum = h.2 }
 
-  pub are_weights_back : (total : ℕ) → AreWeightsWithPins net lines total → IsRemovable net (removed_by lines) × AreTheirWeights net.imports amounts × (total ≡ weight net.imports (removed_by lines))
+  pub are_weights_back : (total : ℕ) → AreWeightsWithPins net lines total → IsRemovable net (removed_by lines) × AreImportWeights net.imports amounts × (total ≡ weight net.imports (removed_by lines))
   are_weights_back total h = (h.removable, weights_back h.each, h.sum)
 
 abbrev some : Priced → Option Priced
@@ -108,7 +108,7 @@ some line = Some line
 
 -- the line after those in order is the first stray one
 pub stray_from : (net : Network) (lines : List Priced) (count : ℕ) (amounts : List (Option ℕ)) → AreMatched net lines count amounts →
-    (line : Priced) → slice_get lines count ≡ Some line → IsFirstStray net lines line.from line.to
+    (line : Priced) → slice_get lines count ≡ Some line → IsFirstInvalidIn net lines line.from line.to
 stray_from net lines count amounts m line at_index = record {
   index = count;
   line = line;
@@ -141,5 +141,5 @@ by_flow net a b printed total flow cut weigh WrongValue h = (cut, weigh, h.0, h.
 by_flow net a b printed total flow cut weigh (NotPinned from to) h = absurd h
 
 pub stray_at : (net : Network) (lines : List Priced) (count : ℕ) (amounts : List (Option ℕ)) → AreMatched net lines count amounts →
-    (line : Priced) → count < length lines → line ≡ get_or lines count line → IsFirstStray net lines line.from line.to
+    (line : Priced) → count < length lines → line ≡ get_or lines count line → IsFirstInvalidIn net lines line.from line.to
 stray_at net lines count amounts m line lt e = stray_from net lines count amounts m line (slice_get-get_or lines count line lt ∙ ap some (sym e))

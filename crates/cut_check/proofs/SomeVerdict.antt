@@ -14,7 +14,7 @@ use Rattle.cut_net.specs.WellFormed.{IsNetwork}
 use Rattle.cut_net.proofs.Chains.{chain_or_none, outside_or_in}
 use Rattle.cut_check.specs.Reaching.{any}
 use Rattle.cut_check.specs.MatchedLines.{IsLineAt}
-use Rattle.cut_check.specs.Verdicts.{AreConserved, AreImportLines, AreWithinWeights, HasCut, HasVerdict, IsFirstStray, IsUnbalanced}
+use Rattle.cut_check.specs.Verdicts.{AreConserved, AreImportLines, AreWithinWeights, HasCut, HasVerdict, IsFirstInvalidIn, IsUnbalanced}
 use Rattle.cut_check.specs.declared.verdict.Verdict.TheVariants.{Yes, NoSuchImport, StillChain, WrongWeight, OverWeight, NotKept, WrongValue}
 use Rattle.cut_check.proofs.Flows.{beyond}
 use Rattle.cut_check.proofs.Matching.{Matching, matching_start, matching_more, matching_end}
@@ -67,7 +67,7 @@ passed imports lines ascending (suc k) le =
     }
 
 -- the lines are in order, or the first stray one
-in_order_or_stray : (net : Network) (lines : List Priced) → IsAscending net.imports → (AreImportsInOrder net lines) ⊎ ((from : ℕ) × (to : ℕ) × IsFirstStray net lines from to)
+in_order_or_stray : (net : Network) (lines : List Priced) → IsAscending net.imports → (AreImportsInOrder net lines) ⊎ ((from : ℕ) × (to : ℕ) × IsFirstInvalidIn net lines from to)
 in_order_or_stray net lines ascending =
     let p = passed net.imports lines ascending (length net.imports) (omega arith) in
     let matched = matching_end net lines p.next p.found p.done in

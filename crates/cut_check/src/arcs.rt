@@ -1,4 +1,4 @@
-//! Conversion of imports to arcs.
+//! Conversion of imports to the arcs of a search.
 ghost use Rattle.std.specs.Prelude.{◌≡◌, ◌<◌, IfOk, length};
 ghost use Rattle.cut_check.specs.Reaching.{AreArcs, arc_if_allowed};
 
@@ -6,6 +6,7 @@ use cut_net::Priced;
 use residual_graph::Arc;
 use std::alloc::{AllocError, Global};
 
+/// The arc of an import, with capacity 1 if the search may use the import, otherwise 0.
 fn arc_if_allowed(i: Priced, allowed: bool) -> Arc
     ensures { result ≡ arc_if_allowed i allowed }
 {
@@ -17,7 +18,7 @@ fn arc_if_allowed(i: Priced, allowed: bool) -> Arc
     }
 }
 
-/// For each import an arc, with capacity exactly if the search may use the import.
+/// For each import, in order, an arc, with capacity 1 if `allowed` says that the search may use the import, otherwise 0.
 pub(crate) fn arcs_of(
     alloc: Global,
     imports: &[Priced],

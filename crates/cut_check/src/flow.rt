@@ -1,4 +1,4 @@
-//! Flows: their bounds, the inflow and outflow of each module, and their value.
+//! The check of a flow: its bounds, the inflow and outflow of each module, and its value.
 ghost use Rattle.std.specs.Prelude.{ℕ, ◌≡◌, ◌≢◌, ◌≤◌, ◌<◌, ◌+◌, ◌^◌, ◌↔◌, IsTrue, IfOk, MatchOption, length, slice_index, slice_set, vec_len};
 ghost use Rattle.cut_net.specs.declared.priced.Priced.{Priced};
 ghost use Rattle.cut_net.specs.WellFormed.{AreBetween};
@@ -9,9 +9,10 @@ use crate::pins::is_pinned;
 use cut_net::{Net, Priced};
 use std::alloc::{AllocError, Global};
 
-/// The first unpinned import with an amount above its weight.
+/// The first unpinned import whose amount exceeds its weight; `None` if there is none. `amounts` has an amount or none for each import.
 fn first_over_weight(net: &Net, amounts: &[Option<u64>]) -> Option<Priced>
     requires { length amounts.now ≡ length net.now.imports }
+    // With `None` no unpinned import's amount exceeds its weight; with `Some` the import is the first such import.
     ensures { MatchOption result (AreWithin net.now amounts.now (length net.now.imports)) (λ i. IsFirstAbove net.now amounts.now i) }
 {
     for (k, i) in net.imports().iter().enumerate() {
@@ -22,7 +23,8 @@ fn first_over_weight(net: &Net, amounts: &[Option<u64>]) -> Option<Priced>
     None
 }
 
-fn add_at(sums: &mut Vec<u128>, index: usize, amount: u64)
+/// Adds this amount to the element of `sums` at this index.
+fn add_to_sum(sums: &mut Vec<u128>, index: usize, amount: u64)
     requires index { index < vec_len sums.old }
     requires fits { slice_index sums.old.items index + amount < 2 ^ 128 }
     ensures items { sums.new.items ≡ slice_set sums.old.items index (slice_index sums.old.items index + amount) }
@@ -31,14 +33,15 @@ fn add_at(sums: &mut Vec<u128>, index: usize, amount: u64)
     sums[index] += u128::from(amount);
 }
 
-/// The inflow and the outflow of each module. With pinned imports they may exceed 64 bits.
+/// For each module, its inflow (`into`) and its outflow (`out`). The flow on a pinned import isn't bounded, so a sum may exceed 64 bits.
 #[derive(Drop)]
 struct Sums {
     into: Vec<u128>,
     out: Vec<u128>,
 }
 
-/// Adds all amounts. The sums fit, since there are at most 65,536 imports.
+/// The inflow and the outflow of each module, for a flow with these amounts, one for each import (`None` counts as 0). The sums fit into
+/// 128 bits, since there are at most 65,536 imports.
 fn sums_of(
     alloc: Global,
     imports: &[Priced],
@@ -49,20 +52,21 @@ fn sums_of(
     requires amounts { length amounts.now ≡ length imports.now }
     requires few { length imports.now ≤ 65536 }
     ensures size { IfOk result (λ s. (vec_len s.into ≡ modules) × (vec_len s.out ≡ modules)) }
+    // With `Ok` the sums are those of every flow that has these amounts on the imports.
     ensures sums { IfOk result (λ s. (flow : Priced → ℕ) → AreAmounts imports.now flow amounts.now → AreSums imports.now flow modules s.into.items s.out.items) }
 {
     let mut into = vec![in alloc; 0; modules as usize]?;
     let mut out = vec![in alloc; 0; modules as usize]?;
     for (k, i) in imports.iter().enumerate() {
         let amount = amounts[k].unwrap_or(0);
-        add_at(&mut into, i.to as usize, amount);
-        add_at(&mut out, i.from as usize, amount);
+        add_to_sum(&mut into, i.to as usize, amount);
+        add_to_sum(&mut out, i.from as usize, amount);
     }
     Ok(Sums { into, out })
 }
 
 impl Sums {
-    /// The first module, other than the two ends, whose inflow isn't its outflow.
+    /// The module with the smallest number, other than `from` and `to`, whose inflow differs from its outflow; `None` if there is none.
     fn first_unbalanced(&self, modules: u32, from: u32, to: u32) -> Option<u32>
         requires into { vec_len self.now.into ≡ modules }
         requires out { vec_len self.now.out ≡ modules }
@@ -79,7 +83,7 @@ impl Sums {
         None
     }
 
-    /// Whether the outflow of the module, less its inflow, is this value.
+    /// Whether the outflow of the module `node` minus its inflow is this value.
     fn has_value(&self, node: u32, value: u64) -> bool
         requires into { node < vec_len self.now.into }
         requires out { node < vec_len self.now.out }
@@ -91,7 +95,8 @@ impl Sums {
     }
 }
 
-/// The verdict on a flow with these amounts, one for each import.
+/// The verdict on a flow from `from` to `to` that is claimed to have the value `total`. `amounts` has its amount on each import, `None` for
+/// 0.
 pub(crate) fn check_flow(
     alloc: Global,
     net: &Net,
@@ -102,6 +107,7 @@ pub(crate) fn check_flow(
 ) -> Result<Verdict, AllocError>
     requires from { from < length net.now.names }
     requires amounts { length amounts.now ≡ length net.now.imports }
+    // With `Ok` the verdict is right for the flow that has these amounts on the imports.
     ensures { IfOk result (λ v. (flow : Priced → ℕ) → AreAmounts net.now.imports flow amounts.now → IsFlowVerdict net.now from to flow total v) }
 {
     net.invariants();

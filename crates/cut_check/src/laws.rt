@@ -6,11 +6,11 @@ ghost use Rattle.cut_net.specs.WellFormed.{IsNetwork};
 ghost use Rattle.cut_check.specs.declared.verdict.Verdict.{Verdict};
 ghost use Rattle.cut_check.specs.Verdicts.{HasVerdict, IsVerdict};
 
-/// Exactly one verdict holds for an answer about two modules, whatever the answer is.
-pub fn one_verdict()
-    // A verdict holds.
+/// For any answer for two modules, exactly one verdict holds.
+pub fn verdict_is_unique()
+    // For any answer a verdict holds.
     ensures some { (net : Network) (a b : ℕ) (claim : AnswerClaim) → IsNetwork net → HasVerdict net a b claim }
-    // Two verdicts that hold are the same.
+    // Any two verdicts that hold for one answer are equal.
     ensures only { (net : Network) (a b : ℕ) (claim : AnswerClaim) (verdict other : Verdict) →
         IsVerdict net a b claim verdict → IsVerdict net a b claim other → verdict ≡ other }
 {}

@@ -1,7 +1,7 @@
-//! The checker of reports: whether the reported imports are a cheapest cut, by the reported flow, or the reported modules a path of
-//! pinned imports. Depends on `cut_net` for networks and on `residual_graph` for searches; on no solver. It accepts lines of any modules in
-//! any order with any amounts. The main call is `check`. It promises the first cause that holds, and after `Yes` that no cut is cheaper,
-//! or that none exists.
+//! The checker of reports: whether the reported flow proves that the reported imports are a cheapest cut, or whether the reported modules
+//! are a path of pinned imports. Depends on `cut_net` for networks and on `residual_graph` for searches; on no solver.
+//! The main call is `check`. It accepts any lines, and returns `Yes` or the first cause against the report. If it returns `Yes` for a cut,
+//! no cut is cheaper; if it returns `Yes` for a path of pinned imports, no cut exists.
 #![tactic(auto)]
 
 mod arcs;

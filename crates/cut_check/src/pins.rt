@@ -1,4 +1,4 @@
-//! Paths of pinned imports.
+//! The check of a path of pinned imports.
 ghost use Rattle.std.specs.Prelude.{ℕ, ◌≡◌, ◌+◌, ◌<◌, ◌↔◌, IsTrue, MatchOption, length};
 ghost use Rattle.cut_net.specs.Pins.{is_pinned};
 ghost use Rattle.cut_check.specs.Verdicts.{AreChainEnds, IsChainVerdict, IsFirstUnpinned, IsPinnedAt};
@@ -6,7 +6,7 @@ ghost use Rattle.cut_check.specs.Verdicts.{AreChainEnds, IsChainVerdict, IsFirst
 use crate::Verdict;
 use cut_net::{Net, Priced, find_import};
 
-/// Whether the import between these modules is pinned.
+/// Whether the network has a pinned import with the importer and the imported module of `import`; its amount doesn't matter.
 pub(crate) fn is_pinned(net: &Net, import: Priced) -> bool
     ensures { result ≡ is_pinned net.now import }
 {
@@ -14,7 +14,7 @@ pub(crate) fn is_pinned(net: &Net, import: Priced) -> bool
     find_import(net.pins(), import).is_some()
 }
 
-/// The first two consecutive modules without a pinned import from the one to the other.
+/// The first two consecutive modules of the path without a pinned import of the second by the first; `None` if there are none.
 fn first_unpinned(net: &Net, chain: &[u32]) -> Option<Priced>
     ensures { MatchOption result
         ((k : ℕ) → k + 1 < length chain.now → IsPinnedAt net.now chain.now k)
@@ -34,13 +34,14 @@ fn first_unpinned(net: &Net, chain: &[u32]) -> Option<Priced>
     None
 }
 
+/// Whether the path isn't empty, begins with `from` and ends with `to`.
 fn are_chain_ends(chain: &[u32], from: u32, to: u32) -> bool
     ensures { IsTrue result ↔ AreChainEnds from to chain.now }
 {
     !chain.is_empty() && chain[0] == from && chain[chain.len() - 1] == to
 }
 
-/// The verdict on a path of pinned imports between two modules.
+/// The verdict on a list of modules that is claimed to be a path of pinned imports from `from` to `to`.
 pub(crate) fn check_chain(net: &Net, from: u32, to: u32, chain: &[u32]) -> Verdict
     ensures { IsChainVerdict net.now from to chain.now result }
 {

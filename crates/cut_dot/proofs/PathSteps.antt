@@ -19,11 +19,11 @@ abbrev pub edge : ℕ → ℕ → Edge
 edge m n = record { from = m; to = n }
 
 -- the step from the module at an index to the next
-step_at : (path : List ℕ) (k : ℕ) → k + 1 < length path → steps (drop k path) ≡ edge (get_or path k 0) (get_or path (suc k) 0) ∷ steps (drop (suc k) path)
-step_at [] k l = absurd (omega arith)
-step_at (m ∷ []) k l = absurd (omega arith)
-step_at (m ∷ n ∷ more) zero l = refl
-step_at (m ∷ n ∷ more) (suc k) l = step_at (n ∷ more) k (omega arith)
+residual_arc_at : (path : List ℕ) (k : ℕ) → k + 1 < length path → steps (drop k path) ≡ edge (get_or path k 0) (get_or path (suc k) 0) ∷ steps (drop (suc k) path)
+residual_arc_at [] k l = absurd (omega arith)
+residual_arc_at (m ∷ []) k l = absurd (omega arith)
+residual_arc_at (m ∷ n ∷ more) zero l = refl
+residual_arc_at (m ∷ n ∷ more) (suc k) l = residual_arc_at (n ∷ more) k (omega arith)
 
 -- the last module has none
 no_step : (path : List ℕ) (k : ℕ) → length path ≤ k + 1 → steps (drop k path) ≡ []
@@ -39,7 +39,7 @@ pub one_step_more : (path : List ℕ) (found new : List Edge) (j : ℕ) → j + 
     → new ++ steps (drop (j + 1) path) ≡ steps path
 one_step_more path found new j lt is so_far =
     let step = edge (get_or path j 0) (get_or path (j + 1) 0) in
-    let here : steps (drop j path) ≡ step ∷ steps (drop (j + 1) path) = rw add-one (step_at path j lt) in
+    let here : steps (drop j path) ≡ step ∷ steps (drop (j + 1) path) = rw add-one (residual_arc_at path j lt) in
     ap (λ (v : List Edge). v ++ steps (drop (j + 1) path)) is ∙ append_assoc found (step ∷ []) (steps (drop (j + 1) path)) ∙ ap (λ (v : List Edge). found ++ v) (sym here) ∙ so_far
 
 -- all steps

@@ -13,42 +13,42 @@ use Rattle.cut_part.specs.Subnetworks.{are_ends_in, IsBetween}
 use Rattle.cut_dot.specs.Ends.{is_chain_end}
 use Rattle.cut_dot.specs.Texts.{picture_text}
 
--- all modules, in order
+-- the numbers of all modules of the network, in order
 abbrev pub numbers : Network → List ℕ
 numbers net = range_with_len 0 (length net.names)
 
--- the module is in the picture: it is one of the given ones, or one of the two ends
+-- whether the module is in the picture: `between` holds for it, or it is a or b
 abbrev pub is_drawn : ℕ → ℕ → (ℕ → Bool) → ℕ → Bool
 is_drawn a b between m = between m || is_chain_end a b m
 
--- the modules of the picture, in order
+-- the modules for which `between` holds, and a and b, in order
 abbrev pub drawn_modules : Network → ℕ → ℕ → (ℕ → Bool) → List ℕ
 drawn_modules net a b between = filter (is_drawn a b between) (numbers net)
 
--- the imports of the picture, in order: those whose modules are both on a path from a to b
+-- the imports of the network for both of whose modules `between` holds, in order
 abbrev pub drawn_imports : Network → (ℕ → Bool) → List Priced
 drawn_imports net between = filter (are_ends_in between) net.imports
 
--- the imports that an answer removes, none for an answer without a cut
+-- the imports that an answer removes; empty for an answer without a cut
 abbrev pub answer_removed : Answer → List Priced
 answer_removed (answers.Cut cut) = cut.imports.items
 answer_removed (answers.Blocked chain) = []
 
--- the flow of an answer
+-- the imports with flow of an answer; empty for an answer without a cut
 abbrev pub answer_flow : Answer → List Priced
 answer_flow (answers.Cut cut) = cut.flow.items
 answer_flow (answers.Blocked chain) = []
 
--- the import isn't removed
-abbrev pub stays : List Priced → Priced → Bool
-stays printed i = not (removed_by printed i)
+-- whether the import isn't in the list of removed imports
+abbrev pub is_not_removed : List Priced → Priced → Bool
+is_not_removed printed i = not (removed_by printed i)
 
--- the modules that a reaches by imports that aren't removed
+-- `reached` holds for exactly the modules that a reaches by imports that aren't removed
 abbrev pub AreStillReached : Network → ℕ → List Priced → (ℕ → Bool) → Type 0
 AreStillReached net a printed reached = IsSetOf reached (Chain net.imports (Outside (removed_by printed)) a)
 
--- the text is the picture: the modules on paths from a to b with a and b, the imports between those on paths, each once, with their
--- attributes
+-- the text is the picture: the modules on paths from a to b, with a and b themselves, and all imports between modules on paths, each once,
+-- with attributes
 pub record IsPicture (net : Network) (a b : ℕ) (printed flow : List Priced) (text : List ℕ) : Type 0 where
   -- the modules on paths from a to b
   pub between : ℕ → Bool
@@ -59,7 +59,7 @@ pub record IsPicture (net : Network) (a b : ℕ) (printed flow : List Priced) (t
   -- the lines of these modules and imports
   pub text_is : text ≡ picture_text net a b printed flow reached (drawn_modules net a b between) (drawn_imports net between)
 
--- the report removes the import, or gives it flow
+-- whether the import is in the list of removed imports, or its flow is above 0
 abbrev pub is_reported : List Priced → List Priced → Priced → Bool
 is_reported printed flow i = removed_by printed i || nat_lt 0 (flow_by flow i)
 
@@ -67,7 +67,7 @@ is_reported printed flow i = removed_by printed i || nat_lt 0 (flow_by flow i)
 abbrev pub reported_imports : Network → List Priced → List Priced → List Priced
 reported_imports net printed flow = filter (is_reported printed flow) net.imports
 
--- one of the imports leads from the module, or to it
+-- an import of the list leads from the module, or to it
 abbrev pub IsImportEnd : List Priced → ℕ → Type 0
 IsImportEnd imports m = (i : Priced) × Contains imports i × ((i.from ≡ m) ⊎ (i.to ≡ m))
 
@@ -88,17 +88,17 @@ IsFlowPicture net a b printed flow text = IsPictureOfImports net a b printed flo
 
 -- ---- a path
 
--- the edges from each module of the path to the next
+-- the edges from each module of a path to the next
 abbrev pub steps : List ℕ → List Edge
 steps [] = []
 steps (m ∷ []) = []
 steps (m ∷ n ∷ more) = record { from = m; to = n } ∷ steps (n ∷ more)
 
--- the import has the ends of the edge
+-- whether the import leads from the start of the edge to the end of the edge
 abbrev pub has_ends : Priced → Edge → Bool
 has_ends i step = (i.from == step.from) && (i.to == step.to)
 
--- the import leads from a module of the path to the next
+-- whether the import leads from a module of the path to the next
 abbrev pub is_step : List ℕ → Priced → Bool
 is_step path i = list_any (has_ends i) (steps path)
 
@@ -106,7 +106,7 @@ is_step path i = list_any (has_ends i) (steps path)
 abbrev pub path_imports : Network → List ℕ → List Priced
 path_imports net path = filter (is_step path) net.imports
 
--- the text is the picture of a path: nothing is removed, and nothing flows
+-- the text is the picture of a path of imports, in which no import is removed and none has flow
 abbrev pub IsPathPicture : Network → ℕ → ℕ → List ℕ → List ℕ → Type 0
 IsPathPicture net a b path text = IsPictureOfImports net a b [] [] (path_imports net path) text
 

@@ -1,7 +1,7 @@
--- Steps of a path, as imports.
+-- The edges of a path, as imports.
 use Rattle.digraph.specs.declared.edge.Edge.{Edge}
 use Rattle.cut_net.specs.declared.priced.Priced.{Priced}
 
--- the step as an import of amount 0
+-- the edge as an import of amount 0
 abbrev pub line_of_step : Edge → Priced
 line_of_step step = record { from = step.from; to = step.to; amount = 0 }

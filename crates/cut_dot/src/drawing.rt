@@ -1,4 +1,4 @@
-//! Writing a picture.
+//! Writing the picture of an answer.
 ghost use Rattle.std.specs.Prelude.{◌≡◌, ◌<◌, [], length};
 ghost use Rattle.byte_sink.specs.Sinks.{failures_after};
 ghost use Rattle.cut_net.specs.Answers.{answer_claim};
@@ -16,7 +16,7 @@ use cut_net::{Answer, Cut, Net, Priced};
 use cut_part::between;
 use std::alloc::Global;
 
-/// Writes the picture of a cut.
+/// Writes the picture of a cut between the modules `from` and `to`: it has all modules and imports on paths from `from` to `to`.
 fn draw_cut<S: Sink>(
     alloc: Global,
     net: &Net,
@@ -25,11 +25,17 @@ fn draw_cut<S: Sink>(
     cut: &Cut,
     sink: &mut S,
 ) -> Result<(), SinkFault>
+    // `from` is the number of a module of the network.
     requires from { from < length net.now.names }
+    // `to` is the number of a module of the network.
     requires to { to < length net.now.names }
+    // The imports that the cut removes are strictly sorted.
     requires removed { IsAscending cut.now.imports.items }
+    // The imports with flow are strictly sorted.
     requires flow { IsAscending cut.now.flow.items }
+    // With `Ok` the sink took the whole picture, with an error at most a prefix of it.
     ensures run { IsDrawing net.now from to cut.now.imports.items cut.now.flow.items (S.taken sink.old) (S.taken sink.new) result }
+    // The sink counts a failure if and only if the result is `Device`.
     ensures failures { S.failures sink.new ≡ failures_after result (S.failures sink.old) }
 {
     net.invariants();
@@ -51,7 +57,7 @@ fn draw_cut<S: Sink>(
     )
 }
 
-/// Writes the picture of these imports of the network, with the modules at their ends, and with A and B.
+/// Writes the picture of these imports of the network. Its modules are those at the ends of the imports, and the two modules `ends`.
 fn draw_imports<S: Sink>(
     alloc: Global,
     net: &Net,
@@ -60,11 +66,17 @@ fn draw_imports<S: Sink>(
     imports: &[Priced],
     sink: &mut S,
 ) -> Result<(), SinkFault>
+    // `ends.0` is the number of a module of the network.
     requires from { ends.0 < length net.now.names }
+    // The imports are between modules of the network.
     requires imports { AreBetween imports.now (length net.now.names) }
+    // The imports that the cut removes are strictly sorted.
     requires removed { IsAscending cut.now.imports.items }
+    // The imports with flow are strictly sorted.
     requires flow { IsAscending cut.now.flow.items }
+    // With `Ok` the sink took the whole picture, with an error at most a prefix of it.
     ensures run { IsDrawingOf (IsPictureOfImports net.now ends.0 ends.1 cut.now.imports.items cut.now.flow.items imports.now) (S.taken sink.old) (S.taken sink.new) result }
+    // The sink counts a failure if and only if the result is `Device`.
     ensures failures { S.failures sink.new ≡ failures_after result (S.failures sink.old) }
 {
     let Ok(marks) = flag_ends(alloc, imports, net.nodes()) else {
@@ -76,7 +88,7 @@ fn draw_imports<S: Sink>(
     write_picture(alloc, net, ends, cut, imports, &marks, &reached, sink)
 }
 
-/// Writes the picture of a cut by its flow.
+/// Writes the picture of a cut by its flow, which has only the imports that the cut removes or gives flow.
 fn draw_flow_of_cut<S: Sink>(
     alloc: Global,
     net: &Net,
@@ -84,10 +96,15 @@ fn draw_flow_of_cut<S: Sink>(
     cut: &Cut,
     sink: &mut S,
 ) -> Result<(), SinkFault>
+    // `ends.0` is the number of a module of the network.
     requires from { ends.0 < length net.now.names }
+    // The imports that the cut removes are strictly sorted.
     requires removed { IsAscending cut.now.imports.items }
+    // The imports with flow are strictly sorted.
     requires flow { IsAscending cut.now.flow.items }
+    // With `Ok` the sink took the whole picture, with an error at most a prefix of it.
     ensures run { IsDrawingOf (IsFlowPicture net.now ends.0 ends.1 cut.now.imports.items cut.now.flow.items) (S.taken sink.old) (S.taken sink.new) result }
+    // The sink counts a failure if and only if the result is `Device`.
     ensures failures { S.failures sink.new ≡ failures_after result (S.failures sink.old) }
 {
     net.invariants();
@@ -98,7 +115,7 @@ fn draw_flow_of_cut<S: Sink>(
     draw_imports(alloc, net, ends, cut, &imports, sink)
 }
 
-/// The cut for the picture of an answer without a cut: no import is removed, and none has flow.
+/// A cut without imports and flow, for the picture of an answer that has no cut.
 fn empty_cut(alloc: Global) -> Cut
     ensures removed { result.imports.items ≡ [] }
     ensures flow { result.flow.items ≡ [] }
@@ -110,7 +127,7 @@ fn empty_cut(alloc: Global) -> Cut
     }
 }
 
-/// Writes the picture of a path of pinned imports.
+/// Writes the picture of a path of pinned imports. No import is removed in it, and none has flow.
 fn draw_path<S: Sink>(
     alloc: Global,
     net: &Net,
@@ -118,8 +135,11 @@ fn draw_path<S: Sink>(
     path: &[u32],
     sink: &mut S,
 ) -> Result<(), SinkFault>
+    // `ends.0` is the number of a module of the network.
     requires from { ends.0 < length net.now.names }
+    // With `Ok` the sink took the whole picture, with an error at most a prefix of it.
     ensures run { IsDrawingOf (IsPathPicture net.now ends.0 ends.1 path.now) (S.taken sink.old) (S.taken sink.new) result }
+    // The sink counts a failure if and only if the result is `Device`.
     ensures failures { S.failures sink.new ≡ failures_after result (S.failures sink.old) }
 {
     net.invariants();
@@ -130,8 +150,8 @@ fn draw_path<S: Sink>(
 }
 
 /// Writes the picture of an answer for two modules of a network, A and B, which are given by their numbers, as a graph in DOT.
-/// It has the modules on paths from A to B, and all imports between these, in the order of the network, each once.
-/// A and B have a double border, and are there even if no path leads from A to B; then there is no import.
+/// The picture has the modules on paths from A to B, and all imports between these, in the order of the network, each once.
+/// A and B have a double border. They are in the picture even if no path leads from A to B; then it has no import.
 /// The modules that A reaches without the removed imports are gray, A among them. A removed import is dashed and red.
 /// An import's label is its flow, a slash, and its weight in the network. A pinned import is bold, and has `pin` instead of a weight.
 /// Without a cut no import is removed, and none has flow. The answer isn't verified: a line of an import that isn't drawn has no effect.
@@ -144,9 +164,9 @@ pub fn draw<S: Sink>(
     answer: &Answer,
     sink: &mut S,
 ) -> Result<(), SinkFault>
-    // `from` is a module.
+    // `from` is the number of a module of the network.
     requires from { from < length net.now.names }
-    // `to` is a module.
+    // `to` is the number of a module of the network.
     requires to { to < length net.now.names }
     // The imports to remove are strictly sorted.
     requires removed { IsAscending (answer_removed answer.now) }
@@ -163,10 +183,10 @@ pub fn draw<S: Sink>(
     }
 }
 
-/// Writes the picture of an answer for two modules by its flow. It differs from that of `draw` in its imports and modules.
+/// Writes the picture of an answer for two modules A and B by its flow. It differs from the picture of `draw` in its imports and modules.
 /// The imports are exactly those of the network that the cut removes or gives flow, wherever they lead.
 /// Without a cut they are those of the path of pinned imports, each from a module of the path to the next.
-/// The modules are those at the ends of the imports, with A and B. Fails with `Device` or `Memory`; the sink then has a prefix of the text.
+/// The modules are those at the ends of the imports, and A and B. Fails with `Device` or `Memory`; the sink then has a prefix of the text.
 pub fn draw_flow<S: Sink>(
     alloc: Global,
     net: &Net,
@@ -175,9 +195,9 @@ pub fn draw_flow<S: Sink>(
     answer: &Answer,
     sink: &mut S,
 ) -> Result<(), SinkFault>
-    // `from` is a module.
+    // `from` is the number of a module of the network.
     requires from { from < length net.now.names }
-    // `to` is a module.
+    // `to` is the number of a module of the network.
     requires to { to < length net.now.names }
     // The imports to remove are strictly sorted.
     requires removed { IsAscending (answer_removed answer.now) }

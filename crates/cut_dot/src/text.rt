@@ -1,4 +1,4 @@
-//! The text of a picture.
+//! Writes the text of a picture, in the language DOT: its first lines, its modules, its imports and its last line.
 ghost use Rattle.std.specs.Prelude.{◌≡◌, ◌<◌, ◌++◌, if◌then◌else◌, [], IfErr, OnOk, filter, length};
 ghost use Rattle.std.specs.List.{flat_map};
 ghost use Rattle.std.specs.String.{string_bytes};
@@ -17,7 +17,7 @@ use byte_sink::{Sink, SinkFault, flush_if_full, write_fully};
 use cut_net::{Cut, Net, Priced};
 use std::alloc::{AllocError, Global};
 
-/// The beginning of the graph: it goes from left to right, and its label is the legend.
+/// The first lines of the picture: the graph goes from left to right, and its label is the legend.
 fn head_text() -> &'static str
     ensures { result.now ≡ head_text }
 {
@@ -49,13 +49,14 @@ fn removed_attributes(is_removed: bool) -> &'static str
     }
 }
 
-/// Appends the line of a module to the text.
+/// Appends the line of a module to the text: its name, with a double border if it is A or B, and gray if it is still reached.
 fn append_module(
     text: &mut String,
     name: &str,
     is_chain_end: bool,
     is_reached: bool,
 ) -> Result<(), AllocError>
+    // With `Ok` the text has grown by exactly these bytes.
     ensures { OnOk result (string_bytes text.new ≡ string_bytes text.old ++ module_line name.now is_chain_end is_reached) }
 {
     let end = end_attribute(is_chain_end);
@@ -63,42 +64,47 @@ fn append_module(
     writeln!(text, "  \"{name}\"{end}{reached};")
 }
 
-/// Appends the two names of an import to the text.
+/// Appends the names of an import's two modules to the text, with an arrow between them.
 fn append_ends(text: &mut String, from: &str, to: &str) -> Result<(), AllocError>
+    // With `Ok` the text has grown by exactly these bytes.
     ensures { OnOk result (string_bytes text.new ≡ string_bytes text.old ++ ends_text from.now to.now) }
 {
     write!(text, "  \"{from}\" -> \"{to}\"")
 }
 
-/// Appends the label of an import, the attributes of a removed one, and the end of the line to the text.
+/// Appends what follows the names in the line of an unpinned import: its label, and the attributes of a removed import if it is removed.
 fn append_label(
     text: &mut String,
     flow: u64,
     weight: u64,
     is_removed: bool,
 ) -> Result<(), AllocError>
+    // With `Ok` the text has grown by exactly these bytes.
     ensures { OnOk result (string_bytes text.new ≡ string_bytes text.old ++ label_text flow weight is_removed) }
 {
     let removed = removed_attributes(is_removed);
     writeln!(text, " [label=\"{flow}/{weight}\"]{removed};")
 }
 
-/// Appends the label of a pinned import, its attributes, those of a removed one, and the end of the line to the text.
+/// Appends what follows the names in the line of a pinned import: its label and style, and the attributes of a removed import if it is
+/// removed.
 fn append_pin(text: &mut String, flow: u64, is_removed: bool) -> Result<(), AllocError>
+    // With `Ok` the text has grown by exactly these bytes.
     ensures { OnOk result (string_bytes text.new ≡ string_bytes text.old ++ pin_text flow is_removed) }
 {
     let removed = removed_attributes(is_removed);
     writeln!(text, " [label=\"{flow}/pin\"] [style=bold]{removed};")
 }
 
-/// Whether the module is A or B.
+/// Whether the module `node` is `from` or `to`, the modules A and B of the picture.
 fn is_chain_end(from: u32, to: u32, node: u32) -> bool
     ensures { result ≡ is_chain_end from to node }
 {
     (node == from) | (node == to)
 }
 
-/// Appends the line of a module, if it is flagged, or is A or B, and writes the text if it is long.
+/// Appends the line of a module to the buffer `text`, if the module is flagged, or is A or B. If the buffer is then full, writes it to the
+/// sink.
 fn write_drawn_module<S: Sink>(
     text: &mut String,
     net: &Net,
@@ -109,14 +115,20 @@ fn write_drawn_module<S: Sink>(
     node: u32,
     sink: &mut S,
 ) -> Result<(), SinkFault>
+    // `marks` has a flag for each module of the network.
     requires marks { length marks.now ≡ length net.now.names }
+    // `reached` has a flag for each module of the network.
     requires reached { length reached.now ≡ length net.now.names }
+    // `node` is the number of a module of the network.
     requires node { node < length net.now.names }
+    // With `Ok` the sink took the old buffer and the new lines, without what the new buffer still holds.
     ensures gathered { OnOk result (WritesAllBut (S.taken sink.old) (S.taken sink.new) (string_bytes text.old ++
         (if is_drawn from to (is_flagged marks.now) node then line_of_module net.now from to (is_flagged reached.now) node else []))
         (string_bytes text.new)) }
+    // After an error the sink took a prefix of the old buffer and the new lines.
     ensures error_prefix { IfErr result (λ _. AppendsPrefix (S.taken sink.old) (S.taken sink.new) (string_bytes text.old ++
         (if is_drawn from to (is_flagged marks.now) node then line_of_module net.now from to (is_flagged reached.now) node else []))) }
+    // The sink counts a failure if and only if the result is `Device`.
     ensures failures { S.failures sink.new ≡ failures_after result (S.failures sink.old) }
 {
     let is_chain_end = is_chain_end(from, to, node);
@@ -130,7 +142,8 @@ fn write_drawn_module<S: Sink>(
     Ok(())
 }
 
-/// Appends the lines of the modules that are flagged, and of A and B.
+/// Appends the lines of the modules that `marks` flags, and of A and B (`from` and `to`), to the buffer `text`. Whenever the buffer is
+/// full, writes it to the sink.
 fn write_modules<S: Sink>(
     text: &mut String,
     net: &Net,
@@ -140,13 +153,18 @@ fn write_modules<S: Sink>(
     reached: &[bool],
     sink: &mut S,
 ) -> Result<(), SinkFault>
+    // `marks` has a flag for each module of the network.
     requires marks { length marks.now ≡ length net.now.names }
+    // `reached` has a flag for each module of the network.
     requires reached { length reached.now ≡ length net.now.names }
+    // With `Ok` the sink took the old buffer and the new lines, without what the new buffer still holds.
     ensures gathered { OnOk result (WritesAllBut (S.taken sink.old) (S.taken sink.new) (string_bytes text.old ++
         flat_map (line_of_module net.now from to (is_flagged reached.now)) (drawn_modules net.now from to (is_flagged marks.now)))
         (string_bytes text.new)) }
+    // After an error the sink took a prefix of the old buffer and the new lines.
     ensures error_prefix { IfErr result (λ _. AppendsPrefix (S.taken sink.old) (S.taken sink.new) (string_bytes text.old ++
         flat_map (line_of_module net.now from to (is_flagged reached.now)) (drawn_modules net.now from to (is_flagged marks.now)))) }
+    // The sink counts a failure if and only if the result is `Device`.
     ensures failures { S.failures sink.new ≡ failures_after result (S.failures sink.old) }
 {
     for node in 0..net.nodes() {
@@ -155,7 +173,7 @@ fn write_modules<S: Sink>(
     Ok(())
 }
 
-/// Appends the line of an import to the text.
+/// Appends the line of an import to the text: the names of its modules, its label, and its attributes.
 fn append_import(
     text: &mut String,
     net: &Net,
@@ -163,10 +181,14 @@ fn append_import(
     flow: &[Priced],
     import: Priced,
 ) -> Result<(), AllocError>
+    // The removed imports are strictly sorted.
     requires removed { IsAscending removed.now }
+    // The imports with flow are strictly sorted.
     requires flow { IsAscending flow.now }
+    // The import is between two modules of the network.
     requires from { import.from < length net.now.names }
     requires to { import.to < length net.now.names }
+    // With `Ok` the text has grown by exactly these bytes.
     ensures { OnOk result (string_bytes text.new ≡ string_bytes text.old ++ line_of_import net.now removed.now flow.now import) }
 {
     let carried = flow_on(flow, import);
@@ -180,7 +202,8 @@ fn append_import(
     }
 }
 
-/// Appends the line of an import, if both its modules are flagged, and writes the text if it is long.
+/// Appends the line of an import to the buffer `text`, if both modules of the import are flagged. If the buffer is then full, writes it to
+/// the sink.
 fn write_internal_import<S: Sink>(
     text: &mut String,
     net: &Net,
@@ -190,16 +213,23 @@ fn write_internal_import<S: Sink>(
     import: Priced,
     sink: &mut S,
 ) -> Result<(), SinkFault>
+    // `marks` has a flag for each module of the network.
     requires marks { length marks.now ≡ length net.now.names }
+    // The removed imports are strictly sorted.
     requires removed { IsAscending removed.now }
+    // The imports with flow are strictly sorted.
     requires flow { IsAscending flow.now }
+    // The import is between two modules of the network.
     requires from { import.from < length net.now.names }
     requires to { import.to < length net.now.names }
+    // With `Ok` the sink took the old buffer and the new lines, without what the new buffer still holds.
     ensures gathered { OnOk result (WritesAllBut (S.taken sink.old) (S.taken sink.new) (string_bytes text.old ++
         (if are_ends_in (is_flagged marks.now) import then line_of_import net.now removed.now flow.now import else []))
         (string_bytes text.new)) }
+    // After an error the sink took a prefix of the old buffer and the new lines.
     ensures error_prefix { IfErr result (λ _. AppendsPrefix (S.taken sink.old) (S.taken sink.new) (string_bytes text.old ++
         (if are_ends_in (is_flagged marks.now) import then line_of_import net.now removed.now flow.now import else []))) }
+    // The sink counts a failure if and only if the result is `Device`.
     ensures failures { S.failures sink.new ≡ failures_after result (S.failures sink.old) }
 {
     if marks[import.from as usize] & marks[import.to as usize] {
@@ -211,7 +241,8 @@ fn write_internal_import<S: Sink>(
     Ok(())
 }
 
-/// Appends the lines of the imports whose modules are both flagged.
+/// Appends the lines of the imports whose two modules are both flagged to the buffer `text`. Whenever the buffer is full, writes it to the
+/// sink.
 fn write_imports<S: Sink>(
     text: &mut String,
     net: &Net,
@@ -221,15 +252,22 @@ fn write_imports<S: Sink>(
     flow: &[Priced],
     sink: &mut S,
 ) -> Result<(), SinkFault>
+    // The imports are between modules of the network.
     requires imports { AreBetween imports.now (length net.now.names) }
+    // `marks` has a flag for each module of the network.
     requires marks { length marks.now ≡ length net.now.names }
+    // The removed imports are strictly sorted.
     requires removed { IsAscending removed.now }
+    // The imports with flow are strictly sorted.
     requires flow { IsAscending flow.now }
+    // With `Ok` the sink took the old buffer and the new lines, without what the new buffer still holds.
     ensures gathered { OnOk result (WritesAllBut (S.taken sink.old) (S.taken sink.new) (string_bytes text.old ++
         flat_map (line_of_import net.now removed.now flow.now) (filter (are_ends_in (is_flagged marks.now)) imports.now))
         (string_bytes text.new)) }
+    // After an error the sink took a prefix of the old buffer and the new lines.
     ensures error_prefix { IfErr result (λ _. AppendsPrefix (S.taken sink.old) (S.taken sink.new) (string_bytes text.old ++
         flat_map (line_of_import net.now removed.now flow.now) (filter (are_ends_in (is_flagged marks.now)) imports.now))) }
+    // The sink counts a failure if and only if the result is `Device`.
     ensures failures { S.failures sink.new ≡ failures_after result (S.failures sink.old) }
 {
     for import in imports {
@@ -238,7 +276,8 @@ fn write_imports<S: Sink>(
     Ok(())
 }
 
-/// Writes the text of the picture of the flagged modules and of the imports between them, in pieces.
+/// Writes the text of a picture. It has the modules that `marks` flags, the two modules `ends`, and those of `imports` whose modules are
+/// both flagged. A module that `reached` flags is gray.
 pub(crate) fn write_picture<S: Sink>(
     alloc: Global,
     net: &Net,
@@ -249,14 +288,21 @@ pub(crate) fn write_picture<S: Sink>(
     reached: &[bool],
     sink: &mut S,
 ) -> Result<(), SinkFault>
+    // The imports are between modules of the network.
     requires imports { AreBetween imports.now (length net.now.names) }
+    // `marks` has a flag for each module of the network.
     requires marks { length marks.now ≡ length net.now.names }
+    // `reached` has a flag for each module of the network.
     requires reached { length reached.now ≡ length net.now.names }
+    // The removed imports are strictly sorted.
     requires removed { IsAscending cut.now.imports.items }
+    // The imports with flow are strictly sorted.
     requires flow { IsAscending cut.now.flow.items }
+    // With `Ok` the sink took the whole text of the picture, otherwise a prefix of it.
     ensures writes { Writes (S.taken sink.old) (S.taken sink.new) result
         (picture_text net.now ends.0 ends.1 cut.now.imports.items cut.now.flow.items (is_flagged reached.now)
         (drawn_modules net.now ends.0 ends.1 (is_flagged marks.now)) (filter (are_ends_in (is_flagged marks.now)) imports.now)) }
+    // The sink counts a failure if and only if the result is `Device`.
     ensures failures { S.failures sink.new ≡ failures_after result (S.failures sink.old) }
 {
     let removed = cut.imports.as_slice();

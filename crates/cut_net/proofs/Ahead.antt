@@ -7,7 +7,7 @@ use Rattle.std.proofs.lemmas.List.{append-nil, length-append, nil_from_length}
 use Rattle.std.proofs.lemmas.List.Elements.{All-cons, All-nil, filter-append}
 use Rattle.std.proofs.lemmas.Option.{slice_get-get_or}
 use Rattle.std.proofs.lemmas.List.Splits.{slice_split_at, slice_split_none}
-use Rattle.texts.specs.Fields.{cut_at, with_first}
+use Rattle.texts.specs.Fields.{split_at_first, with_first}
 use Rattle.texts.proofs.FieldCuts.{cut_takes, some_is, with_some, without}
 use Rattle.texts.proofs.FieldNames.{decimal_without, name_without, without-append}
 use Rattle.cut_net.specs.NetList.{AddsFirstPiece, IsList, IsRepeat, IsRepeatAt, StartsWithPieces, Repeats}
@@ -30,27 +30,27 @@ written (Module m) = refl
 written (Import m n w) = refl
 
 -- the bytes before the first line end have no line end
-front_without : (bytes : List ℕ) (x : List ℕ × List ℕ) → cut_at 10 bytes ≡ Some x → without 10 x.0 ≡ true
-unfolding cut_at
+front_without : (bytes : List ℕ) (x : List ℕ × List ℕ) → split_at_first 10 bytes ≡ Some x → without 10 x.0 ≡ true
+unfolding split_at_first
 front_without [] x e = absurd cc
 front_without (b ∷ bytes) x e =
     elim (cases_Bool (eqb b 10)) [
       | inl stops ↦ let at : Some ([], bytes) ≡ Some x = rw stops at e in
           let pair : ([], bytes) ≡ x = some_is _ _ at in
           subst (λ (p : List ℕ × List ℕ). without 10 p.0 ≡ true) pair refl
-      | inr goes ↦ let at : option_map (with_first b) (cut_at 10 bytes) ≡ Some x = rw goes at e in
-          let p = with_some b (cut_at 10 bytes) x at in
+      | inr goes ↦ let at : option_map (with_first b) (split_at_first 10 bytes) ≡ Some x = rw goes at e in
+          let p = with_some b (split_at_first 10 bytes) x at in
           subst (λ (p : List ℕ × List ℕ). without 10 p.0 ≡ true) p.2 (and_from (not (eqb b 10)) _ (rw goes refl) (front_without bytes p.0 p.1))
     ]
 
 -- a text without a line end is one line
-none_without : (bytes : List ℕ) → cut_at 10 bytes ≡ None → without 10 bytes ≡ true
-unfolding cut_at
+none_without : (bytes : List ℕ) → split_at_first 10 bytes ≡ None → without 10 bytes ≡ true
+unfolding split_at_first
 none_without [] e = refl
 none_without (b ∷ bytes) e =
     elim (cases_Bool (eqb b 10)) [
       | inl stops ↦ absurd (some_none _ (rw stops at e))
-      | inr goes ↦ and_from (not (eqb b 10)) _ (rw goes refl) (none_without bytes (map_none b (cut_at 10 bytes) (rw goes at e)))
+      | inr goes ↦ and_from (not (eqb b 10)) _ (rw goes refl) (none_without bytes (map_none b (split_at_first 10 bytes) (rw goes at e)))
     ]
   where
     some_none : (x : List ℕ × List ℕ) → Some x ≡ None → ⊥
@@ -67,10 +67,10 @@ pieces_step line rest e = slice_split_at (λ b. eqb b 10) line 10 rest (no_end l
 line_pieces : (text rest : List ℕ) (l : NetLine) → IsNetLine l → text ≡ net_line l ++ 10 ∷ rest → pieces_of text ≡ net_line l ∷ pieces_of rest
 line_pieces text rest l good is = ap pieces_of is ∙ pieces_step (net_line l) rest (line_without l good)
 
-first_pieces : (text piece rest : List ℕ) → cut_at 10 text ≡ Some (piece, rest) → pieces_of text ≡ piece ∷ pieces_of rest
+first_pieces : (text piece rest : List ℕ) → split_at_first 10 text ≡ Some (piece, rest) → pieces_of text ≡ piece ∷ pieces_of rest
 first_pieces text piece rest e = ap pieces_of (cut_takes 10 text (piece, rest) e) ∙ pieces_step piece rest (front_without text (piece, rest) e)
 
-last_piece : (text : List ℕ) → cut_at 10 text ≡ None → pieces_of text ≡ text ∷ []
+last_piece : (text : List ℕ) → split_at_first 10 text ≡ None → pieces_of text ≡ text ∷ []
 last_piece text e = slice_split_none (λ b. eqb b 10) text (no_end text (none_without text e))
 
 -- a line that is parsed without searching for its end
@@ -81,17 +81,17 @@ pub line_repeats : (text rest : List ℕ) (before : List NetLine) (l : NetLine) 
 line_repeats text rest before l list good is (twice, h) = (l, pieces_of rest, line_pieces text rest l good is, good, (twice, h))
 
 -- a line that is delimited by its end before it is parsed
-pub piece_goes_on : (text piece rest : List ℕ) (before more : List NetLine) (list : LineList) → cut_at 10 text ≡ Some (piece, rest) → Spell (piece ∷ []) more → IsList (before ++ more) list → AddsFirstPiece text rest before list
+pub piece_goes_on : (text piece rest : List ℕ) (before more : List NetLine) (list : LineList) → split_at_first 10 text ≡ Some (piece, rest) → Spell (piece ∷ []) more → IsList (before ++ more) list → AddsFirstPiece text rest before list
 piece_goes_on text piece rest before more list e first h = (piece, more, first, inl (first_pieces text piece rest e), h)
 
-pub piece_repeats : (text piece rest : List ℕ) (before : List NetLine) (l : NetLine) (list : LineList) → cut_at 10 text ≡ Some (piece, rest) → net_line l ≡ piece → IsNetLine l → IsRepeat before l list → Repeats text before list
+pub piece_repeats : (text piece rest : List ℕ) (before : List NetLine) (l : NetLine) (list : LineList) → split_at_first 10 text ≡ Some (piece, rest) → net_line l ≡ piece → IsNetLine l → IsRepeat before l list → Repeats text before list
 piece_repeats text piece rest before l list e is good (twice, h) = (l, pieces_of rest, first_pieces text piece rest e ∙ ap (λ (p : List ℕ). p ∷ pieces_of rest) (sym is), good, (twice, h))
 
 -- a last line that has no end
-pub last_goes_on : (text rest : List ℕ) (before more : List NetLine) (list : LineList) → cut_at 10 text ≡ None → rest ≡ [] → Spell (text ∷ []) more → IsList (before ++ more) list → AddsFirstPiece text rest before list
+pub last_goes_on : (text rest : List ℕ) (before more : List NetLine) (list : LineList) → split_at_first 10 text ≡ None → rest ≡ [] → Spell (text ∷ []) more → IsList (before ++ more) list → AddsFirstPiece text rest before list
 last_goes_on text rest before more list e done first h = (text, more, first, inr (last_piece text e, done), h)
 
-pub last_repeats : (text : List ℕ) (before : List NetLine) (l : NetLine) (list : LineList) → cut_at 10 text ≡ None → net_line l ≡ text → IsNetLine l → IsRepeat before l list → Repeats text before list
+pub last_repeats : (text : List ℕ) (before : List NetLine) (l : NetLine) (list : LineList) → split_at_first 10 text ≡ None → net_line l ≡ text → IsNetLine l → IsRepeat before l list → Repeats text before list
 last_repeats text before l list e is good (twice, h) = (l, [], last_piece text e ∙ ap (λ (p : List ℕ). p ∷ []) (sym is), good, (twice, h))
 
 -- ---- from piece to piece

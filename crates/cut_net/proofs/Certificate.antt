@@ -35,10 +35,10 @@ pub weight-mono : (imports : List Priced) (x y : Priced → Bool) → ((i : Pric
     weight imports x ≤ weight imports y
 weight-mono imports x y inside = sum_by-mono _ _ imports (λ i c. cond_within (x i) (y i) i.amount (inside i c))
 
-pub certificate : (net : Network) (a b : ℕ) (x : Priced → Bool) (flow : Priced → ℕ) →
+pub weak_duality : (net : Network) (a b : ℕ) (x : Priced → Bool) (flow : Priced → ℕ) →
     AreBetween net.imports (length net.names) → a < length net.names →
     IsCut net a b x → IsFlow net a b flow (weight net.imports x) → IsCheapest net a b x
-certificate net a b x flow between a_in cut is_flow = record {
+weak_duality net a b x flow between a_in cut is_flow = record {
   cut = cut;
   least = λ y y_cut.
       let within = value_within net a b flow (weight net.imports x) (no_chain_to net.imports y b) between a_in is_flow (side_of_cut net a b y y_cut) in

@@ -16,7 +16,7 @@ use Rattle.cut_net.specs.declared.priced.Priced.{Priced}
 use Rattle.cut_net.specs.Cuts.{have_equal_ends}
 use Rattle.cut_net.specs.Lines.{IsAscending}
 use Rattle.cut_net.specs.NetList.{AreListed, HaveImportBetween}
-use Rattle.cut_net.specs.NetReading.{entry_line, import_line, noted, AreTablesOf, HasRepeat}
+use Rattle.cut_net.specs.NetReading.{entry_line, import_line, with_name, AreTablesOf, HasRepeat}
 use Rattle.cut_net.specs.NetText.{NetLine, Module, Import, is_import, pieces_of, AreValidLines, HaveDifferentImports, IsNetLine, NetText, Spell}
 use Rattle.cut_net.specs.Network.{unpinned}
 use Rattle.cut_net.specs.WellFormed.{AreBetween, AreNamesInOrder}
@@ -52,19 +52,19 @@ lines_kept names more (i ∷ is) kept h =
     rw (first, second, rest) refl
 
 module _ (lines : List NetLine) (names : List (List ℕ)) (imports : List Priced) (h : AreListed lines names imports) where
-  pub listed_module : (m : List ℕ) → is_name m ≡ true → length (noted names m) ≤ 8192 → AreListed (lines ++ Module m ∷ []) (noted names m) imports
+  pub listed_module : (m : List ℕ) → is_name m ≡ true → length (with_name names m) ≤ 8192 → AreListed (lines ++ Module m ∷ []) (with_name names m) imports
   listed_module m good few = record {
     each = All-push IsNetLine lines (Module m) h.each good;
     are_names = names_module lines names m h.are_names;
     few_names = few;
     few_imports = h.few_imports;
-    placed = placed_more names (noted names m) imports (kept_one names m) h.placed;
-    listed = filter_module lines m ∙ h.listed ∙ lines_kept names (noted names m) imports (kept_one names m) h.placed;
+    placed = placed_more names (with_name names m) imports (kept_one names m) h.placed;
+    listed = filter_module lines m ∙ h.listed ∙ lines_kept names (with_name names m) imports (kept_one names m) h.placed;
   }
 
   module _ (middle more : List (List ℕ)) (m n : List ℕ) (w i j : ℕ) (ends : AreEnds names middle more m n i j) where
-    all_noted : more ≡ noted (noted names m) n
-    all_noted = ends.second ∙ ap (λ (t : List (List ℕ)). noted t n) ends.first
+    all_noted : more ≡ with_name (with_name names m) n
+    all_noted = ends.second ∙ ap (λ (t : List (List ℕ)). with_name t n) ends.first
 
     kept : AreKept names more
     kept = rw all_noted (kept_both names m n)
@@ -104,7 +104,7 @@ listed_twice lines names middle more imports m n w i j h ends (x, present, from,
     let in_j : j < length names = subst (λ (t : ℕ). t < length names) to p.1 in
     let first : get_or names i [] ≡ m = sym (noted_kept names m i in_i) ∙ ap (λ (t : List (List ℕ)). get_or t i []) (sym ends.first) ∙ ends.first_place in
     let middle_is : middle ≡ names = ends.first ∙ sym (there_noted names m i in_i first) in
-    let more_is : more ≡ noted names n = ends.second ∙ ap (λ (t : List (List ℕ)). noted t n) middle_is in
+    let more_is : more ≡ with_name names n = ends.second ∙ ap (λ (t : List (List ℕ)). with_name t n) middle_is in
     let second : get_or names j [] ≡ n = sym (noted_kept names n j in_j) ∙ ap (λ (t : List (List ℕ)). get_or t j []) (sym more_is) ∙ ends.second_place in
     let same : more ≡ names = more_is ∙ sym (there_noted names n j in_j second) in
     let line : import_line names x ≡ Import m n x.amount = rw (from, to, first, second) refl in

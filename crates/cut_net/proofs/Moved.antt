@@ -12,12 +12,12 @@ use Rattle.digraph.proofs.Members.{from_map, in_map, no_member, one_member}
 use Rattle.digraph.proofs.SameGraphs.{AreSame, acyclic_as}
 use Rattle.cut_net.specs.declared.priced.Priced.{Priced}
 use Rattle.cut_net.specs.declared.pin_state.PinState.{PinState}
-use Rattle.cut_net.specs.declared.pin_state.PinState.TheVariants.{Weighs, Stays}
+use Rattle.cut_net.specs.declared.pin_state.PinState.TheVariants.{WithWeight, WithPin}
 use Rattle.cut_net.specs.Lines.{IsAscending, comes_before}
 use Rattle.cut_net.specs.Network.{Network, missing_item}
 use Rattle.cut_net.specs.Pins.{ArePins, is_pinned, most_weight, unpinned_weight}
 use Rattle.cut_net.specs.Prices.{import_with_state, pin_of_state, with_pin_states}
-use Rattle.cut_net.specs.PriceReading.{unpinned_part}
+use Rattle.cut_net.specs.PriceReading.{weight_if_unpinned}
 use Rattle.cut_net.specs.Cuts.{Any, Imports}
 use Rattle.cut_net.specs.WellFormed.{AreBetween, IsNetwork, total_weight}
 use Rattle.cut_net.proofs.Ends.{Before, Same, apart, before_from, before_same, before_true, same_from, same_sym, same_trans, same_true}
@@ -29,33 +29,33 @@ use Rattle.cut_net.proofs.PinChains.{found_one, one_found}
 
 -- in any state an import has its two modules
 same_as : (i : Priced) (s : PinState) → Same (import_with_state i s) i
-same_as i (Weighs w) = record { from = refl; to = refl }
-same_as i (Stays w) = record { from = refl; to = refl }
+same_as i (WithWeight w) = record { from = refl; to = refl }
+same_as i (WithPin w) = record { from = refl; to = refl }
 
 -- it is pinned
 abbrev stays : PinState → Bool
-stays (Weighs w) = false
-stays (Stays w) = true
+stays (WithWeight w) = false
+stays (WithPin w) = true
 
 pin_from : (i : Priced) (s : PinState) (p : Priced) → Contains (pin_of_state i s) p → Same i p × (stays s ≡ true)
-pin_from i (Weighs w) p h = no_member p h
-pin_from i (Stays w) p h = (subst (Same i) (one_member (record { from = i.from; to = i.to; amount = w }) p h) (record { from = refl; to = refl }), refl)
+pin_from i (WithWeight w) p h = no_member p h
+pin_from i (WithPin w) p h = (subst (Same i) (one_member (record { from = i.from; to = i.to; amount = w }) p h) (record { from = refl; to = refl }), refl)
 
 pin_there : (i : Priced) (s : PinState) → stays s ≡ true → (p : Priced) × Contains (pin_of_state i s) p
-pin_there i (Weighs w) e = absurd cc
-pin_there i (Stays w) e = (record { from = i.from; to = i.to; amount = w }, (0, omega arith, refl))
+pin_there i (WithWeight w) e = absurd cc
+pin_there i (WithPin w) e = (record { from = i.from; to = i.to; amount = w }, (0, omega arith, refl))
 
 heavy_as : (i : Priced) (s : PinState) → stays s ≡ true → (import_with_state i s).amount ≡ most_weight + 1
-heavy_as i (Weighs w) e = absurd cc
-heavy_as i (Stays w) e = refl
+heavy_as i (WithWeight w) e = absurd cc
+heavy_as i (WithPin w) e = refl
 
-light_as : (i : Priced) (s : PinState) → cond (stays s) 0 (import_with_state i s).amount ≡ unpinned_part s
-light_as i (Weighs w) = refl
-light_as i (Stays w) = refl
+light_as : (i : Priced) (s : PinState) → cond (stays s) 0 (import_with_state i s).amount ≡ weight_if_unpinned s
+light_as i (WithWeight w) = refl
+light_as i (WithPin w) = refl
 
-within_as : (i : Priced) (s : PinState) → (import_with_state i s).amount ≤ unpinned_part s + (most_weight + 1)
-within_as i (Weighs w) = omega arith
-within_as i (Stays w) = omega arith
+within_as : (i : Priced) (s : PinState) → (import_with_state i s).amount ≤ weight_if_unpinned s + (most_weight + 1)
+within_as i (WithWeight w) = omega arith
+within_as i (WithPin w) = omega arith
 
 -- ---- lists in order
 
@@ -78,8 +78,8 @@ first_before : (i : Priced) (imports : List Priced) → IsAscending (i ∷ impor
 first_before i imports up j (k, lt, at) = before_from i j (subst (λ (x : Priced). comes_before i x ≡ true) at (up 0 (suc k) j (omega arith) (omega arith)))
 
 pin_ahead : (i : Priced) (s : PinState) (pins : List Priced) → ((p : Priced) → Contains pins p → Before i p) → IsAscending pins → IsAscending (pin_of_state i s ++ pins)
-pin_ahead i (Weighs w) pins before up = up
-pin_ahead i (Stays w) pins before up =
+pin_ahead i (WithWeight w) pins before up = up
+pin_ahead i (WithPin w) pins before up =
     let pin : Priced = record { from = i.from; to = i.to; amount = w } in
     AllPairs-cons (λ (x : Priced) (y : Priced). comes_before x y ≡ true) pin pins
     (λ k d lt. let p = get_or pins k d in before_true pin p (before_same (before p (Contains-get_or pins k d lt)) (record { from = refl; to = refl }) (record { from = refl; to = refl }))) up
@@ -163,13 +163,13 @@ module _ (net : Network) (pin_state : Priced → PinState) where
           both_ways (stays (pin_state i)) f (subst (λ (x : Priced). stays (pin_state x) ≡ true) (sym same) from.1)) ∙ sym f
     ]
 
-    pub unpinned_is : unpinned_weight changed ≡ sum_by (λ i. unpinned_part (pin_state i)) net.imports
+    pub unpinned_is : unpinned_weight changed ≡ sum_by (λ i. weight_if_unpinned (pin_state i)) net.imports
     unpinned_is =
         sum_by-moved (λ i. cond (is_pinned changed i) 0 i.amount) moved net.imports
-        ∙ sum_by-same (λ i. cond (is_pinned changed (moved i)) 0 (moved i).amount) (λ i. unpinned_part (pin_state i)) net.imports
+        ∙ sum_by-same (λ i. cond (is_pinned changed (moved i)) 0 (moved i).amount) (λ i. weight_if_unpinned (pin_state i)) net.imports
         (λ i has. ap (λ (b : Bool). cond b 0 (moved i).amount) (pinned_is i has) ∙ light_as i (pin_state i))
 
-  pub keeps_network : IsNetwork net → sum_by (λ i. unpinned_part (pin_state i)) net.imports ≤ most_weight → IsNetwork changed
+  pub keeps_network : IsNetwork net → sum_by (λ i. weight_if_unpinned (pin_state i)) net.imports ≤ most_weight → IsNetwork changed
   keeps_network is light = record {
     named = is.named;
     names_ascend = is.names_ascend;
@@ -179,13 +179,13 @@ module _ (net : Network) (pin_state : Priced → PinState) where
     few_imports = (let few = is.few_imports in let long = length-map net.imports moved in omega arith);
     fits = (
         let sum : total_weight changed ≡ sum_by (λ i. (moved i).amount) net.imports = sum_by-moved (λ i. i.amount) moved net.imports in
-        let most = sum_by-within (λ i. (moved i).amount) (λ i. unpinned_part (pin_state i)) (most_weight + 1) net.imports (λ i. within_as i (pin_state i)) in
+        let most = sum_by-within (λ i. (moved i).amount) (λ i. weight_if_unpinned (pin_state i)) (most_weight + 1) net.imports (λ i. within_as i (pin_state i)) in
         let few = is.few_imports in
         omega arith);
     acyclic = acyclic_as (Imports net.imports Any) (Imports (map moved net.imports) Any) same_leads is.acyclic;
   }
 
-  pub keeps_pins : IsNetwork net → sum_by (λ i. unpinned_part (pin_state i)) net.imports ≤ most_weight → ArePins changed
+  pub keeps_pins : IsNetwork net → sum_by (λ i. weight_if_unpinned (pin_state i)) net.imports ≤ most_weight → ArePins changed
   keeps_pins is light = record {
     in_order = record {
       known = λ k d lt.
@@ -205,8 +205,8 @@ module _ (net : Network) (pin_state : Priced → PinState) where
 
 -- ---- its lists
 
-pub counted : (pin_state : Priced → PinState) (imports : List Priced) (pin_states : List PinState) → pin_states ≡ map pin_state imports → sum_by unpinned_part pin_states ≡ sum_by (λ i. unpinned_part (pin_state i)) imports
-counted pin_state imports pin_states same = ap (sum_by unpinned_part) same ∙ sum_by-moved unpinned_part pin_state imports
+pub counted : (pin_state : Priced → PinState) (imports : List Priced) (pin_states : List PinState) → pin_states ≡ map pin_state imports → sum_by weight_if_unpinned pin_states ≡ sum_by (λ i. weight_if_unpinned (pin_state i)) imports
+counted pin_state imports pin_states same = ap (sum_by weight_if_unpinned) same ∙ sum_by-moved weight_if_unpinned pin_state imports
 
 abbrev pub net_so : List (List ℕ) → List Priced → List Priced → Network
 net_so names imports pins = record { names = names; imports = imports; pins = pins }
@@ -222,8 +222,8 @@ same_net net pin_state pin_states names one two imports pins same named first se
 
 -- ---- the weights
 
-module _ (net : Network) (pin_state : Priced → PinState) (is : IsNetwork net) (pin_states : List PinState) (same : pin_states ≡ map pin_state net.imports) (answer : Bool) (says : IsTrue answer ↔ (sum_by unpinned_part pin_states ≤ most_weight)) where
-  weighed : unpinned_weight (with_pin_states net pin_state) ≡ sum_by unpinned_part pin_states
+module _ (net : Network) (pin_state : Priced → PinState) (is : IsNetwork net) (pin_states : List PinState) (same : pin_states ≡ map pin_state net.imports) (answer : Bool) (says : IsTrue answer ↔ (sum_by weight_if_unpinned pin_states ≤ most_weight)) where
+  weighed : unpinned_weight (with_pin_states net pin_state) ≡ sum_by weight_if_unpinned pin_states
   weighed = unpinned_is net pin_state is.imports_ascend ∙ sym (counted pin_state net.imports pin_states same)
 
   pub over : answer ≡ false → most_weight < unpinned_weight (with_pin_states net pin_state)

@@ -10,7 +10,7 @@ use Rattle.cut_net.proofs.ListSums.{sum_by-same, sum_by-mono, sum_by-tight}
 use Rattle.cut_net.proofs.Chains.{no_chain_to}
 use Rattle.cut_net.proofs.Duality.{value_within, across, enters, cond_le}
 use Rattle.cut_net.proofs.PrintedCut.{cut_of_near, leaves_near}
-use Rattle.cut_net.proofs.Certificate.{side_of_cut, leaves_in_cut, weight-mono, certificate}
+use Rattle.cut_net.proofs.Certificate.{side_of_cut, leaves_in_cut, weight-mono, weak_duality}
 use Rattle.std.proofs.lemmas.List.Sums.{sum_by-cons}
 
 sum_of_none : (imports : List Priced) → sum_by (λ _. 0) imports ≡ 0
@@ -124,4 +124,4 @@ module _ (net : Network) (a b : ℕ) (flow : Priced → ℕ) (value : ℕ) (betw
           omega arith
 
       pub is_cheapest : IsCheapest net a b x
-      is_cheapest = certificate net a b x flow between a_in is_cut (subst (IsFlow net a b flow) (sym weighs) is_flow)
+      is_cheapest = weak_duality net a b x flow between a_in is_cut (subst (IsFlow net a b flow) (sym weighs) is_flow)

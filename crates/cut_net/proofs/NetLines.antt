@@ -9,7 +9,7 @@ use Rattle.std.specs.Option.{option_map_or}
 use Rattle.std.specs.Fmt.{decimal}
 use Rattle.std.proofs.lemmas.Option.{cond_some, option_and_then_some}
 use Rattle.std.proofs.lemmas.Slice.Eq.{bytes_eq-Decides}
-use Rattle.texts.specs.Fields.{cut_at, named, number_of, is_name}
+use Rattle.texts.specs.Fields.{split_at_first, named, number_of, is_name}
 use Rattle.cut_net.specs.NetText.{NetLine, Module, Import, net_line, IsNetLine}
 use Rattle.cut_net.specs.NetReading.{after_word, import_of, module_of, line_of_piece}
 use Rattle.texts.proofs.FieldCuts.{cut_takes, cut_again, without}
@@ -19,7 +19,7 @@ use Rattle.texts.proofs.FieldNumbers.{number_takes, number_again}
 pub word_takes : (word piece fields : List ℕ) → after_word word piece ≡ Some fields → piece ≡ word ++ 32 ∷ fields
 unfolding after_word
 word_takes word piece fields e =
-    option_and_then_some _ (cut_at 32 piece) fields e (λ parts h e.
+    option_and_then_some _ (split_at_first 32 piece) fields e (λ parts h e.
     let p = cond_some _ _ _ e in
     let same : parts.0 ≡ word = (bytes_eq-Decides parts.0 word).0 p.0 in
     rw (← same, ← p.1) (cut_takes 32 piece parts h))
@@ -76,8 +76,8 @@ module_takes fields l e =
 import_takes : (fields : List ℕ) (l : NetLine) → import_of fields ≡ Some l → (after_import fields ≡ net_line l) × IsNetLine l
 unfolding import_of
 import_takes fields l e =
-    option_and_then_some _ (cut_at 32 fields) l e (λ parts h1 e.
-    option_and_then_some _ (cut_at 32 parts.1) l e (λ others h2 e.
+    option_and_then_some _ (split_at_first 32 fields) l e (λ parts h1 e.
+    option_and_then_some _ (split_at_first 32 parts.1) l e (λ others h2 e.
     option_and_then_some _ (named parts.0) l e (λ m h3 e.
     option_and_then_some _ (named others.0) l e (λ n h4 e.
     map_some _ (number_of others.1) l e (λ w h5 same.

@@ -14,10 +14,10 @@ use Rattle.std.proofs.lemmas.Slice.Eq.{bytes_eq-Decides}
 use Rattle.indexmap.specs.IndexSet.{insert_key}
 use Rattle.digraph.proofs.Names.{any_text, position-map}
 use Rattle.cut_net.specs.Network.{texts}
-use Rattle.cut_net.specs.NetReading.{noted}
+use Rattle.cut_net.specs.NetReading.{with_name}
 
 module _ {Z : Type 0} where
-  pub texts_noted : (names : List (String Z)) (k : String Z) (name : List ℕ) → string_bytes k ≡ name → texts (insert_key string_eq names k) ≡ noted (texts names) name
+  pub texts_noted : (names : List (String Z)) (k : String Z) (name : List ℕ) → string_bytes k ≡ name → texts (insert_key string_eq names k) ≡ with_name (texts names) name
   texts_noted names k name e =
       elim (cases_Bool (list_any (λ x. bytes_eq (string_bytes k) (string_bytes x)) names)) [
         | inl present ↦ rw (← e, ← any_text (string_bytes k) names, present) refl
@@ -35,7 +35,7 @@ module _ {Z : Type 0} where
       (omega arith, get_or-map string_bytes names at k [] lt ∙ ap string_bytes here ∙ sym equal ∙ e)
 
   -- a name that the list has
-  pub found_noted : (names : List (String Z)) (name : List ℕ) → list_any (λ x. bytes_eq name (string_bytes x)) names ≡ true → texts names ≡ noted (texts names) name
+  pub found_noted : (names : List (String Z)) (name : List ℕ) → list_any (λ x. bytes_eq name (string_bytes x)) names ≡ true → texts names ≡ with_name (texts names) name
   found_noted names name present = sym (rw (← any_text name names, present) refl)
 
   pub found_place : (names : List (String Z)) (name : List ℕ) (at : ℕ) → position (λ x. bytes_eq name (string_bytes x)) names ≡ Some at → get_or (texts names) at [] ≡ name
@@ -44,5 +44,5 @@ module _ {Z : Type 0} where
       sym ((bytes_eq-Decides name (get_or (texts names) at [])).0 found.1)
 
 -- a name at an index
-pub there_noted : (names : List (List ℕ)) (name : List ℕ) (at : ℕ) → at < length names → get_or names at [] ≡ name → names ≡ noted names name
+pub there_noted : (names : List (List ℕ)) (name : List ℕ) (at : ℕ) → at < length names → get_or names at [] ≡ name → names ≡ with_name names name
 there_noted names name at within is = sym (rw (list_any_at (bytes_eq name) names at [] within ((bytes_eq-Decides name (get_or names at [])).1 (sym is))) refl)

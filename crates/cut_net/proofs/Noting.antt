@@ -149,10 +149,10 @@ module _ (net : Network) (is : IsNetwork net) where
     import = get_or net.imports k missing_item
 
     told_long : length changes ≡ length net.imports
-    told_long = ap length h.told_is ∙ length-map net.imports (change_of net lines)
+    told_long = ap length h.changes_are ∙ length-map net.imports (change_of net lines)
 
     said_at : (j : ℕ) (d : Option Change) → j < length net.imports → get_or changes j d ≡ change_of net lines (get_or net.imports j missing_item)
-    said_at j d lj = ap (λ (l : List (Option Change)). get_or l j d) h.told_is ∙ get_or-map (change_of net lines) net.imports j missing_item d lj
+    said_at j d lj = ap (λ (l : List (Option Change)). get_or l j d) h.changes_are ∙ get_or-map (change_of net lines) net.imports j missing_item d lj
 
     pub of_import : IsOfImport net line
     of_import = (import, Contains-get_or net.imports k missing_item lt, of)
@@ -218,7 +218,7 @@ module _ (net : Network) (is : IsNetwork net) where
           known = All-push (IsOfImport net) lines line h.good.known of_import;
           apart = apart_all;
         };
-        told_is = told_next;
+        changes_are = told_next;
       }
 
 -- a list of clones of none has nothing but none
@@ -238,7 +238,7 @@ nothing_told net changes n many none =
     let long : length (replicate n none_said) ≡ n = length-replicate n none_said in
     record {
       good = record { each = All-nil IsPriceLine; known = All-nil (IsOfImport net); apart = λ i j d below lt. absurd (omega arith) };
-      told_is = none ∙ ext_get_or none_said (replicate n none_said) (map (change_of net []) net.imports) (long ∙ many ∙ sym (length-map net.imports (change_of net [])))
+      changes_are = none ∙ ext_get_or none_said (replicate n none_said) (map (change_of net []) net.imports) (long ∙ many ∙ sym (length-map net.imports (change_of net [])))
           (λ i lt. get_or-replicate n i none_said none_said (subst (λ (m : ℕ). i < m) long lt)
           ∙ sym (get_or-map (change_of net []) net.imports i missing_item none_said (subst (λ (m : ℕ). i < m) (long ∙ many) lt)));
     }

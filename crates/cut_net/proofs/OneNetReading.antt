@@ -9,7 +9,7 @@ use Rattle.cut_net.specs.NetText.{NetLine, Module, Import, net_line, IsPrefix, I
 use Rattle.cut_net.specs.declared.fault.NetFault.{NetFault}
 use Rattle.cut_net.specs.declared.fault.NetFault.TheVariants as faults
 use Rattle.cut_net.proofs.NetLines.{line_once}
-use Rattle.digraph.proofs.OneCycle.{one_cycle, cyclic}
+use Rattle.digraph.proofs.OneCycle.{cycle_is_unique, cyclic}
 use Rattle.cut_net.proofs.OneNetwork.{one_network}
 use Rattle.cut_net.proofs.LineStops as stops
 use Rattle.cut_net.proofs.Stops.{Stops, each, good_front, one_stop, no_stop, same_lines}
@@ -77,54 +77,54 @@ reads_no_overflow bytes net text fits o = not_over net o.net (same_net bytes net
 same_cycle : (bytes : List ℕ) (names others : List (List ℕ)) → IsCycle bytes names → IsCycle bytes others → names ≡ others
 same_cycle bytes names others a b =
     let net : b.net ≡ a.net = same_net bytes b.net a.net b.text a.text in
-    let cycle : a.cycle ≡ b.cycle = one_cycle (Imports a.net.imports Any) a.cycle b.cycle a.is_cycle (subst (λ (n : Network). IsCanonicalCycle (Imports n.imports Any) b.cycle) net b.is_cycle) in
+    let cycle : a.cycle ≡ b.cycle = cycle_is_unique (Imports a.net.imports Any) a.cycle b.cycle a.is_cycle (subst (λ (n : Network). IsCanonicalCycle (Imports n.imports Any) b.cycle) net b.is_cycle) in
     a.are_names ∙ ap (λ (c : List ℕ). map (name_of a.net) c) cycle ∙ ap (λ (n : Network). map (name_of n) b.cycle) (sym net) ∙ sym b.are_names
 
-pub one_reading : (bytes : List ℕ) (o p : Result Network NetError) → IsNetOutcome bytes o → IsNetOutcome bytes p → o ≡ p
-one_reading bytes (Ok n) (Ok m) a b = ap Ok (same_net bytes n m a.0 b.0)
-one_reading bytes (Ok n) (Err (BadLine m)) a b = absurd (whole bytes n b.0 a.0 (bad_stops bytes b.0 b.2))
-one_reading bytes (Ok n) (Err (TwiceImport m)) a b = absurd (whole bytes n b.0 a.0 (twice_stops bytes b.0 b.2))
-one_reading bytes (Ok n) (Err (Cycle ms)) a b = absurd (reads_no_cycle bytes n ms a.0 a.2 b)
-one_reading bytes (Ok n) (Err WeightOverflow) a b = absurd (reads_no_overflow bytes n a.0 a.1 b)
-one_reading bytes (Ok n) (Err (TooMany m)) a b = absurd (whole bytes n b.0 a.0 (many_stops bytes b.0 b.2))
-one_reading bytes (Err (BadLine l)) (Ok m) a b = absurd (whole bytes m a.0 b.0 (bad_stops bytes a.0 a.2))
-one_reading bytes (Err (BadLine l)) (Err (BadLine m)) a b = rw (same_number bytes l m a.0 b.0 a.1 b.1 (bad_stops bytes a.0 a.2) (bad_stops bytes b.0 b.2)) refl
-one_reading bytes (Err (BadLine l)) (Err (TwiceImport m)) a b = absurd (bad_not_twice bytes a.0 b.0 a.2 b.2)
-one_reading bytes (Err (BadLine l)) (Err (Cycle ms)) a b = absurd (whole bytes b.net a.0 b.text (bad_stops bytes a.0 a.2))
-one_reading bytes (Err (BadLine l)) (Err WeightOverflow) a b = absurd (whole bytes b.net a.0 b.text (bad_stops bytes a.0 a.2))
-one_reading bytes (Err (BadLine l)) (Err (TooMany m)) a b = absurd (bad_not_many bytes a.0 b.0 a.2 b.2)
-one_reading bytes (Err (TwiceImport l)) (Ok m) a b = absurd (whole bytes m a.0 b.0 (twice_stops bytes a.0 a.2))
-one_reading bytes (Err (TwiceImport l)) (Err (BadLine m)) a b = absurd (bad_not_twice bytes b.0 a.0 b.2 a.2)
-one_reading bytes (Err (TwiceImport l)) (Err (TwiceImport m)) a b = rw (same_number bytes l m a.0 b.0 a.1 b.1 (twice_stops bytes a.0 a.2) (twice_stops bytes b.0 b.2)) refl
-one_reading bytes (Err (TwiceImport l)) (Err (Cycle ms)) a b = absurd (whole bytes b.net a.0 b.text (twice_stops bytes a.0 a.2))
-one_reading bytes (Err (TwiceImport l)) (Err WeightOverflow) a b = absurd (whole bytes b.net a.0 b.text (twice_stops bytes a.0 a.2))
-one_reading bytes (Err (TwiceImport l)) (Err (TooMany m)) a b = absurd (twice_not_many bytes a.0 b.0 a.2 b.2)
-one_reading bytes (Err (Cycle ns)) (Ok m) a b = absurd (reads_no_cycle bytes m ns b.0 b.2 a)
-one_reading bytes (Err (Cycle ns)) (Err (BadLine m)) a b = absurd (whole bytes a.net b.0 a.text (bad_stops bytes b.0 b.2))
-one_reading bytes (Err (Cycle ns)) (Err (TwiceImport m)) a b = absurd (whole bytes a.net b.0 a.text (twice_stops bytes b.0 b.2))
-one_reading bytes (Err (Cycle ns)) (Err (Cycle ms)) a b = rw (same_cycle bytes ns ms a b) refl
-one_reading bytes (Err (Cycle ns)) (Err WeightOverflow) a b = absurd (reads_no_overflow bytes a.net a.text a.fits b)
-one_reading bytes (Err (Cycle ns)) (Err (TooMany m)) a b = absurd (whole bytes a.net b.0 a.text (many_stops bytes b.0 b.2))
-one_reading bytes (Err WeightOverflow) (Ok m) a b = absurd (reads_no_overflow bytes m b.0 b.1 a)
-one_reading bytes (Err WeightOverflow) (Err (BadLine m)) a b = absurd (whole bytes a.net b.0 a.text (bad_stops bytes b.0 b.2))
-one_reading bytes (Err WeightOverflow) (Err (TwiceImport m)) a b = absurd (whole bytes a.net b.0 a.text (twice_stops bytes b.0 b.2))
-one_reading bytes (Err WeightOverflow) (Err (Cycle ms)) a b = absurd (reads_no_overflow bytes b.net b.text b.fits a)
-one_reading bytes (Err WeightOverflow) (Err WeightOverflow) a b = refl
-one_reading bytes (Err WeightOverflow) (Err (TooMany m)) a b = absurd (whole bytes a.net b.0 a.text (many_stops bytes b.0 b.2))
-one_reading bytes (Err (TooMany l)) (Ok m) a b = absurd (whole bytes m a.0 b.0 (many_stops bytes a.0 a.2))
-one_reading bytes (Err (TooMany l)) (Err (BadLine m)) a b = absurd (bad_not_many bytes b.0 a.0 b.2 a.2)
-one_reading bytes (Err (TooMany l)) (Err (TwiceImport m)) a b = absurd (twice_not_many bytes b.0 a.0 b.2 a.2)
-one_reading bytes (Err (TooMany l)) (Err (Cycle ms)) a b = absurd (whole bytes b.net a.0 b.text (many_stops bytes a.0 a.2))
-one_reading bytes (Err (TooMany l)) (Err WeightOverflow) a b = absurd (whole bytes b.net a.0 b.text (many_stops bytes a.0 a.2))
-one_reading bytes (Err (TooMany l)) (Err (TooMany m)) a b = rw (same_number bytes l m a.0 b.0 a.1 b.1 (many_stops bytes a.0 a.2) (many_stops bytes b.0 b.2)) refl
+pub outcome_is_unique : (bytes : List ℕ) (o p : Result Network NetError) → IsNetOutcome bytes o → IsNetOutcome bytes p → o ≡ p
+outcome_is_unique bytes (Ok n) (Ok m) a b = ap Ok (same_net bytes n m a.0 b.0)
+outcome_is_unique bytes (Ok n) (Err (BadLine m)) a b = absurd (whole bytes n b.0 a.0 (bad_stops bytes b.0 b.2))
+outcome_is_unique bytes (Ok n) (Err (TwiceImport m)) a b = absurd (whole bytes n b.0 a.0 (twice_stops bytes b.0 b.2))
+outcome_is_unique bytes (Ok n) (Err (Cycle ms)) a b = absurd (reads_no_cycle bytes n ms a.0 a.2 b)
+outcome_is_unique bytes (Ok n) (Err WeightOverflow) a b = absurd (reads_no_overflow bytes n a.0 a.1 b)
+outcome_is_unique bytes (Ok n) (Err (TooMany m)) a b = absurd (whole bytes n b.0 a.0 (many_stops bytes b.0 b.2))
+outcome_is_unique bytes (Err (BadLine l)) (Ok m) a b = absurd (whole bytes m a.0 b.0 (bad_stops bytes a.0 a.2))
+outcome_is_unique bytes (Err (BadLine l)) (Err (BadLine m)) a b = rw (same_number bytes l m a.0 b.0 a.1 b.1 (bad_stops bytes a.0 a.2) (bad_stops bytes b.0 b.2)) refl
+outcome_is_unique bytes (Err (BadLine l)) (Err (TwiceImport m)) a b = absurd (bad_not_twice bytes a.0 b.0 a.2 b.2)
+outcome_is_unique bytes (Err (BadLine l)) (Err (Cycle ms)) a b = absurd (whole bytes b.net a.0 b.text (bad_stops bytes a.0 a.2))
+outcome_is_unique bytes (Err (BadLine l)) (Err WeightOverflow) a b = absurd (whole bytes b.net a.0 b.text (bad_stops bytes a.0 a.2))
+outcome_is_unique bytes (Err (BadLine l)) (Err (TooMany m)) a b = absurd (bad_not_many bytes a.0 b.0 a.2 b.2)
+outcome_is_unique bytes (Err (TwiceImport l)) (Ok m) a b = absurd (whole bytes m a.0 b.0 (twice_stops bytes a.0 a.2))
+outcome_is_unique bytes (Err (TwiceImport l)) (Err (BadLine m)) a b = absurd (bad_not_twice bytes b.0 a.0 b.2 a.2)
+outcome_is_unique bytes (Err (TwiceImport l)) (Err (TwiceImport m)) a b = rw (same_number bytes l m a.0 b.0 a.1 b.1 (twice_stops bytes a.0 a.2) (twice_stops bytes b.0 b.2)) refl
+outcome_is_unique bytes (Err (TwiceImport l)) (Err (Cycle ms)) a b = absurd (whole bytes b.net a.0 b.text (twice_stops bytes a.0 a.2))
+outcome_is_unique bytes (Err (TwiceImport l)) (Err WeightOverflow) a b = absurd (whole bytes b.net a.0 b.text (twice_stops bytes a.0 a.2))
+outcome_is_unique bytes (Err (TwiceImport l)) (Err (TooMany m)) a b = absurd (twice_not_many bytes a.0 b.0 a.2 b.2)
+outcome_is_unique bytes (Err (Cycle ns)) (Ok m) a b = absurd (reads_no_cycle bytes m ns b.0 b.2 a)
+outcome_is_unique bytes (Err (Cycle ns)) (Err (BadLine m)) a b = absurd (whole bytes a.net b.0 a.text (bad_stops bytes b.0 b.2))
+outcome_is_unique bytes (Err (Cycle ns)) (Err (TwiceImport m)) a b = absurd (whole bytes a.net b.0 a.text (twice_stops bytes b.0 b.2))
+outcome_is_unique bytes (Err (Cycle ns)) (Err (Cycle ms)) a b = rw (same_cycle bytes ns ms a b) refl
+outcome_is_unique bytes (Err (Cycle ns)) (Err WeightOverflow) a b = absurd (reads_no_overflow bytes a.net a.text a.fits b)
+outcome_is_unique bytes (Err (Cycle ns)) (Err (TooMany m)) a b = absurd (whole bytes a.net b.0 a.text (many_stops bytes b.0 b.2))
+outcome_is_unique bytes (Err WeightOverflow) (Ok m) a b = absurd (reads_no_overflow bytes m b.0 b.1 a)
+outcome_is_unique bytes (Err WeightOverflow) (Err (BadLine m)) a b = absurd (whole bytes a.net b.0 a.text (bad_stops bytes b.0 b.2))
+outcome_is_unique bytes (Err WeightOverflow) (Err (TwiceImport m)) a b = absurd (whole bytes a.net b.0 a.text (twice_stops bytes b.0 b.2))
+outcome_is_unique bytes (Err WeightOverflow) (Err (Cycle ms)) a b = absurd (reads_no_overflow bytes b.net b.text b.fits a)
+outcome_is_unique bytes (Err WeightOverflow) (Err WeightOverflow) a b = refl
+outcome_is_unique bytes (Err WeightOverflow) (Err (TooMany m)) a b = absurd (whole bytes a.net b.0 a.text (many_stops bytes b.0 b.2))
+outcome_is_unique bytes (Err (TooMany l)) (Ok m) a b = absurd (whole bytes m a.0 b.0 (many_stops bytes a.0 a.2))
+outcome_is_unique bytes (Err (TooMany l)) (Err (BadLine m)) a b = absurd (bad_not_many bytes b.0 a.0 b.2 a.2)
+outcome_is_unique bytes (Err (TooMany l)) (Err (TwiceImport m)) a b = absurd (twice_not_many bytes b.0 a.0 b.2 a.2)
+outcome_is_unique bytes (Err (TooMany l)) (Err (Cycle ms)) a b = absurd (whole bytes b.net a.0 b.text (many_stops bytes a.0 a.2))
+outcome_is_unique bytes (Err (TooMany l)) (Err WeightOverflow) a b = absurd (whole bytes b.net a.0 b.text (many_stops bytes a.0 a.2))
+outcome_is_unique bytes (Err (TooMany l)) (Err (TooMany m)) a b = rw (same_number bytes l m a.0 b.0 a.1 b.1 (many_stops bytes a.0 a.2) (many_stops bytes b.0 b.2)) refl
 
 -- an outcome that holds of the text is the returned one, unless an allocation failed
 pub only_said : (bytes : List ℕ) (result : Result Network NetFault) → HasOutcome result (IsNetOutcome bytes) →
     (o : Result Network NetError) → IsNetOutcome bytes o → HasOutcome result (λ p. p ≡ o)
-only_said bytes (Ok net) h o holds = one_reading bytes (Ok net) o h holds
-only_said bytes (Err (faults.BadLine line)) h o holds = one_reading bytes (Err (BadLine line)) o h holds
-only_said bytes (Err (faults.TwiceImport line)) h o holds = one_reading bytes (Err (TwiceImport line)) o h holds
-only_said bytes (Err (faults.Cycle names)) h o holds = one_reading bytes (Err (Cycle (texts names.items))) o h holds
-only_said bytes (Err faults.WeightOverflow) h o holds = one_reading bytes (Err WeightOverflow) o h holds
-only_said bytes (Err (faults.TooMany line)) h o holds = one_reading bytes (Err (TooMany line)) o h holds
+only_said bytes (Ok net) h o holds = outcome_is_unique bytes (Ok net) o h holds
+only_said bytes (Err (faults.BadLine line)) h o holds = outcome_is_unique bytes (Err (BadLine line)) o h holds
+only_said bytes (Err (faults.TwiceImport line)) h o holds = outcome_is_unique bytes (Err (TwiceImport line)) o h holds
+only_said bytes (Err (faults.Cycle names)) h o holds = outcome_is_unique bytes (Err (Cycle (texts names.items))) o h holds
+only_said bytes (Err faults.WeightOverflow) h o holds = outcome_is_unique bytes (Err WeightOverflow) o h holds
+only_said bytes (Err (faults.TooMany line)) h o holds = outcome_is_unique bytes (Err (TooMany line)) o h holds
 only_said bytes (Err faults.Memory) h o holds = tt

@@ -69,37 +69,37 @@ module _ (net : Network) where
     not_over : (priced other : Network) → priced ≡ other → unpinned_weight priced ≤ most_weight → most_weight < unpinned_weight other → ⊥
     not_over priced other e fits over = let same : unpinned_weight priced ≡ unpinned_weight other = ap unpinned_weight e in omega arith
 
-    pub one_pricing : (o p : Result Network PriceFault) → IsPriceOutcome net bytes o → IsPriceOutcome net bytes p → o ≡ p
-    one_pricing (Err Memory) p a b = absurd a
-    one_pricing o (Err Memory) a b = absurd b
-    one_pricing (Ok n) (Ok m) a b = ap Ok (same_net n m a.0 b.0)
-    one_pricing (Ok n) (Err (BadLine m)) a b = absurd (whole n b.0 a.0 (bad_stops b.0 b.2))
-    one_pricing (Ok n) (Err (NoSuchImport m)) a b = absurd (whole n b.0 a.0 (no_import_stops b.0 b.2))
-    one_pricing (Ok n) (Err (TwicePrice m)) a b = absurd (whole n b.0 a.0 (twice_stops b.0 b.2))
-    one_pricing (Ok n) (Err PriceOverflow) a b = absurd (not_over n b.priced (same_net n b.priced a.0 b.is_priced) a.1 b.over)
-    one_pricing (Err (BadLine l)) (Ok m) a b = absurd (whole m a.0 b.0 (bad_stops a.0 a.2))
-    one_pricing (Err (BadLine l)) (Err (BadLine m)) a b = rw (same_number l m a.0 b.0 a.1 b.1 (bad_stops a.0 a.2) (bad_stops b.0 b.2)) refl
-    one_pricing (Err (BadLine l)) (Err (NoSuchImport m)) a b = absurd (bad_not_unknown a.0 b.0 a.2 b.2)
-    one_pricing (Err (BadLine l)) (Err (TwicePrice m)) a b = absurd (bad_not_twice a.0 b.0 a.2 b.2)
-    one_pricing (Err (BadLine l)) (Err PriceOverflow) a b = absurd (whole b.priced a.0 b.is_priced (bad_stops a.0 a.2))
-    one_pricing (Err (NoSuchImport l)) (Ok m) a b = absurd (whole m a.0 b.0 (no_import_stops a.0 a.2))
-    one_pricing (Err (NoSuchImport l)) (Err (BadLine m)) a b = absurd (bad_not_unknown b.0 a.0 b.2 a.2)
-    one_pricing (Err (NoSuchImport l)) (Err (NoSuchImport m)) a b = rw (same_number l m a.0 b.0 a.1 b.1 (no_import_stops a.0 a.2) (no_import_stops b.0 b.2)) refl
-    one_pricing (Err (NoSuchImport l)) (Err (TwicePrice m)) a b = absurd (unknown_not_twice a.0 b.0 a.2 b.2)
-    one_pricing (Err (NoSuchImport l)) (Err PriceOverflow) a b = absurd (whole b.priced a.0 b.is_priced (no_import_stops a.0 a.2))
-    one_pricing (Err (TwicePrice l)) (Ok m) a b = absurd (whole m a.0 b.0 (twice_stops a.0 a.2))
-    one_pricing (Err (TwicePrice l)) (Err (BadLine m)) a b = absurd (bad_not_twice b.0 a.0 b.2 a.2)
-    one_pricing (Err (TwicePrice l)) (Err (NoSuchImport m)) a b = absurd (unknown_not_twice b.0 a.0 b.2 a.2)
-    one_pricing (Err (TwicePrice l)) (Err (TwicePrice m)) a b = rw (same_number l m a.0 b.0 a.1 b.1 (twice_stops a.0 a.2) (twice_stops b.0 b.2)) refl
-    one_pricing (Err (TwicePrice l)) (Err PriceOverflow) a b = absurd (whole b.priced a.0 b.is_priced (twice_stops a.0 a.2))
-    one_pricing (Err PriceOverflow) (Ok m) a b = absurd (not_over m a.priced (same_net m a.priced b.0 a.is_priced) b.1 a.over)
-    one_pricing (Err PriceOverflow) (Err (BadLine m)) a b = absurd (whole a.priced b.0 a.is_priced (bad_stops b.0 b.2))
-    one_pricing (Err PriceOverflow) (Err (NoSuchImport m)) a b = absurd (whole a.priced b.0 a.is_priced (no_import_stops b.0 b.2))
-    one_pricing (Err PriceOverflow) (Err (TwicePrice m)) a b = absurd (whole a.priced b.0 a.is_priced (twice_stops b.0 b.2))
-    one_pricing (Err PriceOverflow) (Err PriceOverflow) a b = refl
+    pub price_outcome_is_unique : (o p : Result Network PriceFault) → IsPriceOutcome net bytes o → IsPriceOutcome net bytes p → o ≡ p
+    price_outcome_is_unique (Err Memory) p a b = absurd a
+    price_outcome_is_unique o (Err Memory) a b = absurd b
+    price_outcome_is_unique (Ok n) (Ok m) a b = ap Ok (same_net n m a.0 b.0)
+    price_outcome_is_unique (Ok n) (Err (BadLine m)) a b = absurd (whole n b.0 a.0 (bad_stops b.0 b.2))
+    price_outcome_is_unique (Ok n) (Err (NoSuchImport m)) a b = absurd (whole n b.0 a.0 (no_import_stops b.0 b.2))
+    price_outcome_is_unique (Ok n) (Err (TwicePrice m)) a b = absurd (whole n b.0 a.0 (twice_stops b.0 b.2))
+    price_outcome_is_unique (Ok n) (Err PriceOverflow) a b = absurd (not_over n b.priced (same_net n b.priced a.0 b.is_priced) a.1 b.over)
+    price_outcome_is_unique (Err (BadLine l)) (Ok m) a b = absurd (whole m a.0 b.0 (bad_stops a.0 a.2))
+    price_outcome_is_unique (Err (BadLine l)) (Err (BadLine m)) a b = rw (same_number l m a.0 b.0 a.1 b.1 (bad_stops a.0 a.2) (bad_stops b.0 b.2)) refl
+    price_outcome_is_unique (Err (BadLine l)) (Err (NoSuchImport m)) a b = absurd (bad_not_unknown a.0 b.0 a.2 b.2)
+    price_outcome_is_unique (Err (BadLine l)) (Err (TwicePrice m)) a b = absurd (bad_not_twice a.0 b.0 a.2 b.2)
+    price_outcome_is_unique (Err (BadLine l)) (Err PriceOverflow) a b = absurd (whole b.priced a.0 b.is_priced (bad_stops a.0 a.2))
+    price_outcome_is_unique (Err (NoSuchImport l)) (Ok m) a b = absurd (whole m a.0 b.0 (no_import_stops a.0 a.2))
+    price_outcome_is_unique (Err (NoSuchImport l)) (Err (BadLine m)) a b = absurd (bad_not_unknown b.0 a.0 b.2 a.2)
+    price_outcome_is_unique (Err (NoSuchImport l)) (Err (NoSuchImport m)) a b = rw (same_number l m a.0 b.0 a.1 b.1 (no_import_stops a.0 a.2) (no_import_stops b.0 b.2)) refl
+    price_outcome_is_unique (Err (NoSuchImport l)) (Err (TwicePrice m)) a b = absurd (unknown_not_twice a.0 b.0 a.2 b.2)
+    price_outcome_is_unique (Err (NoSuchImport l)) (Err PriceOverflow) a b = absurd (whole b.priced a.0 b.is_priced (no_import_stops a.0 a.2))
+    price_outcome_is_unique (Err (TwicePrice l)) (Ok m) a b = absurd (whole m a.0 b.0 (twice_stops a.0 a.2))
+    price_outcome_is_unique (Err (TwicePrice l)) (Err (BadLine m)) a b = absurd (bad_not_twice b.0 a.0 b.2 a.2)
+    price_outcome_is_unique (Err (TwicePrice l)) (Err (NoSuchImport m)) a b = absurd (unknown_not_twice b.0 a.0 b.2 a.2)
+    price_outcome_is_unique (Err (TwicePrice l)) (Err (TwicePrice m)) a b = rw (same_number l m a.0 b.0 a.1 b.1 (twice_stops a.0 a.2) (twice_stops b.0 b.2)) refl
+    price_outcome_is_unique (Err (TwicePrice l)) (Err PriceOverflow) a b = absurd (whole b.priced a.0 b.is_priced (twice_stops a.0 a.2))
+    price_outcome_is_unique (Err PriceOverflow) (Ok m) a b = absurd (not_over m a.priced (same_net m a.priced b.0 a.is_priced) b.1 a.over)
+    price_outcome_is_unique (Err PriceOverflow) (Err (BadLine m)) a b = absurd (whole a.priced b.0 a.is_priced (bad_stops b.0 b.2))
+    price_outcome_is_unique (Err PriceOverflow) (Err (NoSuchImport m)) a b = absurd (whole a.priced b.0 a.is_priced (no_import_stops b.0 b.2))
+    price_outcome_is_unique (Err PriceOverflow) (Err (TwicePrice m)) a b = absurd (whole a.priced b.0 a.is_priced (twice_stops b.0 b.2))
+    price_outcome_is_unique (Err PriceOverflow) (Err PriceOverflow) a b = refl
 
     -- an outcome that holds of the text is the returned one, unless an allocation failed
     pub only_said : (result : Result Network PriceFault) → HasOutcome result (IsPriceOutcome net bytes) →
         (o : Result Network PriceFault) → IsPriceOutcome net bytes o → HasOutcome result (λ p. p ≡ o)
     only_said (Err Memory) h o holds = tt
-    only_said result h o holds = one_pricing result o h holds
+    only_said result h o holds = price_outcome_is_unique result o h holds

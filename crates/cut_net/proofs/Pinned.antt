@@ -28,13 +28,13 @@ member_within imports x i (k, lt, is) has =
     let here : cond (x (get_or imports k i)) (get_or imports k i).amount 0 ≡ i.amount = rw (is, has) refl in
     omega arith
 
-unpinned_part : (t p : Bool) (c : ℕ) → (t ≡ true → p ≡ false) → cond t c 0 ≤ cond p 0 c
-unpinned_part false p c free = omega arith
-unpinned_part true p c free = rw (free refl) (omega arith)
+weight_if_unpinned : (t p : Bool) (c : ℕ) → (t ≡ true → p ≡ false) → cond t c 0 ≤ cond p 0 c
+weight_if_unpinned false p c free = omega arith
+weight_if_unpinned true p c free = rw (free refl) (omega arith)
 
 -- a removable set weighs no more than all imports without a pin
 removable_within : (net : Network) (x : Priced → Bool) → IsRemovable net x → weight net.imports x ≤ unpinned_weight net
-removable_within net x free = sum_by-mono _ _ net.imports (λ i c. unpinned_part (x i) (is_pinned net i) i.amount (free i c))
+removable_within net x free = sum_by-mono _ _ net.imports (λ i c. weight_if_unpinned (x i) (is_pinned net i) i.amount (free i c))
 
 -- whether an import has no pin
 abbrev pub is_free : Network → Priced → Bool
@@ -164,10 +164,10 @@ value_within net a b flow value side between a_in is_flow is_side =
     sum_by-mono _ _ net.imports (λ i c. leaving_within (leaves side i) (is_pinned net i) (flow i) i.amount (is_side.removable i c) (is_flow.within i c)) in
     omega arith
 
-pub certificate : (net : Network) (a b : ℕ) (x : Priced → Bool) (flow : Priced → ℕ) →
+pub weak_duality : (net : Network) (a b : ℕ) (x : Priced → Bool) (flow : Priced → ℕ) →
     AreBetween net.imports (length net.names) → a < length net.names →
     IsCutWithPins net a b x → IsFlowWithPins net a b flow (weight net.imports x) → IsCheapestWithPins net a b x
-certificate net a b x flow between a_in cut is_flow = record {
+weak_duality net a b x flow between a_in cut is_flow = record {
   cut = cut;
   least = λ y y_cut.
       let side = no_chain_to net.imports y b in

@@ -4,7 +4,7 @@ use Rattle.std.specs.Prelude.{option_map, option_and_then}
 use Rattle.std.specs.Option.{option_map_or}
 use Rattle.std.specs.Fmt.{decimal}
 use Rattle.std.proofs.lemmas.Option.{option_and_then_some}
-use Rattle.texts.specs.Fields.{cut_at, named, number_of, is_name}
+use Rattle.texts.specs.Fields.{split_at_first, named, number_of, is_name}
 use Rattle.texts.proofs.FieldCuts.{cut_takes, cut_again}
 use Rattle.texts.proofs.FieldNames.{named_takes, named_again, name_without}
 use Rattle.texts.proofs.FieldNumbers.{number_takes, number_again}
@@ -25,7 +25,7 @@ after_price fields = codes "price" ++ 32 ∷ fields
 pin_takes : (fields : List ℕ) (l : PriceLine) → pin_of_fields fields ≡ Some l → (after_pin fields ≡ price_line l) × IsPriceLine l
 unfolding pin_of_fields
 pin_takes fields l e =
-    option_and_then_some _ (cut_at 32 fields) l e (λ parts h1 e.
+    option_and_then_some _ (split_at_first 32 fields) l e (λ parts h1 e.
     option_and_then_some _ (named parts.0) l e (λ m h2 e.
     map_some _ (named parts.1) l e (λ n h3 same.
     let p = named_takes parts.0 m h2 in
@@ -36,8 +36,8 @@ pin_takes fields l e =
 price_takes : (fields : List ℕ) (l : PriceLine) → price_of_fields fields ≡ Some l → (after_price fields ≡ price_line l) × IsPriceLine l
 unfolding price_of_fields
 price_takes fields l e =
-    option_and_then_some _ (cut_at 32 fields) l e (λ parts h1 e.
-    option_and_then_some _ (cut_at 32 parts.1) l e (λ others h2 e.
+    option_and_then_some _ (split_at_first 32 fields) l e (λ parts h1 e.
+    option_and_then_some _ (split_at_first 32 parts.1) l e (λ others h2 e.
     option_and_then_some _ (named parts.0) l e (λ m h3 e.
     option_and_then_some _ (named others.0) l e (λ n h4 e.
     map_some _ (number_of others.1) l e (λ w h5 same.

@@ -7,7 +7,7 @@ use Rattle.std.proofs.lemmas.List.{append-nil, get_or-map, map_push, take_more}
 use Rattle.cut_net.specs.declared.priced.Priced.{Priced}
 use Rattle.cut_net.specs.declared.pin_state.Change.{Change}
 use Rattle.cut_net.specs.declared.pin_state.PinState.{PinState}
-use Rattle.cut_net.specs.declared.pin_state.PinState.TheVariants.{Weighs, Stays}
+use Rattle.cut_net.specs.declared.pin_state.PinState.TheVariants.{WithWeight, WithPin}
 use Rattle.cut_net.specs.Network.{Network, missing_item}
 use Rattle.cut_net.specs.Cuts.{have_equal_ends}
 use Rattle.cut_net.specs.Prices.{pin_of_state, pin_state_of, changed_state, initial_state}
@@ -25,9 +25,9 @@ pub given_next : {X Y : Type 0} (f : X → List Y) (xs : List X) (ys more : List
 given_next f xs ys more k d same lt e = rw (take_more xs k d lt, flat_map-append f (take k xs) (get_or xs k d ∷ []), same, e, append-nil (f (get_or xs k d))) refl
 
 -- an import that isn't pinned gives no pin
-pub no_pin : (i : Priced) (s : PinState) → ((w : ℕ) → s ≡ Stays w → ⊥) → [] ≡ pin_of_state i s
-no_pin i (Weighs w) none = refl
-no_pin i (Stays w) none = absurd (none w refl)
+pub no_pin : (i : Priced) (s : PinState) → ((w : ℕ) → s ≡ WithPin w → ⊥) → [] ≡ pin_of_state i s
+no_pin i (WithWeight w) none = refl
+no_pin i (WithPin w) none = absurd (none w refl)
 
 -- the state of an import, given the lookup of its pin
 pub stood : (net : Network) (claim : Priced → Option Change) (imports pins : List Priced) (changes : List (Option Change)) (k : ℕ) (pin : Option Priced) (now : PinState) → imports ≡ net.imports → pins ≡ net.pins

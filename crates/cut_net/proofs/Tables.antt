@@ -15,7 +15,7 @@ use Rattle.std.proofs.lemmas.Map.Made.{is_member-Decides, length-from_same_keys}
 use Rattle.std.proofs.lemmas.Slice.Eq.{bytes_eq-Decides}
 use Rattle.texts.specs.Fields.{is_name}
 use Rattle.cut_net.specs.NetText.{NetLine, Module, Import, net_line, is_import, is_nonempty, HaveDifferentImports, AreMentioning, AreNamesOf, IsNetLine, Mentions}
-use Rattle.cut_net.specs.NetReading.{entry_line, noted, AddsLine, AreTablesOf, ExceedsLimit, HasRepeat, TakesPiece, line_content}
+use Rattle.cut_net.specs.NetReading.{entry_line, with_name, AddsLine, AreTablesOf, ExceedsLimit, HasRepeat, TakesPiece, line_content}
 use Rattle.cut_net.specs.declared.lines.Line.{Line}
 use Rattle.cut_net.specs.declared.builder.NetBuilder.{NetBuilder}
 use Rattle.cut_net.specs.declared.builder.NetLineFault.{NetLineFault}
@@ -37,35 +37,35 @@ tables_none = record {
 
 -- ---- names with one more
 
-noted_once : (names : List (List ℕ)) (m : List ℕ) → IsDistinct bytes_eq names → IsDistinct bytes_eq (noted names m)
+noted_once : (names : List (List ℕ)) (m : List ℕ) → IsDistinct bytes_eq names → IsDistinct bytes_eq (with_name names m)
 noted_once names m h =
     elim (cases_Bool (list_any (bytes_eq m) names)) [
       | inl old ↦ rw old h
       | inr new ↦ rw new (IsDistinct-push nat_list_eq_equiv names m h new)
     ]
 
-noted_in : (names : List (List ℕ)) (m x : List ℕ) → Contains names x ⊎ (m ≡ x) → Contains (noted names m) x
+noted_in : (names : List (List ℕ)) (m x : List ℕ) → Contains names x ⊎ (m ≡ x) → Contains (with_name names m) x
 noted_in names m x h =
     elim (cases_Bool (list_any (bytes_eq m) names)) [
       | inl old ↦ rw old (elim h [ inl present ↦ present | inr same ↦ subst (λ (t : List ℕ). Contains names t) same ((is_member-Decides bytes_eq-Decides names m).0 old) ])
       | inr new ↦ rw new (elim h [ inl present ↦ Contains-append_left names (m ∷ []) x present | inr same ↦ subst (λ (t : List ℕ). Contains (names ++ m ∷ []) t) same (Contains-push names m) ])
     ]
 
-noted_from : (names : List (List ℕ)) (m x : List ℕ) → Contains (noted names m) x → Contains names x ⊎ (m ≡ x)
+noted_from : (names : List (List ℕ)) (m x : List ℕ) → Contains (with_name names m) x → Contains names x ⊎ (m ≡ x)
 noted_from names m x h =
     elim (cases_Bool (list_any (bytes_eq m) names)) [
       | inl old ↦ inl (rw old at h)
       | inr new ↦ Contains-push_cases names m x (rw new at h)
     ]
 
-pub noted_kept : (names : List (List ℕ)) (m : List ℕ) (i : ℕ) → i < length names → get_or (noted names m) i [] ≡ get_or names i []
+pub noted_kept : (names : List (List ℕ)) (m : List ℕ) (i : ℕ) → i < length names → get_or (with_name names m) i [] ≡ get_or names i []
 noted_kept names m i lt =
     elim (cases_Bool (list_any (bytes_eq m) names)) [
       | inl old ↦ rw old refl
       | inr new ↦ rw new (get_or_append_left names (m ∷ []) [] i lt)
     ]
 
-pub noted_longer : (names : List (List ℕ)) (m : List ℕ) → length names ≤ length (noted names m)
+pub noted_longer : (names : List (List ℕ)) (m : List ℕ) → length names ≤ length (with_name names m)
 noted_longer names m =
     elim (cases_Bool (list_any (bytes_eq m) names)) [
       | inl old ↦ rw old (omega arith)
@@ -87,7 +87,7 @@ mention_old lines line x (l, present, has) = (l, Contains-append_left lines (lin
 mention_new : (lines : List NetLine) (line : NetLine) (x : List ℕ) → Mentions x line → AreMentioning (lines ++ line ∷ []) x
 mention_new lines line x has = (line, Contains-push lines line, has)
 
-pub names_module : (lines : List NetLine) (names : List (List ℕ)) (m : List ℕ) → AreNamesOf lines names → AreNamesOf (lines ++ Module m ∷ []) (noted names m)
+pub names_module : (lines : List NetLine) (names : List (List ℕ)) (m : List ℕ) → AreNamesOf lines names → AreNamesOf (lines ++ Module m ∷ []) (with_name names m)
 names_module lines names m h = record {
   once = noted_once names m h.once;
   named = λ x. (
@@ -99,11 +99,11 @@ names_module lines names m h = record {
   );
 }
 
-pub names_import : (lines : List NetLine) (names : List (List ℕ)) (m n : List ℕ) (w : ℕ) → AreNamesOf lines names → AreNamesOf (lines ++ Import m n w ∷ []) (noted (noted names m) n)
+pub names_import : (lines : List NetLine) (names : List (List ℕ)) (m n : List ℕ) (w : ℕ) → AreNamesOf lines names → AreNamesOf (lines ++ Import m n w ∷ []) (with_name (with_name names m) n)
 names_import lines names m n w h = record {
-  once = noted_once (noted names m) n (noted_once names m h.once);
+  once = noted_once (with_name names m) n (noted_once names m h.once);
   named = λ x. (
-    λ present. elim (noted_from (noted names m) n x present) [
+    λ present. elim (noted_from (with_name names m) n x present) [
       | inl old ↦ elim (noted_from names m x old) [
         | inl older ↦ mention_old lines (Import m n w) x ((h.named x).0 older)
         | inr new ↦ mention_new lines (Import m n w) x (inl new)
@@ -111,10 +111,10 @@ names_import lines names m n w h = record {
       | inr new ↦ mention_new lines (Import m n w) x (inr new)
     ],
     λ has. elim (mention_from lines (Import m n w) x has) [
-      | inl old ↦ noted_in (noted names m) n x (inl (noted_in names m x (inl ((h.named x).1 old))))
+      | inl old ↦ noted_in (with_name names m) n x (inl (noted_in names m x (inl ((h.named x).1 old))))
       | inr new ↦ elim new [
-        | inl first ↦ noted_in (noted names m) n x (inl (noted_in names m x (inr first)))
-        | inr second ↦ noted_in (noted names m) n x (inr second)
+        | inl first ↦ noted_in (with_name names m) n x (inl (noted_in names m x (inr first)))
+        | inr second ↦ noted_in (with_name names m) n x (inr second)
       ]
     ],
   );
@@ -138,14 +138,14 @@ one_count lines names others h g =
 abbrev pub AreKept : List (List ℕ) → List (List ℕ) → Type 0
 AreKept names more = (length names ≤ length more) × ((i : ℕ) → i < length names → get_or more i [] ≡ get_or names i [])
 
-pub kept_one : (names : List (List ℕ)) (m : List ℕ) → AreKept names (noted names m)
+pub kept_one : (names : List (List ℕ)) (m : List ℕ) → AreKept names (with_name names m)
 kept_one names m = (noted_longer names m, noted_kept names m)
 
-pub kept_both : (names : List (List ℕ)) (m n : List ℕ) → AreKept names (noted (noted names m) n)
+pub kept_both : (names : List (List ℕ)) (m n : List ℕ) → AreKept names (with_name (with_name names m) n)
 kept_both names m n =
     let a = noted_longer names m in
-    let b = noted_longer (noted names m) n in
-    (omega arith, λ i lt. noted_kept (noted names m) n i (omega arith) ∙ noted_kept names m i lt)
+    let b = noted_longer (with_name names m) n in
+    (omega arith, λ i lt. noted_kept (with_name names m) n i (omega arith) ∙ noted_kept names m i lt)
 
 abbrev pub IsPlaced : List (List ℕ) → (ℕ × ℕ) × ℕ → Type 0
 IsPlaced names entry = (entry.0.0 < length names) × (entry.0.1 < length names)
@@ -203,21 +203,21 @@ module _ (lines : List NetLine) (names : List (List ℕ)) (es : List ((ℕ × �
       let listed : Contains (filter is_import lines) (entry_line names e) = rw h.listed (in_map (entry_line names) es e present) in
       from_filter is_import lines (entry_line names e) listed
 
-  pub tables_module : (m : List ℕ) → is_name m ≡ true → length (noted names m) ≤ 8192 → AreTablesOf (lines ++ Module m ∷ []) (noted names m) es
+  pub tables_module : (m : List ℕ) → is_name m ≡ true → length (with_name names m) ≤ 8192 → AreTablesOf (lines ++ Module m ∷ []) (with_name names m) es
   tables_module m good few = record {
     each = All-push IsNetLine lines (Module m) h.each good;
     apart = apart_module lines m h.apart;
     are_names = names_module lines names m h.are_names;
     few_names = few;
     few_imports = h.few_imports;
-    placed = placed_more names (noted names m) es (kept_one names m) h.placed;
-    listed = filter_module lines m ∙ h.listed ∙ lines_kept names (noted names m) es (kept_one names m) h.placed;
+    placed = placed_more names (with_name names m) es (kept_one names m) h.placed;
+    listed = filter_module lines m ∙ h.listed ∙ lines_kept names (with_name names m) es (kept_one names m) h.placed;
   }
 
-  pub many_module : (m : List ℕ) → is_name m ≡ true → 8192 < length (noted names m) → ExceedsLimit lines (Module m)
+  pub many_module : (m : List ℕ) → is_name m ≡ true → 8192 < length (with_name names m) → ExceedsLimit lines (Module m)
   many_module m good many = record {
     apart = apart_module lines m h.apart;
-    many = λ few. let same = one_count (lines ++ Module m ∷ []) (noted names m) few.names (names_module lines names m h.are_names) few.are_names in
+    many = λ few. let same = one_count (lines ++ Module m ∷ []) (with_name names m) few.names (names_module lines names m h.are_names) few.are_names in
         let little = few.few_names in omega arith;
   }
 
@@ -307,15 +307,15 @@ module _ (lines : List NetLine) (names : List (List ℕ)) (es : List ((ℕ × �
 
 -- two names are looked up or added in turn, and their indices are the ends of an import
 pub record AreEnds (names middle more : List (List ℕ)) (m n : List ℕ) (i j : ℕ) : Type 0 where
-  pub first : middle ≡ noted names m
+  pub first : middle ≡ with_name names m
   pub first_within : i < length middle
   pub first_place : get_or middle i [] ≡ m
-  pub second : more ≡ noted middle n
+  pub second : more ≡ with_name middle n
   pub second_within : j < length more
   pub second_place : get_or more j [] ≡ n
 
-pub are_ends : (names middle more : List (List ℕ)) (m n : List ℕ) (i j : ℕ) → middle ≡ noted names m → i < length middle → get_or middle i [] ≡ m →
-    more ≡ noted middle n → j < length more → get_or more j [] ≡ n → AreEnds names middle more m n i j
+pub are_ends : (names middle more : List (List ℕ)) (m n : List ℕ) (i j : ℕ) → middle ≡ with_name names m → i < length middle → get_or middle i [] ≡ m →
+    more ≡ with_name middle n → j < length more → get_or more j [] ≡ n → AreEnds names middle more m n i j
 are_ends names middle more m n i j first in_middle at_first second in_more at_second = record {
   first = first;
   first_within = in_middle;
@@ -326,8 +326,8 @@ are_ends names middle more m n i j first in_middle at_first second in_more at_se
 }
 
 module _ (lines : List NetLine) (names middle more : List (List ℕ)) (es : List ((ℕ × ℕ) × ℕ)) (h : AreTablesOf lines names es) (m n : List ℕ) (w i j : ℕ) (ends : AreEnds names middle more m n i j) where
-  both_noted : more ≡ noted (noted names m) n
-  both_noted = ends.second ∙ ap (λ (t : List (List ℕ)). noted t n) ends.first
+  both_noted : more ≡ with_name (with_name names m) n
+  both_noted = ends.second ∙ ap (λ (t : List (List ℕ)). with_name t n) ends.first
 
   ends_kept : AreKept names more
   ends_kept = rw both_noted (kept_both names m n)

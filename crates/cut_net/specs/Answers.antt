@@ -1,4 +1,4 @@
--- The content of an answer, without addresses.
+-- The content of an answer as a value of the logic, with lists in place of vectors.
 use Rattle.cut_net.specs.declared.cut.Cut.{Cut}
 use Rattle.cut_net.specs.declared.answer.Answer.{Answer}
 use Rattle.cut_net.specs.declared.answer.Answer.TheVariants as answers

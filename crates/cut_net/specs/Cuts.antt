@@ -13,7 +13,7 @@ Imports imports Allowed m n = (i : Priced) × Contains imports i × (i.from ≡ 
 abbrev pub Any : Priced → Type 0
 Any i = Unit {0}
 
--- a path of allowed imports from the module over those of the list, of which the last is the end
+-- the given module and those of the list form a path of allowed imports, and its last module is the given end
 abbrev pub IsChain : List Priced → (Priced → Type 0) → ℕ → List ℕ → ℕ → Type 0
 IsChain imports Allowed = chains.IsChain (Imports imports Allowed)
 
@@ -21,7 +21,7 @@ IsChain imports Allowed = chains.IsChain (Imports imports Allowed)
 abbrev pub Chain : List Priced → (Priced → Type 0) → ℕ → ℕ → Type 0
 Chain imports Allowed = chains.Chain (Imports imports Allowed)
 
--- outside a set
+-- the import isn't in the set
 abbrev pub Outside : (Priced → Bool) → Priced → Type 0
 Outside x i = x i ≡ false
 
@@ -64,7 +64,7 @@ LeavesSourceSide net a b i = InSourceSide net a b i.from × (InSourceSide net a 
 abbrev pub IsReported : Network → ℕ → ℕ → Priced → Type 0
 IsReported net a b i = LeavesSourceSide net a b i × Chain net.imports (λ j. LeavesSourceSide net a b j → ⊥) i.to b
 
--- exactly the reported imports: the canonical minimum cut
+-- the set has exactly those imports of the network that are reported: it is the canonical minimum cut
 abbrev pub AreReported : Network → ℕ → ℕ → (Priced → Bool) → Type 0
 AreReported net a b x = (i : Priced) → Contains net.imports i → (x i ≡ true) ↔ IsReported net a b i
 
@@ -82,8 +82,8 @@ pub record IsFlow (net : Network) (a b : ℕ) (flow : Priced → ℕ) (value : �
   pub kept : (m : ℕ) → m ≢ a → m ≢ b → entering net.imports flow m ≡ leaving net.imports flow m
   pub at_start : entering net.imports flow a + value ≡ leaving net.imports flow a
 
--- closed under residual imports (Goldberg and Tarjan 1988, section 2): forward over imports with flow below their weight, backward over
--- imports with flow
+-- no residual import leads out of the set of modules (Goldberg and Tarjan 1988, section 2): forward over imports with flow below their
+-- weight, backward over imports with flow above 0
 pub record IsClosed (net : Network) (flow : Priced → ℕ) (modules : ℕ → Bool) : Type 0 where
   pub forward : (i : Priced) → Contains net.imports i → flow i < i.amount → modules i.from ≡ true → modules i.to ≡ true
   pub backward : (i : Priced) → Contains net.imports i → 0 < flow i → modules i.to ≡ true → modules i.from ≡ true
@@ -96,10 +96,10 @@ Reached net flow a m = (modules : ℕ → Bool) → modules a ≡ true → IsClo
 abbrev pub IsSetOf : (ℕ → Bool) → (ℕ → Type 0) → Type 0
 IsSetOf modules P = (m : ℕ) → (modules m ≡ true) ↔ P m
 
--- the imports have equal modules
+-- the two imports have equal importers and equal imported modules, whatever their amounts
 abbrev pub have_equal_ends : Priced → Priced → Bool
 have_equal_ends i j = (i.from == j.from) && (i.to == j.to)
 
--- the set without this import
+-- the set without the import i
 abbrev pub without : (Priced → Bool) → Priced → Priced → Bool
 without x i j = x j && not (have_equal_ends i j)

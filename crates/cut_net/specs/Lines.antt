@@ -1,4 +1,4 @@
--- Lists of imports as parts of an answer: a line has the modules of an import, and a weight or an amount of flow.
+-- The two lists of a cut, of imports to remove and of flow. A line of a list has the modules of an import, and its weight or its flow.
 use Rattle.std.specs.Prelude.{◌≡◌, ℕ, ◌<◌, ◌==◌, ◌&&◌, ◌||◌, nat_lt, Bool, List, Option, Some, None, is_some, IfSome, IsTrue, All, AllPairs, find, Contains}
 use Rattle.std.specs.declared.cmp.Ordering.{Ordering}
 use Rattle.std.specs.Ordering.{nat_cmp, ordering_then}
@@ -33,16 +33,16 @@ pub record AreImportsInOrder (net : Network) (lines : List Priced) : Type 0 wher
   pub known : All (IsImport net) lines
   pub ascending : IsAscending lines
 
--- the amount of the line, 0 without one
+-- the amount of a line, 0 if there is no line
 abbrev pub amount_in : Option Priced → ℕ
 amount_in None = 0
 amount_in (Some line) = line.amount
 
--- the imports that have a line
+-- the set of the imports that have a line in the list
 abbrev pub removed_by : List Priced → Priced → Bool
 removed_by lines i = is_some (find (have_equal_ends i) lines)
 
--- the flow of the lines: 0 on an import without a line
+-- the flow that the lines give an import: 0 on an import without a line
 abbrev pub flow_by : List Priced → Priced → ℕ
 flow_by lines i = amount_in (find (have_equal_ends i) lines)
 
@@ -51,27 +51,28 @@ pub record AreWeights (net : Network) (printed : List Priced) (total : ℕ) : Ty
   pub each : (i : Priced) → Contains net.imports i → IfSome (find (have_equal_ends i) printed) (λ line. line.amount ≡ i.amount)
   pub sum : total ≡ weight net.imports (removed_by printed)
 
--- the reported imports, their weight and the flow satisfy the checker, without regard to pins
-pub record IsRight (net : Network) (a b : ℕ) (printed : List Priced) (total : ℕ) (flow : List Priced) : Type 0 where
+-- the checker accepts the cut, if pins are ignored: both lists are sorted imports, those to remove are a cut with these weights and this
+-- total, and the flow is one of value `total`
+pub record IsValidClaim (net : Network) (a b : ℕ) (printed : List Priced) (total : ℕ) (flow : List Priced) : Type 0 where
   pub printed_in_order : AreImportsInOrder net printed
   pub flow_in_order : AreImportsInOrder net flow
   pub cut : IsCut net a b (removed_by printed)
   pub weights : AreWeights net printed total
   pub is_flow : IsFlow net a b (flow_by flow) total
 
--- the answer of a solver without regard to pins: it satisfies the checker, its imports are the reported ones by their definition, and no
--- flow is 0
+-- what a solver has to return, if pins are ignored: the checker accepts the cut, its imports are exactly the reported ones, and no flow
+-- is 0
 pub record IsCutAnswer (net : Network) (a b : ℕ) (printed : List Priced) (total : ℕ) (flow : List Priced) : Type 0 where
-  pub right : IsRight net a b printed total flow
+  pub right : IsValidClaim net a b printed total flow
   pub are_printed : AreReported net a b (removed_by printed)
   pub flow_above_zero : All (λ line. 0 < line.amount) flow
 
--- the claim is a solver's answer, without regard to pins
+-- the claim is a cut that a solver may return, if pins are ignored
 abbrev pub IsAnswer : Network → ℕ → ℕ → AnswerClaim → Type 0
 IsAnswer net a b (CutOf total printed flow) = IsCutAnswer net a b printed total flow
 IsAnswer net a b (BlockedBy chain) = ⊥
 
--- the claim is a cut, and no cut weighs less, without regard to pins
+-- the claim is a cut, and no cut weighs less, if pins are ignored
 abbrev pub IsCheapestAnswer : Network → ℕ → ℕ → AnswerClaim → Type 0
 IsCheapestAnswer net a b (CutOf total printed flow) = IsCheapest net a b (removed_by printed)
 IsCheapestAnswer net a b (BlockedBy chain) = ⊥

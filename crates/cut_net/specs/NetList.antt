@@ -1,4 +1,4 @@
--- Reading in one pass: the lines read so far, of which two may have the same import.
+-- Reading a network's text in one pass. The lines read so far may repeat an import.
 use Rattle.std.specs.Prelude.{◌≡◌, ◌⊎◌, ℕ, ◌+◌, ◌<◌, ◌≤◌, ◌++◌, List, [], ◌∷◌, length, map, filter, take, slice_index, slice_get, All, Contains, Some}
 use Rattle.std.specs.List.{slice_index_or}
 use Rattle.cut_net.specs.declared.priced.Priced.{Priced}
@@ -8,7 +8,8 @@ use Rattle.cut_net.specs.NetReading.{import_line, HasRepeat}
 use Rattle.cut_net.specs.NetText.{NetLine, net_line, is_import, pieces_of, AreNamesOf, IsNetLine, Spell}
 use Rattle.cut_net.specs.WellFormed.{AreBetween}
 
--- the lines have no error but repeated imports; the names of the lines, and their imports by the indices of the names
+-- the lines have no error but repeated imports; `names` are the names of the lines, and `imports` the imports of the lines, each by the
+-- indices of its two names
 pub record AreListed (lines : List NetLine) (names : List (List ℕ)) (imports : List Priced) : Type 0 where
   pub each : All IsNetLine lines
   pub are_names : AreNamesOf lines names
@@ -32,19 +33,19 @@ AreNumbersOf old names numbers = (k : ℕ) → k < length numbers → (slice_ind
 abbrev pub HaveImportBetween : List Priced → ℕ → ℕ → Type 0
 HaveImportBetween imports from to = (i : Priced) × Contains imports i × (i.from ≡ from) × (i.to ≡ to)
 
--- the text has these pieces and then those of the rest; or it has only these pieces, and the rest is empty
+-- the text has the pieces `prefix` and then those of `rest`; or it has only the pieces `prefix`, and `rest` is empty
 abbrev pub StartsWithPieces : List ℕ → List (List ℕ) → List ℕ → Type 0
 StartsWithPieces text prefix rest = (pieces_of text ≡ prefix ++ pieces_of rest) ⊎ ((pieces_of text ≡ prefix) × (rest ≡ []))
 
--- the list has the earlier lines and the line of the text's first piece, and the rest is what follows this piece
+-- the list has the lines `before` and the line of the text's first piece, if that isn't empty; `rest` follows this piece in the text
 abbrev pub AddsFirstPiece : List ℕ → List ℕ → List NetLine → LineList → Type 0
 AddsFirstPiece text rest before list = (piece : List ℕ) × (more : List NetLine) × Spell (piece ∷ []) more × StartsWithPieces text (piece ∷ []) rest × IsList (before ++ more) list
 
--- an import repeats among the earlier lines and this one, and the list has only the earlier lines
+-- two of the lines `before` and `line` have an equal import, and the list has only the lines `before`
 abbrev pub IsRepeat : List NetLine → NetLine → LineList → Type 0
 IsRepeat before line list = HasRepeat before line × IsList before list
 
--- the first piece of the text is a line, and an import repeats among the earlier lines and this one
+-- the first piece of the text is a valid line, and an import repeats among the lines `before` and this line
 abbrev pub Repeats : List ℕ → List NetLine → LineList → Type 0
 Repeats text before list = (line : NetLine) × (later : List (List ℕ)) × (pieces_of text ≡ net_line line ∷ later) × IsNetLine line × IsRepeat before line list
 

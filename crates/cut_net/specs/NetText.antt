@@ -23,7 +23,7 @@ abbrev pub net_line : NetLine → List ℕ
 net_line (Module m) = line_of (codes "module" ∷ m ∷ [])
 net_line (Import m n w) = line_of (codes "import" ∷ m ∷ n ∷ decimal w ∷ [])
 
--- names are names, and a weight fits 64 bits
+-- the names of the line are identifiers, and its weight fits 64 bits
 abbrev pub IsNetLine : NetLine → Type 0
 IsNetLine (Module m) = is_name m ≡ true
 IsNetLine (Import m n w) = (is_name m ≡ true) × (is_name n ≡ true) × (w < 2 ^ 64)
@@ -37,7 +37,7 @@ abbrev pub is_nonempty : List ℕ → Bool
 is_nonempty [] = false
 is_nonempty (_ ∷ _) = true
 
--- the pieces that aren't empty are these lines
+-- the pieces that aren't empty are the bytes of these lines, in order
 abbrev pub Spell : List (List ℕ) → List NetLine → Type 0
 Spell pieces lines = filter is_nonempty pieces ≡ map net_line lines
 
@@ -50,7 +50,7 @@ Mentions name (Import m n w) = (m ≡ name) ⊎ (n ≡ name)
 abbrev pub AreMentioning : List NetLine → List ℕ → Type 0
 AreMentioning lines name = (line : NetLine) × Contains lines line × Mentions name line
 
--- exactly the names of the lines, without repeats
+-- `names` has exactly the names of the lines, each once
 pub record AreNamesOf (lines : List NetLine) (names : List (List ℕ)) : Type 0 where
   pub once : IsDistinct bytes_eq names
   pub named : (name : List ℕ) → Contains names name ↔ AreMentioning lines name
@@ -67,14 +67,14 @@ HaveDifferentImports (Module _) (Import _ _ _) = Unit {0}
 HaveDifferentImports (Import _ _ _) (Module _) = Unit {0}
 HaveDifferentImports (Import m n _) (Import k l _) = m ≡ k → n ≢ l
 
--- the limits: at most 8192 names and 65536 imports
+-- the lines are within the limits: they have at most 8192 different names and 65536 imports
 pub record AreWithinLimits (lines : List NetLine) : Type 0 where
   pub names : List (List ℕ)
   pub are_names : AreNamesOf lines names
   pub few_names : length names ≤ 8192
   pub few_imports : count_by is_import lines ≤ 65536
 
--- lines without an error
+-- the lines have no error: each is valid, no import repeats, and they are within the limits
 pub record AreValidLines (lines : List NetLine) : Type 0 where
   pub each : All IsNetLine lines
   pub apart : AllPairs HaveDifferentImports lines
@@ -86,7 +86,7 @@ pub record IsPrefix (bytes : List ℕ) (k : ℕ) (lines : List NetLine) (piece :
   pub good : AreValidLines lines
   pub present : slice_get (pieces_of bytes) k ≡ Some piece
 
--- after lines without an error, a piece that is neither empty nor a line
+-- piece k is neither empty nor a line, and the pieces before it are lines without an error
 pub record IsBadLine (bytes : List ℕ) (k : ℕ) : Type 0 where
   pub before : List NetLine
   pub piece : List ℕ
@@ -94,7 +94,7 @@ pub record IsBadLine (bytes : List ℕ) (k : ℕ) : Type 0 where
   pub written : is_nonempty piece ≡ true
   pub wrong : (line : NetLine) → IsNetLine line → net_line line ≢ piece
 
--- after lines without an error, a line that repeats an import
+-- piece k is a line that repeats an import, and the pieces before it are lines without an error
 pub record IsTwiceImport (bytes : List ℕ) (k : ℕ) : Type 0 where
   pub before : List NetLine
   pub line : NetLine
@@ -102,7 +102,7 @@ pub record IsTwiceImport (bytes : List ℕ) (k : ℕ) : Type 0 where
   pub form : IsNetLine line
   pub twice : AllPairs HaveDifferentImports (before ++ line ∷ []) → ⊥
 
--- after lines without an error, a line that repeats no import but exceeds a limit
+-- piece k is a line that repeats no import but exceeds a limit, and the pieces before it are lines without an error
 pub record IsTooMany (bytes : List ℕ) (k : ℕ) : Type 0 where
   pub before : List NetLine
   pub line : NetLine

@@ -14,12 +14,13 @@ use Rattle.cut_net.specs.Lines.{flow_by, removed_by, AreImportsInOrder}
 abbrev pub is_pinned : Network → Priced → Bool
 is_pinned net i = is_some (find (have_equal_ends i) net.pins)
 
--- none of the imports of the set is pinned
+-- none of the network's imports in the set is pinned
 abbrev pub IsRemovable : Network → (Priced → Bool) → Type 0
 IsRemovable net x = (i : Priced) → Contains net.imports i → x i ≡ true → is_pinned net i ≡ false
 
 -- ---- paths of pinned imports
 
+-- the import is pinned, as a proposition
 abbrev pub ByPin : Network → Priced → Type 0
 ByPin net i = is_pinned net i ≡ true
 
@@ -32,7 +33,7 @@ abbrev pub IsPinChain : Network → ℕ → ℕ → List ℕ → Type 0
 IsPinChain net a b [] = ⊥
 IsPinChain net a b (m ∷ more) = (m ≡ a) × IsChain net.imports (ByPin net) m more b
 
--- the shortest of these paths, of several the lexicographically smallest, by module numbers, which are in the order of names
+-- the shortest path of pinned imports from a to b, of several the lexicographically smallest by module numbers, and so by names
 pub record IsLeastPinChain (net : Network) (a b : ℕ) (chain : List ℕ) : Type 0 where
   pub is_chain : IsPinChain net a b chain
   pub fewest : (other : List ℕ) → IsPinChain net a b other → length chain ≤ length other
@@ -60,11 +61,11 @@ pub record IsMinimumSideWithPins (net : Network) (a b : ℕ) (side : ℕ → Boo
   pub is_side : IsSideWithPins net a b side
   pub least : (other : ℕ → Bool) → IsSideWithPins net a b other → weight net.imports (leaves side) ≤ weight net.imports (leaves other)
 
--- the module is in the minimal source side: in each of these source sides of minimum weight
+-- the module is in the minimal source side with pins: in each source side of minimum weight among those that no pinned import leaves
 abbrev pub InSourceSideWithPins : Network → ℕ → ℕ → ℕ → Type 0
 InSourceSideWithPins net a b m = (side : ℕ → Bool) → IsMinimumSideWithPins net a b side → side m ≡ true
 
--- the import leaves the minimal source side
+-- the import leaves the minimal source side with pins
 abbrev pub LeavesSourceSideWithPins : Network → ℕ → ℕ → Priced → Type 0
 LeavesSourceSideWithPins net a b i = InSourceSideWithPins net a b i.from × (InSourceSideWithPins net a b i.to → ⊥)
 
@@ -72,7 +73,7 @@ LeavesSourceSideWithPins net a b i = InSourceSideWithPins net a b i.from × (InS
 abbrev pub IsReportedWithPins : Network → ℕ → ℕ → Priced → Type 0
 IsReportedWithPins net a b i = LeavesSourceSideWithPins net a b i × Chain net.imports (λ j. LeavesSourceSideWithPins net a b j → ⊥) i.to b
 
--- exactly the reported imports
+-- the set has exactly those imports of the network that are reported by the definition with pins
 abbrev pub AreReportedWithPins : Network → ℕ → ℕ → (Priced → Bool) → Type 0
 AreReportedWithPins net a b x = (i : Priced) → Contains net.imports i → (x i ≡ true) ↔ IsReportedWithPins net a b i
 
@@ -93,19 +94,19 @@ pub record AreWeightsWithPins (net : Network) (printed : List Priced) (total : �
   pub each : (i : Priced) → Contains net.imports i → IfSome (find (have_equal_ends i) printed) (λ line. line.amount ≡ i.amount)
   pub sum : total ≡ weight net.imports (removed_by printed)
 
--- the reported imports, their weight and the flow satisfy the checker
-pub record IsRightWithPins (net : Network) (a b : ℕ) (printed : List Priced) (total : ℕ) (flow : List Priced) : Type 0 where
+-- the checker accepts the cut: both lists are sorted imports, those to remove are a cut of unpinned imports with these weights and this
+-- total, and the flow is one of value `total`
+pub record IsValidClaimWithPins (net : Network) (a b : ℕ) (printed : List Priced) (total : ℕ) (flow : List Priced) : Type 0 where
   pub printed_in_order : AreImportsInOrder net printed
   pub flow_in_order : AreImportsInOrder net flow
   pub cut : IsCut net a b (removed_by printed)
   pub weights : AreWeightsWithPins net printed total
   pub is_flow : IsFlowWithPins net a b (flow_by flow) total
 
--- no path of pinned imports leads from a to b; the answer satisfies the checker, its imports are the reported ones by their definition,
--- and no flow is 0
+-- no path of pinned imports leads from a to b; the checker accepts the cut, its imports are exactly the reported ones, and no flow is 0
 pub record IsCutAnswerWithPins (net : Network) (a b : ℕ) (printed : List Priced) (total : ℕ) (flow : List Priced) : Type 0 where
   pub free : PinChain net a b → ⊥
-  pub right : IsRightWithPins net a b printed total flow
+  pub right : IsValidClaimWithPins net a b printed total flow
   pub are_printed : AreReportedWithPins net a b (removed_by printed)
   pub flow_above_zero : All (λ line. 0 < line.amount) flow
 

@@ -1,7 +1,7 @@
 -- Reading a prices file, line by line.
 use Rattle.std.specs.Prelude.{◌≡◌, ◌≢◌, ℕ, true, List, [], ◌∷◌, ◌++◌, map, codes, Option, Result, Ok, Err, option_map, option_and_then, AllPairs}
 use Rattle.std.specs.Option.{option_map_or}
-use Rattle.texts.specs.Fields.{cut_at, named, number_of}
+use Rattle.texts.specs.Fields.{split_at_first, named, number_of}
 use Rattle.cut_net.specs.Network.{Network}
 use Rattle.cut_net.specs.NetReading.{after_word}
 use Rattle.cut_net.specs.NetText.{is_nonempty, pieces_of}
@@ -13,7 +13,7 @@ use Rattle.cut_net.specs.declared.price_fault.PriceFault.TheVariants as faults
 use Rattle.cut_net.specs.declared.pin_state.Change.{Change}
 use Rattle.cut_net.specs.declared.pin_state.Change.TheVariants.{Price, Pin}
 use Rattle.cut_net.specs.declared.pin_state.PinState.{PinState}
-use Rattle.cut_net.specs.declared.pin_state.PinState.TheVariants.{Weighs, Stays}
+use Rattle.cut_net.specs.declared.pin_state.PinState.TheVariants.{WithWeight, WithPin}
 use Rattle.cut_net.specs.declared.price_lines.PriceLine as lines
 
 -- ---- a line
@@ -25,27 +25,27 @@ line_content line = record { importer = line.importer.now; imported = line.impor
 abbrev pub line_with_change : List ℕ → List ℕ → Change → PriceLine
 line_with_change m n change = record { importer = m; imported = n; change = change }
 
--- two names
+-- the `pin` line with these fields: two names
 unfoldable pub pin_of_fields : List ℕ → Option PriceLine
 pin_of_fields fields =
-    option_and_then (λ parts. option_and_then (λ m. option_map (λ n. line_with_change m n Pin) (named parts.1)) (named parts.0)) (cut_at 32 fields)
+    option_and_then (λ parts. option_and_then (λ m. option_map (λ n. line_with_change m n Pin) (named parts.1)) (named parts.0)) (split_at_first 32 fields)
 
--- two names and a number
+-- the `price` line with these fields: two names and a number
 unfoldable pub price_of_fields : List ℕ → Option PriceLine
 price_of_fields fields =
     option_and_then (λ parts. option_and_then (λ others. option_and_then (λ m. option_and_then (λ n. option_map (λ w. line_with_change m n (Price w))
-    (number_of others.1)) (named others.0)) (named parts.0)) (cut_at 32 parts.1)) (cut_at 32 fields)
+    (number_of others.1)) (named others.0)) (named parts.0)) (split_at_first 32 parts.1)) (split_at_first 32 fields)
 
--- the line that these bytes are
+-- the line that these bytes spell, if they are a valid one
 unfoldable pub price_line_of : List ℕ → Option PriceLine
 price_line_of piece = option_map_or pin_of_fields (after_word (codes "pin") piece) (option_and_then price_of_fields (after_word (codes "price") piece))
 
 -- ---- the lines read so far
 
--- the lines have no error, and `changes` has for each import its change by these lines, if there is one
+-- the lines have no error, and `changes` has for each import of the network the change that a line states, or None
 pub record AreChanges (net : Network) (lines : List PriceLine) (changes : List (Option Change)) : Type 0 where
   pub good : AreGoodPrices net lines
-  pub told_is : changes ≡ map (change_of net lines) net.imports
+  pub changes_are : changes ≡ map (change_of net lines) net.imports
 
 -- the result of adding the bytes between two line ends
 abbrev pub TakesPricePiece : Network → List PriceLine → List ℕ → Result (Unit {0}) PriceLineFault → List (Option Change) → Type 0
@@ -59,14 +59,14 @@ TakesPricePiece net before piece (Err fault.TwicePrice) changes =
 abbrev pub AreChangesOf : Network → List ℕ → List (Option Change) → Type 0
 AreChangesOf net bytes changes = (lines : List PriceLine) × SpellPrices (pieces_of bytes) lines × AreChanges net lines changes
 
--- the counted weight: 0 for a pinned import
-abbrev pub unpinned_part : PinState → ℕ
-unpinned_part (Weighs w) = w
-unpinned_part (Stays w) = 0
+-- the weight of an unpinned import, 0 for a pinned one
+abbrev pub weight_if_unpinned : PinState → ℕ
+weight_if_unpinned (WithWeight w) = w
+weight_if_unpinned (WithPin w) = 0
 
 -- ---- errors
 
--- the error of the file, given the number of the line
+-- the error of a line, with the number of the line
 abbrev pub price_fault_in_line : ℕ → PriceLineFault → PriceFault
 price_fault_in_line line fault.BadLine = faults.BadLine line
 price_fault_in_line line fault.NoSuchImport = faults.NoSuchImport line

@@ -9,7 +9,7 @@ use Rattle.cut_net.specs.declared.priced.Priced.{Priced}
 use Rattle.cut_net.specs.declared.pin_state.Change.{Change}
 use Rattle.cut_net.specs.declared.pin_state.Change.TheVariants.{Price, Pin}
 use Rattle.cut_net.specs.declared.pin_state.PinState.{PinState}
-use Rattle.cut_net.specs.declared.pin_state.PinState.TheVariants.{Weighs, Stays}
+use Rattle.cut_net.specs.declared.pin_state.PinState.TheVariants.{WithWeight, WithPin}
 use Rattle.texts.specs.Fields.{is_name, line_of}
 use Rattle.cut_net.specs.Network.{Network, name_of}
 use Rattle.cut_net.specs.Cuts.{have_equal_ends}
@@ -35,13 +35,13 @@ abbrev pub IsChange : Change → Type 0
 IsChange (Price w) = w < 2 ^ 64
 IsChange Pin = Unit {0}
 
--- names are names, and a weight fits 64 bits
+-- the names of the line are identifiers, and its weight fits 64 bits
 pub record IsPriceLine (line : PriceLine) : Type 0 where
   pub importer : is_name line.importer ≡ true
   pub imported : is_name line.imported ≡ true
   pub change : IsChange line.change
 
--- the pieces that aren't empty are these lines
+-- the pieces that aren't empty are the bytes of these lines, in order
 abbrev pub SpellPrices : List (List ℕ) → List PriceLine → Type 0
 SpellPrices pieces lines = filter is_nonempty pieces ≡ map price_line lines
 
@@ -61,7 +61,7 @@ IsOfImport net line = (i : Priced) × Contains net.imports i × (changes_import 
 abbrev pub ChangeDifferentImports : PriceLine → PriceLine → Type 0
 ChangeDifferentImports line other = line.importer ≡ other.importer → line.imported ≢ other.imported
 
--- lines without an error
+-- the lines have no error: each is valid, is of an import of the network, and no two are of one import
 pub record AreGoodPrices (net : Network) (lines : List PriceLine) : Type 0 where
   pub each : All IsPriceLine lines
   pub known : All (IsOfImport net) lines
@@ -75,7 +75,7 @@ pub record IsPricePrefix (net : Network) (bytes : List ℕ) (k : ℕ) (lines : L
   pub good : AreGoodPrices net lines
   pub present : slice_get (pieces_of bytes) k ≡ Some piece
 
--- after lines without an error, a piece that is neither empty nor a line
+-- piece k is neither empty nor a line, and the pieces before it are lines without an error
 pub record IsBadPriceLine (net : Network) (bytes : List ℕ) (k : ℕ) : Type 0 where
   pub before : List PriceLine
   pub piece : List ℕ
@@ -83,7 +83,7 @@ pub record IsBadPriceLine (net : Network) (bytes : List ℕ) (k : ℕ) : Type 0 
   pub written : is_nonempty piece ≡ true
   pub wrong : (line : PriceLine) → IsPriceLine line → price_line line ≢ piece
 
--- after lines without an error, a line of an import that the network lacks
+-- piece k is a line of an import that the network lacks, and the pieces before it are lines without an error
 pub record IsUnknownImport (net : Network) (bytes : List ℕ) (k : ℕ) : Type 0 where
   pub before : List PriceLine
   pub line : PriceLine
@@ -91,7 +91,7 @@ pub record IsUnknownImport (net : Network) (bytes : List ℕ) (k : ℕ) : Type 0
   pub form : IsPriceLine line
   pub unknown : IsOfImport net line → ⊥
 
--- after lines without an error, a line of an import that an earlier line changes
+-- piece k is a line of an import that an earlier line changes, and the pieces before it are lines without an error
 pub record IsTwicePrice (net : Network) (bytes : List ℕ) (k : ℕ) : Type 0 where
   pub before : List PriceLine
   pub line : PriceLine
@@ -107,26 +107,26 @@ abbrev pub pin_of : Network → Priced → Option Priced
 pin_of net i = find (have_equal_ends i) net.pins
 
 abbrev pub initial_state : Priced → Option Priced → PinState
-initial_state i None = Weighs i.amount
-initial_state i (Some pin) = Stays pin.amount
+initial_state i None = WithWeight i.amount
+initial_state i (Some pin) = WithPin pin.amount
 
 -- the state of an import of the network
 abbrev pub pin_state_of : Network → Priced → PinState
 pin_state_of net i = initial_state i (pin_of net i)
 
 abbrev pub weight_in : PinState → ℕ
-weight_in (Weighs w) = w
-weight_in (Stays w) = w
+weight_in (WithWeight w) = w
+weight_in (WithPin w) = w
 
 -- the import with its weight, or the weight that it had before it was pinned
-abbrev pub as_weighed : Network → Priced → Priced
-as_weighed net i = record { from = i.from; to = i.to; amount = weight_in (pin_state_of net i) }
+abbrev pub with_own_weight : Network → Priced → Priced
+with_own_weight net i = record { from = i.from; to = i.to; amount = weight_in (pin_state_of net i) }
 
 -- the state after a change, if there is one. A price ends a pin
 abbrev pub changed_state : PinState → Option Change → PinState
 changed_state s None = s
-changed_state s (Some (Price w)) = Weighs w
-changed_state s (Some Pin) = Stays (weight_in s)
+changed_state s (Some (Price w)) = WithWeight w
+changed_state s (Some Pin) = WithPin (weight_in s)
 
 -- the change of an import by the lines
 abbrev pub change_of : Network → List PriceLine → Priced → Option Change
@@ -136,15 +136,15 @@ change_of net lines i = option_map (λ (line : PriceLine). line.change) (find (c
 abbrev pub pin_state_by : Network → List PriceLine → Priced → PinState
 pin_state_by net lines i = changed_state (pin_state_of net i) (change_of net lines i)
 
--- the import with the weight of its state
+-- the import with the weight that its state gives in a network: 2 ^ 40 + 1 if it is pinned
 abbrev pub import_with_state : Priced → PinState → Priced
-import_with_state i (Weighs w) = record { from = i.from; to = i.to; amount = w }
-import_with_state i (Stays w) = record { from = i.from; to = i.to; amount = most_weight + 1 }
+import_with_state i (WithWeight w) = record { from = i.from; to = i.to; amount = w }
+import_with_state i (WithPin w) = record { from = i.from; to = i.to; amount = most_weight + 1 }
 
--- its pin, if the state is pinned
+-- the pin of an import in this state, with the weight before it was pinned; no pin if it is unpinned
 abbrev pub pin_of_state : Priced → PinState → List Priced
-pin_of_state i (Weighs w) = []
-pin_of_state i (Stays w) = record { from = i.from; to = i.to; amount = w } ∷ []
+pin_of_state i (WithWeight w) = []
+pin_of_state i (WithPin w) = record { from = i.from; to = i.to; amount = w } ∷ []
 
 -- the network with these states of its imports
 abbrev pub with_pin_states : Network → (Priced → PinState) → Network
@@ -154,7 +154,7 @@ with_pin_states net pin_state = record {
   pins = flat_map (λ i. pin_of_state i (pin_state i)) net.imports;
 }
 
--- the network after these lines: each import has the state after its line, or its state without one
+-- the network after these lines: each import has the state after its line, or its old state if it has no line
 abbrev pub priced_by : Network → List PriceLine → Network
 priced_by net lines = with_pin_states net (pin_state_by net lines)
 
@@ -163,7 +163,7 @@ pub record PriceText (net : Network) (bytes : List ℕ) (lines : List PriceLine)
   pub spelled : SpellPrices (pieces_of bytes) lines
   pub good : AreGoodPrices net lines
 
--- the bytes are lines without an error, after which this is the network
+-- the bytes are lines without an error, and `priced` is the network after these lines
 pub record IsPriced (net : Network) (bytes : List ℕ) (priced : Network) : Type 0 where
   pub lines : List PriceLine
   pub text : PriceText net bytes lines

@@ -2,7 +2,7 @@
 
 use crate::Cut;
 
-/// A claim about two modules: a cut between them, or that none exists. The type has no invariant; a checker accepts any value.
+/// A claim about two modules: a cut between them, or that no cut exists. The type has no invariant, since a checker has to judge any value.
 #[derive(Drop)]
 pub enum Answer {
     /// A cut, whose removal leaves no path from the one module to the other.

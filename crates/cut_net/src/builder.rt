@@ -5,20 +5,21 @@ ghost use Rattle.cut_net.specs.declared.builder.NetLineFault.TheVariants.{Memory
 ghost use Rattle.std.specs.List.{slice_index_or};
 ghost use Rattle.cut_net.specs.Network.{texts};
 ghost use Rattle.cut_net.specs.NetText.{IsNetLine, NetLine, Module, Import};
-ghost use Rattle.cut_net.specs.NetReading.{line_content, noted, AddsLine, HasLines, TakesPiece};
+ghost use Rattle.cut_net.specs.NetReading.{line_content, with_name, AddsLine, HasLines, TakesPiece};
 
 use crate::NetFault;
 use crate::lines::{Line, parse_line};
 use indexmap::{IndexMap, IndexSet};
 use std::alloc::{AllocError, AllocFailed, Global};
 use text_hash::Seed;
-use texts::fields::cut_at_byte;
+use texts::fields::split_at_byte;
 
+/// The largest number of names of a network.
 pub(crate) const MOST_NAMES: usize = 8192;
 
 pub(crate) const MOST_IMPORTS: usize = 65536;
 
-/// The smallest number of bytes of a line for each of its names, to estimate the number of keys.
+/// A divisor to estimate the number of hash keys of a text: it has at most one name for each 6 bytes.
 const BYTES_A_NAME: usize = 6;
 
 /// The error of one line.
@@ -33,7 +34,7 @@ impl NetLineFault {
     ghost use Rattle.std.specs.Prelude.{◌≡◌};
     ghost use Rattle.cut_net.specs.NetReading.{net_fault_in_line};
 
-    /// The error of the text, given the number of the line.
+    /// The error with the number of its line.
     pub(crate) fn at(self, line: u64) -> NetFault
         ensures { result ≡ net_fault_in_line line self }
     {
@@ -75,10 +76,10 @@ pub(crate) struct NetBuilder {
     pub(crate) imports: IndexMap<(usize, usize), u64, Seed>,
 }
 
-/// The text by whose length tables and hash seeds are chosen: empty if the first line is invalid, so that no digest is computed and no
+/// The text that determines the size of tables and the hash seed: empty if the first line is invalid. So no digest is computed and no
 /// slot allocated for a text that is rejected at once.
 pub(crate) fn text_for_sizing(bytes: &[u8]) -> &[u8] {
-    let first = match cut_at_byte(bytes, b'\n') {
+    let first = match split_at_byte(bytes, b'\n') {
         Some((piece, _)) => piece,
         None => bytes,
     };
@@ -94,13 +95,13 @@ pub(crate) fn seed_of(bytes: &[u8]) -> Seed {
     Seed::for_keys(text, text.len() / BYTES_A_NAME)
 }
 
-/// The index of a name in order of first occurrence. A new name is added.
+/// The index of the name in `names`, to which a new name is appended.
 pub(crate) fn intern_name(
     alloc: Global,
     names: &mut IndexSet<String, Seed>,
     name: &str,
 ) -> Result<usize, AllocError>
-    ensures names { OnOk result (texts names.new.keys ≡ noted (texts names.old.keys) name.now) }
+    ensures names { OnOk result (texts names.new.keys ≡ with_name (texts names.old.keys) name.now) }
     ensures within { IfOk result (λ at. at < length (texts names.new.keys)) }
     ensures place { IfOk result (λ at. slice_index_or (texts names.new.keys) at [] ≡ name.now) }
 {
@@ -111,7 +112,7 @@ pub(crate) fn intern_name(
     Ok(at)
 }
 
-/// Adds an import unless the table has it, and returns whether it has.
+/// Adds an import, given by the indices of its two names. Returns whether the table had an import of these names before.
 fn insert_import(
     imports: &mut IndexMap<(usize, usize), u64, Seed>,
     ends: (usize, usize),
@@ -137,6 +138,7 @@ impl NetBuilder {
         }
     }
 
+    /// Adds the name of a `module` line. Fails with `TooMany` if the builder then has more than 8,192 names.
     fn add_module(&mut self, alloc: Global, name: &str) -> Result<(), NetLineFault>
         ensures { (before : List NetLine) → HasLines before self.old → IsNetLine (Module name.now) → AddsLine before (Module name.now) result self.new }
     {
@@ -147,6 +149,8 @@ impl NetBuilder {
         Ok(())
     }
 
+    /// Adds the names and the import of an `import` line. Fails with `TwiceImport` if an earlier line has the import, and with `TooMany`
+    /// if the builder then has more than 8,192 names or 65,536 imports.
     fn add_import(
         &mut self,
         alloc: Global,
@@ -167,6 +171,7 @@ impl NetBuilder {
         Ok(())
     }
 
+    /// Adds a parsed line.
     fn add(&mut self, alloc: Global, line: Line<'_>) -> Result<(), NetLineFault>
         ensures { (before : List NetLine) → HasLines before self.old → IsNetLine (line_content line.entry) → AddsLine before (line_content line.entry) result self.new }
     {
@@ -178,7 +183,7 @@ impl NetBuilder {
         }
     }
 
-    /// Adds the line that these bytes are; nothing for an empty line.
+    /// Parses the bytes between two line ends, and adds their line. Empty bytes add nothing.
     pub(crate) fn take(&mut self, alloc: Global, piece: &[u8]) -> Result<(), NetLineFault>
         ensures { (before : List NetLine) → HasLines before self.old → TakesPiece before piece.now result self.new }
     {

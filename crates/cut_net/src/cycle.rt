@@ -23,8 +23,8 @@ pub(crate) fn import_edges(alloc: Global, imports: &[Priced]) -> Result<Vec<Edge
     Ok(pairs)
 }
 
-/// The canonical cycle of the imports, as module numbers; none if they are acyclic. The imports are strictly sorted and lead between the
-/// first `nodes` modules.
+/// The canonical cycle of the imports (as `digraph` defines it), as module numbers; none if the imports are acyclic. The imports are
+/// strictly sorted and lead between the first `nodes` modules.
 pub(crate) fn find_canonical_cycle(
     alloc: Global,
     imports: &[Priced],
@@ -39,5 +39,5 @@ pub(crate) fn find_canonical_cycle(
     ensures none { IfOk result (λ answer. IfNone answer (IsAcyclic imports.now)) }
 {
     let pairs = import_edges(alloc, imports)?;
-    digraph::cycle(alloc, pairs.as_slice(), nodes)
+    digraph::find_canonical_cycle(alloc, pairs.as_slice(), nodes)
 }

@@ -3,7 +3,7 @@
 use std::alloc::{AllocError, AllocFailed};
 use thiserror::Error;
 
-/// The first error of a text: of the errors of lines that of the first line, then the total weight, then a cycle. Lines are numbered from
+/// The error of a network's text: the error of the first line that has one, else `WeightOverflow`, else `Cycle`. Lines are numbered from
 /// 1, and empty lines count.
 #[derive(Debug, Drop, Error)]
 pub enum NetFault {

@@ -7,14 +7,14 @@ ghost use Rattle.cut_net.specs.Network.{missing_item};
 use crate::Priced;
 use std::cmp::Ordering;
 
-/// Compares by importer, then by imported module.
+/// Compares two imports by importer, then by imported module; amounts don't count.
 fn compare_ends(line: &Priced, import: Priced) -> Ordering
     ensures { result ≡ compare_ends line.now import }
 {
     line.from.cmp(&import.from).then(line.to.cmp(&import.to))
 }
 
-/// The index of the line with the import's two modules, by binary search. The lines are strictly sorted.
+/// The index of the entry of `lines` with the two modules of `import`, by binary search; `None` if there is none.
 pub(crate) fn find_import_index(lines: &[Priced], import: Priced) -> Option<usize>
     // The lines are strictly sorted.
     requires { IsAscending lines.now }

@@ -1,8 +1,8 @@
 //! Networks: modules by name and weighted imports, their text, prices and pins, and the laws of cuts and flows (Ford and Fulkerson 1956;
 //! Goldberg and Tarjan 1988).
 //! Depends on `texts` for names and numbers, `digraph` for cycles, `text_hash` and `indexmap` for tables, `thiserror` for errors.
-//! The main calls are `Net::read` and `Net::price`. A network is exactly what its text states, within its limits and without a cycle; an
-//! error is the first one of the text.
+//! The main calls are `Net::read` and `Net::price`. `Net::read` returns the network that a text states, or the text's first error; a
+//! network that exceeds the limits or has a cycle is an error.
 #![tactic(auto)]
 
 mod answer;

@@ -7,7 +7,7 @@ ghost use Rattle.std.specs.String.{string_bytes, string_cmp};
 ghost use Rattle.cut_net.specs.NetReading.{net_of, net_with};
 ghost use Rattle.cut_net.specs.Network.{index_of, name_of};
 ghost use Rattle.cut_net.specs.Pins.{is_pinned, ArePins};
-ghost use Rattle.cut_net.specs.Prices.{as_weighed};
+ghost use Rattle.cut_net.specs.Prices.{with_own_weight};
 ghost use Rattle.cut_net.specs.WellFormed.{IsNetwork};
 
 use crate::Priced;
@@ -39,7 +39,7 @@ impl Model for Net {
         × ArePins (record { names = map string_bytes n.names.items; imports = n.imports.items; pins = n.pins.items }) };
 }
 
-/// The index of a name, by binary search; none if the list lacks it. The names are strictly sorted.
+/// The index of a name in a strictly sorted list, by binary search; none if the list lacks it.
 pub fn name_index(names: &[String], name: &str) -> Option<usize>
     // The names are strictly sorted.
     requires { IsStrictlySortedBy string_cmp names.now }
@@ -53,7 +53,7 @@ pub fn name_index(names: &[String], name: &str) -> Option<usize>
 
 impl Net {
     /// The network of these names and imports, which satisfy the invariant. Nothing is pinned.
-    pub fn of(alloc: Global, names: Vec<String>, imports: Vec<Priced>) -> Net
+    pub fn from_parts(alloc: Global, names: Vec<String>, imports: Vec<Priced>) -> Net
         // Names and imports satisfy the invariant.
         requires { IsNetwork (net_of names.items imports.items) }
         // The network has these names and imports, and no pins.
@@ -71,7 +71,7 @@ impl Net {
     pub fn with_pins(names: Vec<String>, imports: Vec<Priced>, pins: Vec<Priced>) -> Net
         // Names and imports satisfy the invariant.
         requires network { IsNetwork (net_with names.items imports.items pins.items) }
-        // So do the pins.
+        // The pins satisfy the invariant of pins.
         requires pins { ArePins (net_with names.items imports.items pins.items) }
         // The network has these names, imports and pins.
         ensures { result ≡ net_with names.items imports.items pins.items }
@@ -91,7 +91,7 @@ impl Net {
         // The pins are imports of the network, and the unpinned imports weigh at most 2^40 if there is a pin.
         ensures pins { ArePins self.now }
     {
-        // Using a field makes the facts of the type known here.
+        // The prover knows the type's invariant only after a use of a field.
         let _ = &self.names;
     }
 
@@ -136,7 +136,7 @@ impl Net {
         // There is an import of this number.
         requires { import < length self.now.imports }
         // It has its weight, or the weight that it had before it was pinned.
-        ensures { IfSome (slice_get self.now.imports import) (λ i. result ≡ as_weighed self.now i) }
+        ensures { IfSome (slice_get self.now.imports import) (λ i. result ≡ with_own_weight self.now i) }
     {
         let import = self.imports[import as usize];
         match find_import(self.pins.as_slice(), import) {

@@ -16,7 +16,7 @@ use crate::ordering::{is_ascending, sorted_by_counting};
 use crate::recent::NameCache;
 use std::alloc::{AllocError, Global};
 
-/// A copy of the names.
+/// A copy of the names, in their order.
 pub(crate) fn copy_names(alloc: Global, names: &[String]) -> Result<Vec<String>, AllocError>
     ensures { IfOk result (λ copies. texts copies.items ≡ texts names.now) }
 {
@@ -27,8 +27,8 @@ pub(crate) fn copy_names(alloc: Global, names: &[String]) -> Result<Vec<String>,
     Ok(copies)
 }
 
-/// The names, sorted.
-pub(crate) fn sorted(alloc: Global, names: &[String]) -> Result<Vec<String>, AllocError>
+/// A sorted copy of the names, which are distinct.
+pub(crate) fn sorted_copy(alloc: Global, names: &[String]) -> Result<Vec<String>, AllocError>
     requires once { IsDistinct bytes_eq (texts names.now) }
     ensures ascending { IfOk result (λ sorted. AreNamesInOrder (texts sorted.items)) }
     ensures same { IfOk result (λ sorted. IsPermutation (texts names.now) (texts sorted.items)) }
@@ -38,7 +38,8 @@ pub(crate) fn sorted(alloc: Global, names: &[String]) -> Result<Vec<String>, All
     Ok(sorted)
 }
 
-fn number_of(names: &[String], name: &str) -> u32
+/// The index of a name in a strictly sorted list that has it.
+fn number_of_name(names: &[String], name: &str) -> u32
     requires ascending { AreNamesInOrder (texts names.now) }
     requires few { length names.now ≤ 8192 }
     requires known { Contains (texts names.now) name.now }
@@ -48,7 +49,7 @@ fn number_of(names: &[String], name: &str) -> u32
     name_index(names, name).unwrap() as u32
 }
 
-/// The number of a name, which is compared with the name at index `cached_index` before a binary search.
+/// The index of a name in a strictly sorted list that has it. Compares the name at `cached_index` first, to save the binary search.
 fn number_by_guess(names: &[String], cached_index: usize, name: &str) -> u32
     requires ascending { AreNamesInOrder (texts names.now) }
     requires few { length names.now ≤ 8192 }
@@ -59,11 +60,11 @@ fn number_by_guess(names: &[String], cached_index: usize, name: &str) -> u32
     if cached_index < names.len() && names[cached_index].as_str() == name {
         cached_index as u32
     } else {
-        number_of(names, name)
+        number_of_name(names, name)
     }
 }
 
-/// For each name in order of first occurrence its number, which is its index among the sorted names.
+/// For each name of `old` its index in `names`, the sorted list of the same names.
 pub(crate) fn numbers_of(
     alloc: Global,
     old: &[String],
@@ -75,7 +76,7 @@ pub(crate) fn numbers_of(
     ensures size { IfOk result (λ numbers. vec_len numbers ≡ length old.now) }
     ensures numbers { IfOk result (λ numbers. (k : ℕ) → k < length numbers.items → (slice_index numbers.items k < length (texts names.now)) × (slice_index_or (texts names.now) (slice_index numbers.items k) [] ≡ slice_index_or (texts old.now) k [])) }
 {
-    let slots = NameCache::of(alloc, names);
+    let slots = NameCache::from_names(alloc, names);
     let mut numbers = Vec::with_capacity(alloc, old.len())?;
     for name in old {
         let name = name.as_str();
@@ -84,7 +85,7 @@ pub(crate) fn numbers_of(
     Ok(numbers)
 }
 
-/// The import with the indices of its names replaced by module numbers.
+/// The import whose names have the indices `ends`, with these replaced by module numbers: index k by `numbers[k]`.
 pub(crate) fn renumbered_import(numbers: &[u32], ends: (usize, usize), amount: u64) -> Priced
     requires placed { (ends.0 < length numbers.now) × (ends.1 < length numbers.now) }
     ensures between { (old names : List (List ℕ)) → ((k : ℕ) → k < length numbers.now → (slice_index numbers.now k < length names) × (slice_index_or names (slice_index numbers.now k) [] ≡ slice_index_or old k [])) → (result.from < length names) × (result.to < length names) }
@@ -97,7 +98,7 @@ pub(crate) fn renumbered_import(numbers: &[u32], ends: (usize, usize), amount: u
     }
 }
 
-/// The imports with module numbers, in order of first occurrence.
+/// The builder's imports in the order of their lines, each with the numbers of its modules: the indices of their names in `names`.
 fn numbered_imports(
     alloc: Global,
     builder: &NetBuilder,
@@ -121,9 +122,9 @@ fn numbered_imports(
 /// Sorts imports by importer and imported module: in linear time by counting sort if there are enough imports for their modules,
 /// otherwise by comparisons.
 pub fn sort_imports(imports: &mut Vec<Priced>)
-    // They are the given imports.
+    // The new imports are the old ones in another order.
     ensures same { IsPermutation imports.old.items imports.new.items }
-    // They are strictly sorted, if no two have the same modules.
+    // The new imports are strictly sorted, if no two of the old ones have equal modules.
     ensures ascending { IsDistinct have_equal_ends imports.old.items → IsAscending imports.new.items }
 {
     if is_ascending(imports) {
@@ -136,8 +137,8 @@ pub fn sort_imports(imports: &mut Vec<Priced>)
     imports.sort_unstable_by_key(|import| (import.from, import.to));
 }
 
-/// The names and imports of the network whose lines the builder has.
-pub(crate) fn sorted_lists(
+/// The names and imports of the builder's lines, both sorted, with module numbers by name.
+pub(crate) fn sorted_names_and_imports(
     alloc: Global,
     builder: &NetBuilder,
 ) -> Result<(Vec<String>, Vec<Priced>), AllocError>
@@ -146,14 +147,14 @@ pub(crate) fn sorted_lists(
     ensures few_names { IfOk result (λ lists. length lists.0.items ≤ 8192) }
     ensures few_imports { IfOk result (λ lists. length lists.1.items ≤ 65536) }
 {
-    let names = sorted(alloc, builder.names.as_slice())?;
+    let names = sorted_copy(alloc, builder.names.as_slice())?;
     let mut imports = numbered_imports(alloc, builder, names.as_slice())?;
     sort_imports(&mut imports);
     Ok((names, imports))
 }
 
 /// Whether the sum of the weights fits 64 bits.
-pub(crate) fn fits(imports: &[Priced]) -> bool
+pub(crate) fn total_weight_fits(imports: &[Priced]) -> bool
     ensures { IsTrue result ↔ (sum_by (λ i. i.amount) imports.now < 2 ^ 64) }
 {
     let mut total: u64 = 0;

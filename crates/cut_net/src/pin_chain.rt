@@ -16,7 +16,7 @@ impl Net {
         requires from { from < length self.now.names }
         // `to` is a module.
         requires to { to < length self.now.names }
-        // The path has the fewest imports, and of those the smallest modules, from the first on.
+        // The path has the fewest imports of all paths of pinned imports; of several it is the lexicographically smallest.
         ensures found { IfOk result (λ answer. IfSome answer (λ chain. IsLeastPinChain self.now from to chain.items)) }
         // Without a result no path of pinned imports leads from `from` to `to`.
         ensures none { IfOk result (λ answer. IfNone answer (PinChain self.now from to → ⊥)) }

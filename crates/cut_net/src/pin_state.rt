@@ -1,10 +1,10 @@
-//! States of imports, and changes of them.
+//! The states of imports, weighed or pinned, and the changes of states by a prices file.
 
-/// The state of an import: its weight, or that it is pinned, with the weight that it had before.
+/// The state of an import: unpinned with this weight, or pinned with the weight that it had before it was pinned.
 #[derive(Clone, Copy)]
 pub(crate) enum PinState {
-    Weighs(u64),
-    Stays(u64),
+    WithWeight(u64),
+    WithPin(u64),
 }
 
 /// The change of an import by a line: a new weight, or a pin.

@@ -3,8 +3,8 @@
 use std::alloc::{AllocError, AllocFailed};
 use thiserror::Error;
 
-/// The first error of a prices file: of the errors of lines that of the first line, within a line in this order, then the sum of the
-/// weights. Lines are numbered from 1, and empty lines count.
+/// The error of a prices file: the error of the first line that has one, else `PriceOverflow`. If a line has several errors, the first
+/// one in this order is returned. Lines are numbered from 1, and empty lines count.
 #[derive(Clone, Copy, Debug, Error)]
 pub enum PriceFault {
     /// The line is neither empty nor a valid `price` or `pin` line.
@@ -58,7 +58,7 @@ impl PriceLineFault {
     ghost use Rattle.std.specs.Prelude.{◌≡◌};
     ghost use Rattle.cut_net.specs.PriceReading.{price_fault_in_line};
 
-    /// The error of the text, given the number of the line.
+    /// The error with the number of its line.
     pub(crate) fn at(self, line: u64) -> PriceFault
         ensures { result ≡ price_fault_in_line line self }
     {

@@ -4,9 +4,9 @@ ghost use Rattle.cut_net.specs.PriceReading.{line_content, pin_of_fields, price_
 
 use crate::lines::fields_after_keyword;
 use crate::pin_state::Change;
-use texts::fields::{cut_at_byte, parse_field_name, parse_field_number};
+use texts::fields::{parse_field_name, parse_field_number, split_at_byte};
 
-/// A line: the names of its import, and the change.
+/// A line of a prices file: the names of the importer and of the imported module, and the change of the import.
 #[derive(Clone, Copy)]
 pub(crate) struct PriceLine<'a> {
     pub(crate) importer: &'a str,
@@ -14,11 +14,12 @@ pub(crate) struct PriceLine<'a> {
     pub(crate) change: Change,
 }
 
+/// The `pin` line with these fields: two names.
 #[tactic(auto, unfolding(crate::specs::PriceReading::pin_of_fields))]
 fn parse_pin(fields: &[u8]) -> Option<PriceLine<'_>>
     ensures { option_map line_content result ≡ pin_of_fields fields.now }
 {
-    let (importer, imported) = cut_at_byte(fields, b' ')?;
+    let (importer, imported) = split_at_byte(fields, b' ')?;
     let importer = parse_field_name(importer)?;
     let imported = parse_field_name(imported)?;
     Some(PriceLine {
@@ -28,12 +29,13 @@ fn parse_pin(fields: &[u8]) -> Option<PriceLine<'_>>
     })
 }
 
+/// The `price` line with these fields: two names and a weight.
 #[tactic(auto, unfolding(crate::specs::PriceReading::price_of_fields))]
 fn parse_price(fields: &[u8]) -> Option<PriceLine<'_>>
     ensures { option_map line_content result ≡ price_of_fields fields.now }
 {
-    let (importer, rest) = cut_at_byte(fields, b' ')?;
-    let (imported, weight) = cut_at_byte(rest, b' ')?;
+    let (importer, rest) = split_at_byte(fields, b' ')?;
+    let (imported, weight) = split_at_byte(rest, b' ')?;
     let importer = parse_field_name(importer)?;
     let imported = parse_field_name(imported)?;
     let weight = parse_field_number(weight)?;
@@ -44,7 +46,7 @@ fn parse_price(fields: &[u8]) -> Option<PriceLine<'_>>
     })
 }
 
-/// The line that these bytes are, without a line end.
+/// Parses the bytes of a line, without its line end; none if they are no valid line.
 #[tactic(auto, unfolding(crate::specs::PriceReading::price_line_of))]
 pub(crate) fn parse_price_line(piece: &[u8]) -> Option<PriceLine<'_>>
     ensures { option_map line_content result ≡ price_line_of piece.now }

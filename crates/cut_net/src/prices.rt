@@ -8,7 +8,7 @@ ghost use Rattle.cut_net.specs.declared.pin_state.PinState.{PinState};
 ghost use Rattle.cut_net.specs.Network.{Network, missing_item};
 ghost use Rattle.cut_net.specs.Pins.{most_weight};
 ghost use Rattle.cut_net.specs.Prices.{import_with_state, is_named, pin_of_state, pin_state_of, with_pin_states, changed_state, initial_state, IsPriceOutcome, PriceLine, HasOutcome, UnlessMemory};
-ghost use Rattle.cut_net.specs.PriceReading.{unpinned_part, AreChanges, AreChangesOf, TakesPricePiece};
+ghost use Rattle.cut_net.specs.PriceReading.{weight_if_unpinned, AreChanges, AreChangesOf, TakesPricePiece};
 
 use crate::found::{find_import, find_import_index};
 use crate::numbering::copy_names;
@@ -41,8 +41,13 @@ pub fn find_import_number(net: &Net, importer: &str, imported: &str) -> Option<u
     )
 }
 
-/// Records the change of the line that these bytes are, at the number of its import; nothing for an empty line.
-fn note(net: &Net, changes: &mut Vec<Option<Change>>, piece: &[u8]) -> Result<(), PriceLineFault>
+/// Parses the bytes between two line ends, and records the change of their line in `changes`, at the number of its import. Empty bytes
+/// record nothing.
+fn record_change(
+    net: &Net,
+    changes: &mut Vec<Option<Change>>,
+    piece: &[u8],
+) -> Result<(), PriceLineFault>
     requires { length changes.old.items ≡ length net.now.imports }
     ensures { (before : List PriceLine) → AreChanges net.now before changes.old.items → TakesPricePiece net.now before piece.now result changes.new.items }
 {
@@ -63,7 +68,7 @@ fn note(net: &Net, changes: &mut Vec<Option<Change>>, piece: &[u8]) -> Result<()
     Ok(())
 }
 
-/// For each import its change, none without a line; or the error of the first line that has one.
+/// For each import the change that a line of the file states, `None` if no line is about it. Or the error of the first line that has one.
 fn read_changes(alloc: Global, net: &Net, bytes: &[u8]) -> Result<Vec<Option<Change>>, PriceFault>
     ensures changes { IfOk result (λ changes. AreChangesOf net.now bytes.now changes.items) }
     ensures fault { IfErr result (λ fault. UnlessMemory fault (IsPriceOutcome net.now bytes.now (Err fault))) }
@@ -72,14 +77,14 @@ fn read_changes(alloc: Global, net: &Net, bytes: &[u8]) -> Result<Vec<Option<Cha
     let mut line = 0;
     for piece in bytes.split(|b| *b == b'\n') {
         line += 1;
-        if let Err(fault) = note(net, &mut changes, piece) {
+        if let Err(fault) = record_change(net, &mut changes, piece) {
             return Err(fault.at(line));
         }
     }
     Ok(changes)
 }
 
-/// The state of an import after its change, given its current pin.
+/// The state of an import after its change, if it has one. `pin` is the import's current pin, with the weight before it was pinned.
 fn pin_state_after(import: Priced, pin: Option<Priced>, changes: Option<Change>) -> PinState
     ensures { result ≡ changed_state (initial_state import pin) changes }
 {
@@ -88,19 +93,19 @@ fn pin_state_after(import: Priced, pin: Option<Priced>, changes: Option<Change>)
         None => import.amount,
     };
     match changes {
-        Some(Change::Price(weight)) => PinState::Weighs(weight),
-        Some(Change::Pin) => PinState::Stays(before),
+        Some(Change::Price(weight)) => PinState::WithWeight(weight),
+        Some(Change::Pin) => PinState::WithPin(before),
         None => {
             if pin.is_some() {
-                PinState::Stays(before)
+                PinState::WithPin(before)
             } else {
-                PinState::Weighs(before)
+                PinState::WithWeight(before)
             }
         }
     }
 }
 
-/// The state of each import after its change.
+/// For each import of the network its weight and whether it is pinned, after its change if it has one.
 fn pin_states_of(
     alloc: Global,
     net: &Net,
@@ -122,11 +127,11 @@ fn pin_states_of(
 
 /// Whether the weights of the unpinned imports sum to at most 2^40.
 fn are_weights_in_limit(pin_states: &[PinState]) -> bool
-    ensures { IsTrue result ↔ (sum_by unpinned_part pin_states.now ≤ most_weight) }
+    ensures { IsTrue result ↔ (sum_by weight_if_unpinned pin_states.now ≤ most_weight) }
 {
     let mut total: u64 = 0;
     for pin_state in pin_states {
-        if let PinState::Weighs(weight) = pin_state {
+        if let PinState::WithWeight(weight) = pin_state {
             if *weight > MOST_WEIGHT - total {
                 return false;
             }
@@ -136,13 +141,13 @@ fn are_weights_in_limit(pin_states: &[PinState]) -> bool
     true
 }
 
-/// The import with the weight of its state.
+/// The import with the weight that its state gives in the network: 2^40 + 1 if it is pinned.
 fn import_with_state(import: Priced, pin_state: PinState) -> Priced
     ensures { result ≡ import_with_state import pin_state }
 {
     let amount = match pin_state {
-        PinState::Weighs(weight) => weight,
-        PinState::Stays(_) => MOST_WEIGHT + 1,
+        PinState::WithWeight(weight) => weight,
+        PinState::WithPin(_) => MOST_WEIGHT + 1,
     };
     Priced {
         from: import.from,
@@ -151,7 +156,7 @@ fn import_with_state(import: Priced, pin_state: PinState) -> Priced
     }
 }
 
-/// The imports with the weights of their states.
+/// The imports with the weights that their states give in the network: 2^40 + 1 for a pinned import.
 fn imports_with_states(
     alloc: Global,
     imports: &[Priced],
@@ -178,7 +183,7 @@ fn pins_of_states(
 {
     let mut pins = Vec::new(alloc);
     for number in 0..imports.len() {
-        if let PinState::Stays(amount) = pin_states[number] {
+        if let PinState::WithPin(amount) = pin_states[number] {
             pins.push(Priced {
                 from: imports[number].from,
                 to: imports[number].to,
@@ -192,7 +197,7 @@ fn pins_of_states(
 /// The network with these states of its imports.
 fn with_pin_states(alloc: Global, net: &Net, pin_states: &[PinState]) -> Result<Net, AllocError>
     requires pin_state { (pin_state : Priced → PinState) × (pin_states.now ≡ map pin_state net.now.imports) }
-    requires light { sum_by unpinned_part pin_states.now ≤ most_weight }
+    requires light { sum_by weight_if_unpinned pin_states.now ≤ most_weight }
     ensures { IfOk result (λ changed. (pin_state : Priced → PinState) → pin_states.now ≡ map pin_state net.now.imports → changed ≡ with_pin_states net.now pin_state) }
 {
     net.invariants();
@@ -203,12 +208,12 @@ fn with_pin_states(alloc: Global, net: &Net, pin_states: &[PinState]) -> Result<
 }
 
 impl Net {
-    /// The network with the prices and pins of the file, or the first error: of the errors of lines that of the first line, then that the
+    /// The network with the prices and pins of the file. Or its error: that of the first line that has one, else `PriceOverflow` if the
     /// weights of the unpinned imports sum to more than 2^40.
     ///
-    /// Each line is `price M N k`, which sets the import's weight to k and ends a pin, or `pin M N`, after which the import can't be
-    /// removed and has unlimited capacity; in the syntax of a network's lines. An import has at most one line. Without a line it keeps
-    /// its weight and its pin.
+    /// Each line has the syntax of a network's lines. `price M N k` sets the weight of the import of N by M to k, and ends its pin.
+    /// `pin M N` pins the import: it can't be removed, and its capacity is unlimited. An import has at most one line; without a line it
+    /// keeps its weight and its pin.
     pub fn price(&self, bytes: &[u8]) -> Result<Net, PriceFault>
         // The result is an outcome of the file, unless an allocation failed.
         ensures exact { HasOutcome result (IsPriceOutcome self.now bytes.now) }
@@ -218,6 +223,7 @@ impl Net {
         self.priced(bytes)
     }
 
+    /// As `price`, without the clause that the outcome is unique.
     fn priced(&self, bytes: &[u8]) -> Result<Net, PriceFault>
         ensures { HasOutcome result (IsPriceOutcome self.now bytes.now) }
     {

@@ -12,11 +12,11 @@ ghost use Rattle.cut_net.specs.WellFormed.{AreBetween, IsAcyclic};
 use crate::builder::{NetBuilder, seed_of};
 use crate::cycle::find_canonical_cycle;
 use crate::line_list::lists_in_one_pass;
-use crate::numbering::{fits, names_of_nodes, sorted_lists};
+use crate::numbering::{names_of_nodes, sorted_names_and_imports, total_weight_fits};
 use crate::{Net, NetFault, Priced};
 use std::alloc::{AllocError, Global};
 
-/// Adds the lines of the text to an empty builder, or returns the error of the first line that has one.
+/// Adds the lines of the text to an empty builder. Fails with the error of the first line that has one.
 fn fill_builder(alloc: Global, bytes: &[u8], builder: &mut NetBuilder) -> Result<(), NetFault>
     requires { HasLines [] builder.old }
     ensures built { OnOk result (HasTextLines bytes.now builder.new) }
@@ -45,10 +45,11 @@ fn lists_by_builder(
     ensures fault { IfErr result (λ fault. UnlessMemory fault (λ refusal. IsNetOutcome bytes.now (Err refusal))) }
 {
     fill_builder(alloc, bytes, builder)?;
-    Ok(sorted_lists(alloc, builder)?)
+    Ok(sorted_names_and_imports(alloc, builder)?)
 }
 
-/// The names and imports of the text, or its first error: in one pass if possible, otherwise by a builder, which is freed here.
+/// The names and imports of the text, or its first error: read in one pass if possible, otherwise by a builder. The builder is freed on
+/// return, before the cycle search allocates.
 fn lists_of_text(alloc: Global, bytes: &[u8]) -> Result<(Vec<String>, Vec<Priced>), NetFault>
     ensures text { IfOk result (λ lists. NetText bytes.now (net_of lists.0.items lists.1.items)) }
     ensures few_names { IfOk result (λ lists. length lists.0.items ≤ 8192) }
@@ -89,18 +90,18 @@ fn read_net(alloc: Global, bytes: &[u8]) -> Result<Net, NetFault>
     ensures { HasOutcome result (IsNetOutcome bytes.now) }
 {
     let (names, imports) = lists_of_text(alloc, bytes)?;
-    if !fits(imports.as_slice()) {
+    if !total_weight_fits(imports.as_slice()) {
         return Err(NetFault::WeightOverflow);
     }
     match names_on_cycle(alloc, names.as_slice(), imports.as_slice())? {
-        None => Ok(Net::of(alloc, names, imports)),
+        None => Ok(Net::from_parts(alloc, names, imports)),
         Some(names) => Err(NetFault::Cycle { names }),
     }
 }
 
 impl Net {
-    /// The network of a text, or its first error: of the errors of lines that of the first line, then a total weight above 2^64 - 1, then
-    /// a cycle.
+    /// The network of a text. Or its error: that of the first line that has one, else `WeightOverflow` if the total weight is above
+    /// 2^64 - 1, else `Cycle`.
     ///
     /// Each line is `module M` or `import M N w`: fields separated by one space, identifiers (Oberon-07 report, section 3), and a weight
     /// from 0 to 2^64 - 1 without leading zeros. Empty lines are skipped, and the last line end may be missing.

@@ -13,7 +13,7 @@ use Rattle.cut_net.specs.Cuts.{entering, leaving, leaves, IsFlow}
 use Rattle.cut_net.specs.Lines.{flow_by, edge_of}
 use Rattle.cut_net.proofs.ListSums.{sum_by-mono, sum_by-both, sum_by-tight}
 use Rattle.cut_net.proofs.Duality.{across, enters, cond_le}
-use Rattle.cut_part.specs.CapacityReduction.{ends_of, import_in, weighing, reweighed, weight_leaving, weight_entering, IsBarred, IsBarrier, DependsOnEndsOnly, IsEnough, IsMaxFlow, IsReducedAt, AreReductions, IsReduced}
+use Rattle.cut_part.specs.CapacityReduction.{ends_of, import_in, weighing, reweighed, weight_leaving, weight_entering, IsUnreachable, IsResidualBarrier, DependsOnEndsOnly, IsEnough, IsMaxFlow, IsReducedAt, AreReductions, IsReduced}
 use Rattle.cut_part.proofs.Sums.{same_entering, same_leaving, sum_one, sum_two}
 
 -- what holds at each number holds of each import, and each import has its number
@@ -141,9 +141,9 @@ module _ (net : Network) (a b : ℕ) (flow : Priced → ℕ) (value : ℕ) (by_e
       subst (Contains (reweighed net k amount).imports) ((import_now k).0 refl)
       (renumbering (reweighed net k amount).imports k (omega (arith, length-set net.imports k (weighing (import_in net.imports k) amount))))
 
-  module _ (modules : ℕ → Bool) (barrier : IsBarrier (reweighed net k amount) flow a b modules) where
+  module _ (modules : ℕ → Bool) (barrier : IsResidualBarrier (reweighed net k amount) flow a b modules) where
     -- where the reduced import doesn't lead out of the modules they are a barrier as they are
-    same_barrier : (modules (import_in net.imports k).from ≡ true → modules (import_in net.imports k).to ≡ true) → IsBarrier net flow a b modules
+    same_barrier : (modules (import_in net.imports k).from ≡ true → modules (import_in net.imports k).to ≡ true) → IsResidualBarrier net flow a b modules
     same_barrier goes = record {
       start = barrier.start;
       end = barrier.end;
@@ -175,7 +175,7 @@ module _ (net : Network) (a b : ℕ) (flow : Priced → ℕ) (value : ℕ) (by_e
           ]
 
       -- with the imported module they are a barrier: no other import brings flow into it, and all that leave it are full
-      with_imported : (import_in net.imports k).to ≢ b → weight_leaving net (import_in net.imports k).to ≤ amount → IsBarrier net flow a b (λ m. cond (m == (import_in net.imports k).to) true (modules m))
+      with_imported : (import_in net.imports k).to ≢ b → weight_leaving net (import_in net.imports k).to ≤ amount → IsResidualBarrier net flow a b (λ m. cond (m == (import_in net.imports k).to) true (modules m))
       with_imported not_b le =
           let x = (import_in net.imports k).to in
           let above = full in
@@ -219,7 +219,7 @@ module _ (net : Network) (a b : ℕ) (flow : Priced → ℕ) (value : ℕ) (by_e
 
       -- without the importer they are a barrier: it sends nothing over any other import, and all that enter it are full
       without_importer : AreBetween net.imports (length net.names) → a < length net.names → a ≢ b →
-          (import_in net.imports k).from ≢ a → weight_entering net (import_in net.imports k).from ≤ amount → IsBarrier net flow a b (λ m. cond (m == (import_in net.imports k).from) false (modules m))
+          (import_in net.imports k).from ≢ a → weight_entering net (import_in net.imports k).from ≤ amount → IsResidualBarrier net flow a b (λ m. cond (m == (import_in net.imports k).from) false (modules m))
       without_importer between a_in apart not_a le =
           let x = (import_in net.imports k).from in
           let above = full in
@@ -266,7 +266,7 @@ module _ (net : Network) (a b : ℕ) (flow : Priced → ℕ) (value : ℕ) (by_e
           }
 
     still_barred : AreBetween net.imports (length net.names) → a < length net.names → a ≢ b → IsEnough net a b (import_in net.imports k) amount →
-        IsFlow net a b flow value → IsBarred net flow a b
+        IsFlow net a b flow value → IsUnreachable net flow a b
     still_barred between a_in apart enough is_flow =
         elim (cases_Bool (modules (import_in net.imports k).to)) [
           | inl t_to ↦ (modules, same_barrier (λ _. t_to))

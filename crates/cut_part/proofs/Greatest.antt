@@ -8,7 +8,7 @@ use Rattle.cut_net.specs.WellFormed.{AreBetween}
 use Rattle.cut_net.specs.Cuts.{leaves, weight, IsSetOf, IsFlow, Reached}
 use Rattle.cut_net.proofs.ListSums.{sum_by-same}
 use Rattle.cut_net.proofs.Duality.{across, enters, value_within}
-use Rattle.cut_part.specs.CapacityReduction.{IsBarred, IsBarrier}
+use Rattle.cut_part.specs.CapacityReduction.{IsUnreachable, IsResidualBarrier}
 
 sum_of_none : (imports : List Priced) → sum_by (λ _. 0) imports ≡ 0
 sum_of_none [] = refl
@@ -24,7 +24,7 @@ cond_zero false x h = refl
 
 module _ (net : Network) (a b : ℕ) (flow : Priced → ℕ) (value : ℕ) (between : AreBetween net.imports (length net.names)) (a_in : a < length net.names) (is_flow : IsFlow net a b flow value) where
   -- the imports that leave a separating set weigh as much as the flow's value
-  pub barrier_weighs : (modules : ℕ → Bool) → IsBarrier net flow a b modules → weight net.imports (leaves modules) ≡ value
+  pub barrier_weighs : (modules : ℕ → Bool) → IsResidualBarrier net flow a b modules → weight net.imports (leaves modules) ≡ value
   barrier_weighs modules barrier =
       let e = across net a b flow value modules between a_in is_flow (record { start = barrier.start; end = barrier.end }) in
       let none : sum_by (λ i. cond (enters modules i) (flow i) 0) net.imports ≡ 0 =
@@ -44,14 +44,14 @@ module _ (net : Network) (a b : ℕ) (flow : Priced → ℕ) (value : ℕ) (betw
       ])) in
       omega arith
 
-  pub most : IsBarred net flow a b → (other : Priced → ℕ) (more : ℕ) → IsFlow net a b other more → more ≤ value
+  pub most : IsUnreachable net flow a b → (other : Priced → ℕ) (more : ℕ) → IsFlow net a b other more → more ≤ value
   most barred other more other_is =
       let e = barrier_weighs barred.0 barred.1 in
       let le = value_within net a b other more barred.0 between a_in other_is (record { start = barred.1.start; end = barred.1.end }) in
       omega arith
 
 -- so what is reached lacks b
-pub end_unreached : (net : Network) (a b : ℕ) (flow : Priced → ℕ) (modules : ℕ → Bool) → IsBarred net flow a b → IsSetOf modules (Reached net flow a) → modules b ≡ false
+pub end_unreached : (net : Network) (a b : ℕ) (flow : Priced → ℕ) (modules : ℕ → Bool) → IsUnreachable net flow a b → IsSetOf modules (Reached net flow a) → modules b ≡ false
 end_unreached net a b flow modules barred those =
     elim (cases_Bool (modules b)) [
       | inl t ↦ absurd (both_ways (barred.0 b) barred.1.end ((those b).0 t barred.0 barred.1.start barred.1.closed))
@@ -59,7 +59,7 @@ end_unreached net a b flow modules barred those =
     ]
 
 -- and where b isn't reached they don't lead to it
-pub barrier_by_reached : (net : Network) (a b : ℕ) (flow : Priced → ℕ) (modules : ℕ → Bool) → IsSetOf modules (Reached net flow a) → modules b ≡ false → IsBarrier net flow a b modules
+pub barrier_by_reached : (net : Network) (a b : ℕ) (flow : Priced → ℕ) (modules : ℕ → Bool) → IsSetOf modules (Reached net flow a) → modules b ≡ false → IsResidualBarrier net flow a b modules
 barrier_by_reached net a b flow modules those end = record {
   start = (those a).1 (λ _ start _. start);
   end = end;

@@ -13,55 +13,55 @@ use Rattle.residual_graph.specs.declared.arc.Arc.{Arc}
 use Rattle.residual_graph.specs.Graphs.{no_arc, room, head, tail, is_flagged, AreClosed, AreReached}
 use Rattle.residual_graph.proofs.Walking.{along, reaches_itself}
 use Rattle.cut_part.specs.Subnetworks.{IsBetween}
-use Rattle.cut_part.specs.Marks.{open_arc, AreReachable}
+use Rattle.cut_part.specs.Marks.{unit_capacity_arc, AreReachable}
 use Rattle.cut_part.specs.Reversal.{reversed}
 use Rattle.cut_part.proofs.Subnetworks.{onward}
 use Rattle.cut_part.proofs.Reversal.{twice}
 
-pub open_within : (imports : List Priced) → All (λ r. r.flow ≤ r.capacity) (map open_arc imports)
+pub open_within : (imports : List Priced) → All (λ r. r.flow ≤ r.capacity) (map unit_capacity_arc imports)
 open_within imports k d h =
-    let len = length-map imports open_arc in
-    rw (get_or-map open_arc imports k missing_item d (omega arith)) (omega arith)
+    let len = length-map imports unit_capacity_arc in
+    rw (get_or-map unit_capacity_arc imports k missing_item d (omega arith)) (omega arith)
 
-pub open_between : (imports : List Priced) (n : ℕ) → AreBetween imports n → All (λ r. (r.from < n) × (r.to < n)) (map open_arc imports)
+pub open_between : (imports : List Priced) (n : ℕ) → AreBetween imports n → All (λ r. (r.from < n) × (r.to < n)) (map unit_capacity_arc imports)
 open_between imports n between k d h =
-    let len = length-map imports open_arc in
+    let len = length-map imports unit_capacity_arc in
     let in_k : k < length imports = omega arith in
-    rw (get_or-map open_arc imports k missing_item d in_k) (between (get_or imports k missing_item) (Contains-get_or imports k missing_item in_k))
+    rw (get_or-map unit_capacity_arc imports k missing_item d in_k) (between (get_or imports k missing_item) (Contains-get_or imports k missing_item in_k))
 
 module _ (imports : List Priced) where
-  goes : (start k : ℕ) (forward : Bool) → k < length (map open_arc imports) → 0 < room (get_or (map open_arc imports) k no_arc) forward →
-      Chain imports Any start (tail (map open_arc imports) (record { arc = k; forward = forward })) → Chain imports Any start (head (map open_arc imports) (record { arc = k; forward = forward }))
+  goes : (start k : ℕ) (forward : Bool) → k < length (map unit_capacity_arc imports) → 0 < room (get_or (map unit_capacity_arc imports) k no_arc) forward →
+      Chain imports Any start (tail (map unit_capacity_arc imports) (record { arc = k; forward = forward })) → Chain imports Any start (head (map unit_capacity_arc imports) (record { arc = k; forward = forward }))
   goes start k true h some c =
-      let len = length-map imports open_arc in
+      let len = length-map imports unit_capacity_arc in
       let in_k : k < length imports = omega arith in
       let i = get_or imports k missing_item in
-      let e : get_or (map open_arc imports) k no_arc ≡ open_arc i = get_or-map open_arc imports k missing_item no_arc in_k in
+      let e : get_or (map unit_capacity_arc imports) k no_arc ≡ unit_capacity_arc i = get_or-map unit_capacity_arc imports k missing_item no_arc in_k in
       let from_is = subst (λ (r : Arc). Chain imports Any start r.from) e c in
       subst (λ (r : Arc). Chain imports Any start r.to) (sym e) (onward imports start i (Contains-get_or imports k missing_item in_k) from_is)
   goes start k false h some c =
-      let len = length-map imports open_arc in
+      let len = length-map imports unit_capacity_arc in
       let in_k : k < length imports = omega arith in
       let i = get_or imports k missing_item in
-      let e : get_or (map open_arc imports) k no_arc ≡ open_arc i = get_or-map open_arc imports k missing_item no_arc in_k in
+      let e : get_or (map unit_capacity_arc imports) k no_arc ≡ unit_capacity_arc i = get_or-map unit_capacity_arc imports k missing_item no_arc in_k in
       let none = subst (λ (r : Arc). 0 < r.flow) e some in
       absurd (omega arith)
 
-  module _ (nodes start : ℕ) (marks : List Bool) (start_in : start < nodes) (reached : AreReached (record { nodes = nodes; arcs = map open_arc imports }) start marks)
-      (closed : AreClosed (map open_arc imports) marks) where
+  module _ (nodes start : ℕ) (marks : List Bool) (start_in : start < nodes) (reached : AreReached (record { nodes = nodes; arcs = map unit_capacity_arc imports }) start marks)
+      (closed : AreClosed (map unit_capacity_arc imports) marks) where
     to_chain : (m : ℕ) → is_flagged marks m ≡ true → Chain imports Any start m
     to_chain m t =
         let (in_m, (path, way)) = (reached.each m).0 t in
-        along (λ v. Chain imports Any start v) (map open_arc imports) (λ s known left. goes start s.arc s.forward known left)
+        along (λ v. Chain imports Any start v) (map unit_capacity_arc imports) (λ s known left. goes start s.arc s.forward known left)
         start path m way.is_path.leads way.is_path.known way.left ([], refl)
 
     along_chain : (m : ℕ) → is_flagged marks m ≡ true → (more : List ℕ) (n : ℕ) → IsChain imports Any m more n → is_flagged marks n ≡ true
     along_chain m t [] n e = subst (λ v. is_flagged marks v ≡ true) e t
     along_chain m t (x ∷ more) n ((i, (k, in_k, at_k), from, to, any), rest) =
-        let len = length-map imports open_arc in
-        let e : get_or (map open_arc imports) k no_arc ≡ open_arc i = get_or-map open_arc imports k i no_arc in_k ∙ ap open_arc at_k in
-        let goes_on : 0 < (get_or (map open_arc imports) k no_arc).capacity - (get_or (map open_arc imports) k no_arc).flow →
-        is_flagged marks (get_or (map open_arc imports) k no_arc).from ≡ true → is_flagged marks (get_or (map open_arc imports) k no_arc).to ≡ true =
+        let len = length-map imports unit_capacity_arc in
+        let e : get_or (map unit_capacity_arc imports) k no_arc ≡ unit_capacity_arc i = get_or-map unit_capacity_arc imports k i no_arc in_k ∙ ap unit_capacity_arc at_k in
+        let goes_on : 0 < (get_or (map unit_capacity_arc imports) k no_arc).capacity - (get_or (map unit_capacity_arc imports) k no_arc).flow →
+        is_flagged marks (get_or (map unit_capacity_arc imports) k no_arc).from ≡ true → is_flagged marks (get_or (map unit_capacity_arc imports) k no_arc).to ≡ true =
         closed (record { arc = k; forward = true }) (omega arith) in
         let at_i : 0 < 1 - 0 → is_flagged marks i.from ≡ true → is_flagged marks i.to ≡ true =
         subst (λ (r : Arc). 0 < r.capacity - r.flow → is_flagged marks r.from ≡ true → is_flagged marks r.to ≡ true) e goes_on in
@@ -70,7 +70,7 @@ module _ (imports : List Priced) where
 
     pub are_chained : AreReachable imports start marks
     are_chained m =
-        (to_chain m, λ (more, chain). along_chain start ((reached.each start).1 (start_in, reaches_itself (map open_arc imports) start)) more m chain)
+        (to_chain m, λ (more, chain). along_chain start ((reached.each start).1 (start_in, reaches_itself (map unit_capacity_arc imports) start)) more m chain)
 
 -- a path of reversed imports, read backwards
 pub chain_back : (imports : List Priced) (b : ℕ) (more : List ℕ) (m : ℕ) → IsChain (map reversed imports) Any b more m → Chain imports Any m b

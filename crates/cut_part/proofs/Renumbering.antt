@@ -7,7 +7,7 @@ use Rattle.cut_net.specs.declared.priced.Priced.{Priced}
 use Rattle.cut_net.specs.Network.{Network}
 use Rattle.cut_net.specs.Cuts.{entering, leaving, leaves, weight, Chain, IsChain, IsFlow, IsMinimumSide, AreReported, IsReported, LeavesSourceSide, InSourceSide}
 use Rattle.cut_net.proofs.ListSums.{sum_by-same}
-use Rattle.cut_part.specs.CapacityReduction.{IsBarred, IsMaxFlow}
+use Rattle.cut_part.specs.CapacityReduction.{IsUnreachable, IsMaxFlow}
 use Rattle.cut_part.specs.Renumbering.{IsRenumbered, flow_renumbered, renumbered}
 use Rattle.cut_part.proofs.Sums.{sum_by-map}
 use Rattle.cut_part.proofs.Subnetworks.{none_counts}
@@ -87,7 +87,7 @@ module _ (whole small : Network) (number back : ℕ → ℕ) (is : IsRenumbered 
         at_start = let s = is_flow.at_start in let i = into_number a a_in in let o = out_number a a_in in omega arith;
       }
 
-      barred_up : IsBarred small (flow_renumbered number flow) a b → IsBarred (lifted whole small number) flow (number a) (number b)
+      barred_up : IsUnreachable small (flow_renumbered number flow) a b → IsUnreachable (lifted whole small number) flow (number a) (number b)
       barred_up (modules, barrier) = (
         λ m. modules (back m),
         record {
@@ -194,7 +194,7 @@ module _ (whole small : Network) (number back : ℕ → ℕ) (is : IsRenumbered 
   pub greatest_up_is : (flow : Priced → ℕ) (value : ℕ) → IsMaxFlow small a b (flow_renumbered number flow) value → IsMaxFlow whole (number a) (number b) flow value
   greatest_up_is flow value greatest = record {
     is_flow = flow_up_is flow value greatest.is_flow;
-    barred = subst (λ (n : Network). IsBarred n flow (number a) (number b)) (sym (is_lifted whole small number back is)) (barred_up whole small number back is flow a b a_in b_in value greatest.barred);
+    barred = subst (λ (n : Network). IsUnreachable n flow (number a) (number b)) (sym (is_lifted whole small number back is)) (barred_up whole small number back is flow a b a_in b_in value greatest.barred);
   }
 
   pub printed_up_is : (x : Priced → Bool) → AreReported small a b x → AreReported whole (number a) (number b) (λ i. x (renumbered back i))

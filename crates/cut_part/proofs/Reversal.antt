@@ -7,7 +7,7 @@ use Rattle.cut_net.specs.WellFormed.{AreBetween}
 use Rattle.cut_net.specs.Cuts.{entering, leaving, have_equal_ends, IsFlow}
 use Rattle.cut_net.specs.Lines.{flow_by}
 use Rattle.cut_net.proofs.Members.{from_map}
-use Rattle.cut_part.specs.CapacityReduction.{IsBarred, IsMaxFlow}
+use Rattle.cut_part.specs.CapacityReduction.{IsUnreachable, IsMaxFlow}
 use Rattle.cut_part.specs.Reversal.{reversed, reversed_net, reversed_flow}
 use Rattle.cut_part.proofs.Sums.{sum_by-map}
 use Rattle.cut_part.proofs.CapacityReduction.{at_end}
@@ -40,7 +40,7 @@ module _ (net : Network) (a b : ℕ) (flow : Priced → ℕ) (value : ℕ) (betw
         at_start = let e = at_end net a b flow value is_flow between a_in apart in let i = into b in let o = out b in omega arith;
       }
 
-barred_round : (net : Network) (a b : ℕ) (flow : Priced → ℕ) → IsBarred net flow a b → IsBarred (reversed_net net) (reversed_flow flow) b a
+barred_round : (net : Network) (a b : ℕ) (flow : Priced → ℕ) → IsUnreachable net flow a b → IsUnreachable (reversed_net net) (reversed_flow flow) b a
 barred_round net a b flow (modules, barrier) = (
   λ m. not (modules m),
   record {
@@ -83,7 +83,7 @@ pub greatest_round_back : (net : Network) (a b : ℕ) (flow : Priced → ℕ) (v
     IsMaxFlow (reversed_net net) b a (reversed_flow flow) value → IsMaxFlow net a b flow value
 greatest_round_back net a b flow value between b_in apart greatest = record {
   is_flow = flow_round_back net a b flow value between b_in apart greatest.is_flow;
-  barred = subst (λ (n : Network). IsBarred n flow a b) (turned_twice net) (barred_round (reversed_net net) b a (reversed_flow flow) greatest.barred);
+  barred = subst (λ (n : Network). IsUnreachable n flow a b) (turned_twice net) (barred_round (reversed_net net) b a (reversed_flow flow) greatest.barred);
 }
 
 pub greatest_round : (net : Network) (a b : ℕ) (flow : Priced → ℕ) (value : ℕ) → AreBetween net.imports (length net.names) → a < length net.names → a ≢ b →

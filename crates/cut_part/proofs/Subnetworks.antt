@@ -11,7 +11,7 @@ use Rattle.cut_net.proofs.Chains.{chain_or_none, joined, step}
 use Rattle.digraph.proofs.Members.{in_filter, of_filter}
 use Rattle.cut_net.proofs.ListSums.{here, present, sum_by-same}
 use Rattle.cut_net.proofs.Duality.{across, enters}
-use Rattle.cut_part.specs.CapacityReduction.{IsBarrier, IsMaxFlow}
+use Rattle.cut_part.specs.CapacityReduction.{IsResidualBarrier, IsMaxFlow}
 use Rattle.cut_part.proofs.Conserved.{conserved}
 use Rattle.cut_part.proofs.Sums.{sum_one}
 use Rattle.cut_part.specs.Subnetworks.{IsBetween, are_ends_in, part_of, internal_flow}
@@ -180,7 +180,7 @@ flow_in_part net kept a b flow value none is_flow =
     }
 
 -- the modules of the subnetwork that are there, and of the others those that a reaches
-module _ (net : Network) (kept : ℕ → Bool) (a b : ℕ) (those : IsSetOf kept (IsBetween net a b)) (flow : Priced → ℕ) (modules : ℕ → Bool) (barrier : IsBarrier (part_of net kept) flow a b modules) where
+module _ (net : Network) (kept : ℕ → Bool) (a b : ℕ) (those : IsSetOf kept (IsBetween net a b)) (flow : Priced → ℕ) (modules : ℕ → Bool) (barrier : IsResidualBarrier (part_of net kept) flow a b modules) where
   pub spread : ℕ → Bool
   spread m = cond (kept m) (modules m) (has_chain net.imports a m)
 
@@ -200,7 +200,7 @@ module _ (net : Network) (kept : ℕ → Bool) (a b : ℕ) (those : IsSetOf kept
         | inr f ↦ chain_there net.imports a m (sym (spread_other m f) ∙ t)
       ]
 
-  pub spread_barrier : IsBarrier net (internal_flow kept flow) a b spread
+  pub spread_barrier : IsResidualBarrier net (internal_flow kept flow) a b spread
   spread_barrier = record {
     start = elim (cases_Bool (kept a)) [
       | inl k ↦ spread_kept a k ∙ barrier.start

@@ -10,18 +10,18 @@ use Rattle.cut_part.specs.Subnetworks.{internal_flow, are_ends_in, part_of, IsBe
 use Rattle.cut_part.specs.Renumbering.{flow_renumbered, renumbered, IsRenumbered}
 
 -- an arc of capacity 1 for an import
-abbrev pub open_arc : Priced → Arc
-open_arc i = record { from = i.from; to = i.to; capacity = 1; flow = 0 }
+abbrev pub unit_capacity_arc : Priced → Arc
+unit_capacity_arc i = record { from = i.from; to = i.to; capacity = 1; flow = 0 }
 
 -- the flagged modules are those that paths from the start reach
 abbrev pub AreReachable : List Priced → ℕ → List Bool → Type 0
 AreReachable imports start marks = IsSetOf (is_flagged marks) (Chain imports Any start)
 
--- the flags, with those of two modules set
+-- the flags, with the flags of modules a and b set
 abbrev pub with_ends : List Bool → ℕ → ℕ → List Bool
 with_ends marks a b = slice_set (slice_set marks a true) b true
 
--- the numbers of the flagged modules, sorted, and the index of each in that list
+-- `numbers` has the flagged modules, sorted, and `new_numbers` for each flagged module its index in `numbers`
 pub record IsNumbering (marks : List Bool) (numbers new_numbers : List ℕ) : Type 0 where
   pub count : length new_numbers ≡ length marks
   pub few : length numbers ≤ length marks
@@ -50,15 +50,15 @@ abbrev pub reported_in_net : List Bool → List ℕ → (Priced → Bool) → Pr
 reported_in_net marks new_numbers x i = are_ends_in (is_flagged marks) i && x (renumbered (slice_index new_numbers) i)
 
 -- lines of the subnetwork, with the numbers of the whole network
-abbrev pub imports_in_net : List ℕ → List Priced → List Priced
-imports_in_net numbers lines = map (renumbered (slice_index numbers)) lines
+abbrev pub renumbered_imports : List ℕ → List Priced → List Priced
+renumbered_imports numbers lines = map (renumbered (slice_index numbers)) lines
 
 -- an answer for the subnetwork, with the numbers of the whole network
 abbrev pub claim_in_net : List ℕ → AnswerClaim → AnswerClaim
-claim_in_net numbers (CutOf total printed flow) = CutOf total (imports_in_net numbers printed) (imports_in_net numbers flow)
+claim_in_net numbers (CutOf total printed flow) = CutOf total (renumbered_imports numbers printed) (renumbered_imports numbers flow)
 claim_in_net numbers (BlockedBy chain) = BlockedBy (map (slice_index numbers) chain)
 
--- as `IsNumbering`, for the first count modules
+-- as `IsNumbering`, for the first `count` modules
 pub record IsNumberingTo (marks : List Bool) (numbers new_numbers : List ℕ) (count : ℕ) : Type 0 where
   pub size : length new_numbers ≡ count
   pub few : length numbers ≤ count

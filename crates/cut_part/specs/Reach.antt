@@ -7,7 +7,7 @@ use Rattle.cut_net.specs.Cuts.{Any, Chain}
 use Rattle.residual_graph.specs.Graphs.{is_flagged}
 use Rattle.cut_part.specs.CapacityReduction.{import_in}
 
--- the import of this number has the module as importer
+-- import k is by module m
 abbrev pub IsImporter : List Priced → ℕ → ℕ → Type 0
 IsImporter imports m k = IsInList (λ j. (import_in imports j).from) m k
 
@@ -15,17 +15,20 @@ IsImporter imports m k = IsInList (λ j. (import_in imports j).from) m k
 abbrev pub imported : List Priced → ℕ → ℕ
 imported imports k = (import_in imports k).to
 
--- the lists of the first count imports by importer: for each module its last one, and for each import the previous one by its importer
+-- `last` and `before` link the first `count` imports by importer: `last` has each module's last import, and `before` for each import the
+-- previous one by its importer
 abbrev pub AreImportLists : List Priced → ℕ → List ℕ → List ℕ → ℕ → Type 0
 AreImportLists imports modules last before count = AreLinkedLists (IsImporter imports) modules last before count
 
--- paths lead from the start to all flagged modules, and the imports of a flagged module that doesn't wait are flagged
+-- paths lead from the start to all flagged modules; and all modules that a flagged module imports are flagged, unless it is in the
+-- worklist `waiting`
 pub record IsSpreading (imports : List Priced) (start : ℕ) (marks : List Bool) (waiting : List ℕ) : Type 0 where
   pub started : is_flagged marks start ≡ true
   pub mark_reachable : (m : ℕ) → is_flagged marks m ≡ true → Chain imports Any start m
   pub spread : IsSpread (IsImporter imports) (imported imports) (length imports) marks waiting
 
--- as `IsSpreading`, while the imports of one module are followed in descending order: those with a number below next are left
+-- as `IsSpreading`, but the imports by module `one` whose number is below `next` may lead to unflagged modules: they are followed in
+-- descending order of their numbers
 pub record IsFollowing (imports : List Priced) (start : ℕ) (marks : List Bool) (waiting : List ℕ) (one next : ℕ) : Type 0 where
   pub started : is_flagged marks start ≡ true
   pub mark_reachable : (m : ℕ) → is_flagged marks m ≡ true → Chain imports Any start m

@@ -21,7 +21,7 @@ ReducesTo modules old new a b =
     (names : List (List ℕ)) (pins : List Priced) → length names ≡ modules →
     IsReduced (record { names = names; imports = old; pins = pins }) (record { names = names; imports = new; pins = pins }) a b
 
--- the amount is at most the import's weight, and is that weight or at least the sum
+-- the amount is at most the weight; and it is the weight, or at least the sum
 pub record IsReducedWeight (weight amount sum : ℕ) : Type 0 where
   pub below : amount ≤ weight
   pub enough : (amount ≡ weight) ⊎ (sum ≤ amount)

@@ -11,26 +11,26 @@ ghost use Rattle.residual_graph.specs.Graphs.{is_flagged};
 ghost use Rattle.cut_part.specs.Apart.{flow_lines, AreApart};
 ghost use Rattle.cut_part.specs.Subnetworks.{internal_flow, are_ends_in, part_of, IsBetween};
 ghost use Rattle.cut_part.specs.Marks.{flow_in_net, reported_in_net, claim_in_net, IsSubnetwork};
-ghost use Rattle.cut_part.specs.CapacityReduction.{import_in, AreReductions, IsBarred, DependsOnEndsOnly, IsMaxFlow, IsReducedAt, IsReduced};
+ghost use Rattle.cut_part.specs.CapacityReduction.{import_in, AreReductions, IsUnreachable, DependsOnEndsOnly, IsMaxFlow, IsReducedAt, IsReduced};
 ghost use Rattle.cut_part.specs.Renumbering.{flow_renumbered, renumbered, IsRenumbered};
 ghost use Rattle.cut_part.specs.Reversal.{reversed_flow, reversed, reversed_net};
 
-/// Reducing the weight of one import loses no flow, if the new weight is at least the outgoing weight of its imported module, unless that
-/// is the sink, or the incoming weight of its importer, unless that is the source.
+/// Reducing the weight of one import loses no flow in two cases: the imported module isn't the sink and its outgoing weight is at most the
+/// new weight; or the importer isn't the source and its incoming weight is at most the new weight.
 pub fn reduction_keeps_flows()
     // The new network is a reduction of the old one.
     ensures { (old new : Network) (a b k amount : ℕ) → AreBetween old.imports (length old.names) → a < length old.names → a ≢ b →
         IsReducedAt old new a b k amount → IsReduced old new a b }
 {}
 
-/// Two reductions compose to one, whatever the order of the modules.
+/// A reduction of a reduction of a network is a reduction of that network.
 pub fn reductions_compose()
     // The last network is a reduction of the first.
     ensures { (one two three : Network) (a b : ℕ) → IsReduced one two a b → IsReduced two three a b → IsReduced one three a b }
 {}
 
 /// Any sequence of reductions of single imports loses no flow.
-pub fn steps_keep_flows()
+pub fn reductions_keep_flows()
     // The last network is a reduction of the first.
     ensures { (steps : List (ℕ × ℕ)) (old new : Network) (a b : ℕ) → AreBetween old.imports (length old.names) → a < length old.names → a ≢ b →
         AreReductions old new a b steps → IsReduced old new a b }
@@ -50,18 +50,19 @@ pub fn reduced_maximum_is_maximum()
         IsMaxFlow new a b flow value → IsMaxFlow old a b flow value }
 {}
 
-/// A flow in whose residual graph b isn't reachable from a has the maximum value, and the modules reachable there lack b.
-pub fn maximum_has_most()
+/// A flow in whose residual graph b isn't reachable from a has the maximum value. That b isn't reachable is equivalent to the existence of
+/// a set of modules with a and without b that no residual import leaves.
+pub fn max_flow_has_max_value()
     // No flow has a larger value.
     ensures most { (net : Network) (a b : ℕ) (flow : Priced → ℕ) (value : ℕ) → AreBetween net.imports (length net.names) → a < length net.names →
         IsMaxFlow net a b flow value → (other : Priced → ℕ) (more : ℕ) → IsFlow net a b other more → more ≤ value }
-    // The sink is separated in the residual graph exactly if it isn't reachable there.
+    // A set of modules separates b from a in the residual graph exactly if b isn't reachable there.
     ensures unreached { (net : Network) (a b : ℕ) (flow : Priced → ℕ) (modules : ℕ → Bool) → IsSetOf modules (Reached net flow a) →
-        (IsBarred net flow a b) ↔ (modules b ≡ false) }
+        (IsUnreachable net flow a b) ↔ (modules b ≡ false) }
 {}
 
-/// A flow given by lines depends only on the modules of an import.
-pub fn lines_are_by_ends()
+/// A flow that is given by a list of imports with amounts depends only on the two modules of an import, not on its weight.
+pub fn line_flow_depends_on_ends()
     // The flow of lines depends only on the modules of an import.
     ensures { (lines : List Priced) → DependsOnEndsOnly (flow_by lines) }
 {}
@@ -91,7 +92,7 @@ pub fn part_flow_is_flow()
 
 /// In an acyclic network a flow from a to b is 0 except on imports between modules on paths from a to b. So it is a flow of the
 /// subnetwork of these modules.
-pub fn flow_stays_between()
+pub fn flow_stays_in_subnetwork()
     // Imports outside the subnetwork carry nothing, and the flow is one of the subnetwork.
     ensures { (net : Network) (kept : ℕ → Bool) (a b : ℕ) (flow : Priced → ℕ) (value : ℕ) → AreBetween net.imports (length net.names) → a < length net.names →
         IsAcyclic net.imports → IsSetOf kept (IsBetween net a b) → IsFlow net a b flow value →
@@ -136,7 +137,7 @@ pub fn subnetwork_has_equal_flows()
     ensures flows { (net small : Network) (a b : ℕ) (marks : List Bool) (numbers new_numbers : List ℕ) → a < length net.names → b < length net.names →
         IsSubnetwork net a b marks numbers new_numbers small → (flow : Priced → ℕ) (value : ℕ) →
         IsFlow small (slice_index new_numbers a) (slice_index new_numbers b) flow value → IsFlow net a b (flow_in_net marks new_numbers flow) value }
-    // If it is maximum in the subnetwork, it is maximum in the whole network.
+    // If a flow is maximum in the subnetwork, the extended flow is maximum in the whole network.
     ensures greatest { (net small : Network) (a b : ℕ) (marks : List Bool) (numbers new_numbers : List ℕ) → a < length net.names → b < length net.names →
         IsSubnetwork net a b marks numbers new_numbers small → (flow : Priced → ℕ) (value : ℕ) →
         IsMaxFlow small (slice_index new_numbers a) (slice_index new_numbers b) flow value → IsMaxFlow net a b (flow_in_net marks new_numbers flow) value }
@@ -153,8 +154,8 @@ pub fn subnetwork_reports_equal_cut()
         (m : ℕ) → is_flagged marks m ≡ true → name_of small (slice_index new_numbers m) ≡ name_of net m }
 {}
 
-/// An answer for the network that `between` returns is one for the whole network, after renumbering each line: an import without a line
-/// isn't removed and has no flow. A cheapest cut stays cheapest.
+/// An answer for the network that `between` returns becomes an answer for the whole network if the module numbers of its lines are
+/// replaced by those of the whole network. A cheapest cut stays cheapest.
 pub fn subnetwork_has_equal_answers()
     // The renumbered answer is one for the whole network.
     ensures answer { (net small : Network) (a b : ℕ) (marks : List Bool) (numbers new_numbers : List ℕ) → a < length net.names → b < length net.names →
@@ -167,17 +168,17 @@ pub fn subnetwork_has_equal_answers()
 {}
 
 /// If no path leads from a to b, the zero flow is a maximum flow.
-pub fn no_chain_no_flow()
+pub fn zero_flow_is_maximum_without_path()
     // The zero flow is maximum.
     ensures { (net : Network) (a b : ℕ) → (Chain net.imports Any a b → ⊥) → IsMaxFlow net a b (λ i. 0) 0 }
 {}
 
-/// Flows given by import numbers are flows by modules if no two imports have equal modules. That holds for strictly sorted imports, and
-/// after their reversal.
-pub fn flows_by_number()
+/// If no two imports have equal modules, a list of flows by import number gives each import the flow of its number. Strictly sorted
+/// imports have no two equal pairs of modules, and neither have their reversals.
+pub fn flow_by_import_number()
     // Strictly sorted imports have distinct pairs of modules.
     ensures ascending { (imports : List Priced) → IsAscending imports → AreApart imports }
-    // So have their reversals.
+    // If imports have distinct pairs of modules, the reversed imports have too.
     ensures reversed { (imports : List Priced) → AreApart imports → AreApart (map reversed imports) }
     // The flow of an import is the entry of its number.
     ensures number { (imports : List Priced) (flow : List ℕ) → AreApart imports → length flow ≡ length imports → (k : ℕ) → k < length imports →

@@ -2,8 +2,7 @@
 //! paths, and the reversed imports.
 //! Depends on `cut_net` for networks, `residual_graph` for flags of nodes, and `digraph` for linked lists.
 //! The main calls are `between` and `reduced_capacities`. An answer for the subnetwork is, after renumbering, an answer for the whole
-//! network;
-//! reduced capacities lose no flow.
+//! network. Reduced capacities allow each flow of the original ones.
 #![tactic(auto)]
 
 pub mod laws;
@@ -13,5 +12,5 @@ mod reach;
 mod reduction;
 
 pub use order::topological_imports;
-pub use part::{Subnetwork, between, imports_in_net, reversed_imports};
+pub use part::{Subnetwork, between, renumbered_imports, reversed_imports};
 pub use reduction::reduced_capacities;

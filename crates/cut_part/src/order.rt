@@ -1,11 +1,11 @@
-//! Topological order of imports (Kahn 1962). The order itself isn't proved, only that it has no number but those of imports.
+//! Topological order of imports (Kahn 1962). The contracts promise only that the result consists of import numbers, not their order.
 ghost use Rattle.std.specs.Prelude.{◌≡◌, ◌<◌, ◌≤◌, All, IfOk, OnOk, length, vec_len};
 ghost use Rattle.cut_net.specs.WellFormed.{AreBetween};
 
 use cut_net::Priced;
 use std::alloc::{AllocError, Global};
 
-/// For each module the range of its imports, and its in-degree.
+/// For each module m its in-degree, and the range `begins[m]..ends[m]` of the numbers of the imports by m.
 #[derive(Drop)]
 struct ImportRanges {
     begins: Vec<u32>,
@@ -58,7 +58,8 @@ fn sources_of(alloc: Global, entering: &[u32]) -> Result<Vec<u32>, AllocError>
     Ok(free)
 }
 
-/// Appends the numbers of these imports and removes them; an imported module whose in-degree becomes 0 is free.
+/// Appends the import numbers from `begin` up to `end`, which is excluded, to `numbers`. Subtracts these imports from the in-degrees in
+/// `entering`, and appends each module whose in-degree becomes 0 to `free`.
 fn remove_imports(
     imports: &[Priced],
     begin: u32,
@@ -87,10 +88,9 @@ fn remove_imports(
     Ok(())
 }
 
-/// The numbers of a network's imports in topological order: the imports of a module are adjacent and follow all that lead to it, if the
-/// imports are acyclic. Of the free modules the latest one is next. The imports of each module must be adjacent, as those of a network
-/// are, which are sorted; otherwise all imports between the first and the last of a module count as its own, so there may be as many
-/// numbers as modules times imports. Fails if an allocation fails.
+/// The numbers of a network's imports in topological order: the imports by a module are adjacent, and follow all imports of that module,
+/// if the imports are acyclic. The imports by each module must be adjacent in `imports`, as they are in a network. Otherwise the numbers
+/// between the first and the last import by a module count as its imports. Fails if an allocation fails.
 pub fn topological_imports(
     alloc: Global,
     imports: &[Priced],

@@ -5,7 +5,7 @@ ghost use Rattle.cut_net.specs.Network.{name_of, texts};
 ghost use Rattle.cut_net.specs.WellFormed.{AreBetween};
 ghost use Rattle.residual_graph.specs.Graphs.{is_flagged};
 ghost use Rattle.cut_part.specs.Subnetworks.{are_ends_in, IsBetween};
-ghost use Rattle.cut_part.specs.Marks.{imports_in_net, with_ends, IsNumbering, IsSubnetwork};
+ghost use Rattle.cut_part.specs.Marks.{renumbered_imports, with_ends, IsNumbering, IsSubnetwork};
 ghost use Rattle.cut_part.specs.Renumbering.{renumbered};
 ghost use Rattle.cut_part.specs.Reversal.{reversed};
 
@@ -13,15 +13,15 @@ use crate::reach::mark_reachable;
 use cut_net::{Net, Priced};
 use std::alloc::{AllocError, Global};
 
-/// The subnetwork between two modules: those on paths from the one to the other, with all imports between them. The two modules are in it
-/// even if no path leads from the one to the other; then it has no import.
+/// The subnetwork between two modules: the modules on paths from the one to the other, with all imports between these modules. The two
+/// modules are in it even if no path leads from the one to the other; then it has no import.
 #[derive(Drop)]
 pub struct Subnetwork {
     /// The subnetwork, its modules in the order of the whole network.
     pub net: Net,
     /// For each module of the subnetwork its number in the whole network.
     pub numbers: Vec<u32>,
-    /// For each module of the whole network its number in the subnetwork; meaningless for a module that isn't in it.
+    /// For each module of the whole network its number in the subnetwork; without meaning for a module that isn't in the subnetwork.
     pub new_numbers: Vec<u32>,
     /// For each module of the whole network whether it is on a path from the one module to the other.
     pub marks: Vec<bool>,
@@ -43,11 +43,11 @@ pub fn reversed_imports(alloc: Global, imports: &[Priced]) -> Result<Vec<Priced>
     Ok(all)
 }
 
-/// The conjunction of the flags.
-fn both(alloc: Global, some: &[bool], others: &[bool]) -> Result<Vec<bool>, AllocError>
+/// A flag for each index, set if both lists have it set.
+fn flags_in_both(alloc: Global, some: &[bool], others: &[bool]) -> Result<Vec<bool>, AllocError>
     requires { length some.now ≡ length others.now }
     ensures size { IfOk result (λ marks. length marks.items ≡ length some.now) }
-    ensures both { IfOk result (λ marks. (m : ℕ) → is_flagged marks.items m ≡ (is_flagged some.now m && is_flagged others.now m)) }
+    ensures flags_in_both { IfOk result (λ marks. (m : ℕ) → is_flagged marks.items m ≡ (is_flagged some.now m && is_flagged others.now m)) }
 {
     let mut marks = Vec::with_capacity(alloc, some.len())?;
     for m in 0..some.len() {
@@ -57,7 +57,8 @@ fn both(alloc: Global, some: &[bool], others: &[bool]) -> Result<Vec<bool>, Allo
     Ok(marks)
 }
 
-/// The numbers of the flagged modules in order, and the index of each in that list.
+/// The numbers of the flagged modules, sorted; and for each module how many flagged ones have smaller numbers, which is the index of a
+/// flagged module in the first list.
 fn renumbering(alloc: Global, marks: &[bool]) -> Result<(Vec<u32>, Vec<u32>), AllocError>
     requires { length marks.now ≤ 8192 }
     ensures { IfOk result (λ r. IsNumbering marks.now r.0.items r.1.items) }
@@ -122,11 +123,11 @@ fn flag_modules_on_paths(
     let forth = mark_reachable(alloc, net.imports(), net.nodes(), from)?;
     let reversed = reversed_imports(alloc, net.imports())?;
     let back = mark_reachable(alloc, &reversed, net.nodes(), to)?;
-    let marks = both(alloc, &forth, &back)?;
+    let marks = flags_in_both(alloc, &forth, &back)?;
     Ok(marks)
 }
 
-/// The flags, with those of the two modules set.
+/// A copy of the flags, with the flags of `from` and `to` set.
 fn flags_with_ends(
     alloc: Global,
     marks: &[bool],
@@ -143,7 +144,7 @@ fn flags_with_ends(
     Ok(all)
 }
 
-/// The numbers of the flagged modules and of these two, in order, and the index of each in that list.
+/// As `renumbering`, with `from` and `to` counted as flagged.
 fn renumbering_with_ends(
     alloc: Global,
     marks: &[bool],
@@ -189,8 +190,8 @@ fn names_of(alloc: Global, net: &Net, numbers: &[u32]) -> Result<Vec<String>, Al
     Ok(names)
 }
 
-/// The line with the module numbers of the whole network.
-fn import_in_net(line: Priced, numbers: &[u32]) -> Priced
+/// The import of the subnetwork with the module numbers of the whole network, which `numbers` lists.
+fn renumbered_import(line: Priced, numbers: &[u32]) -> Priced
     requires from { line.from < length numbers.now }
     requires to { line.to < length numbers.now }
     ensures { result ≡ renumbered (slice_index numbers.now) line }
@@ -202,8 +203,8 @@ fn import_in_net(line: Priced, numbers: &[u32]) -> Priced
     }
 }
 
-/// Lines of the subnetwork, with the module numbers of the whole network. Fails if an allocation fails.
-pub fn imports_in_net(
+/// Imports of the subnetwork, with the module numbers of the whole network: module k becomes `numbers[k]`. Fails if an allocation fails.
+pub fn renumbered_imports(
     alloc: Global,
     lines: &[Priced],
     numbers: &[u32],
@@ -211,11 +212,11 @@ pub fn imports_in_net(
     // The lines are between modules of the subnetwork.
     requires { AreBetween lines.now (length numbers.now) }
     // Each line has the numbers of the whole network.
-    ensures { IfOk result (λ v. v.items ≡ imports_in_net numbers.now lines.now) }
+    ensures { IfOk result (λ v. v.items ≡ renumbered_imports numbers.now lines.now) }
 {
     let mut all = Vec::with_capacity(alloc, lines.len())?;
     for line in lines {
-        all.push(import_in_net(*line, numbers))?;
+        all.push(renumbered_import(*line, numbers))?;
     }
     Ok(all)
 }

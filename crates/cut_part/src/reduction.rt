@@ -15,8 +15,8 @@ struct WeightSums {
     entering: Vec<u64>,
 }
 
-/// Adds an amount to the sum at an index.
-fn add_at(sums: &mut Vec<u64>, place: usize, amount: u64)
+/// Adds an amount to the sum at index `place`.
+fn add_to_sum(sums: &mut Vec<u64>, place: usize, amount: u64)
     requires place { place < vec_len sums.old }
     requires fits { slice_index sums.old.items place + amount < 2 ^ 64 }
     ensures items { sums.new.items ≡ slice_set sums.old.items place (slice_index sums.old.items place + amount) }
@@ -24,8 +24,8 @@ fn add_at(sums: &mut Vec<u64>, place: usize, amount: u64)
     sums[place] += amount;
 }
 
-/// Subtracts an amount from the sum at an index.
-fn subtract_at(sums: &mut Vec<u64>, place: usize, amount: u64)
+/// Subtracts an amount from the sum at index `place`.
+fn subtract_from_sum(sums: &mut Vec<u64>, place: usize, amount: u64)
     requires place { place < vec_len sums.old }
     requires fits { amount ≤ slice_index sums.old.items place }
     ensures items { sums.new.items ≡ slice_set sums.old.items place (slice_index sums.old.items place - amount) }
@@ -52,8 +52,8 @@ impl WeightSums {
     {
         let import = self.imports[number];
         let less = import.amount - amount;
-        subtract_at(&mut self.leaving, import.from as usize, less);
-        subtract_at(&mut self.entering, import.to as usize, less);
+        subtract_from_sum(&mut self.leaving, import.from as usize, less);
+        subtract_from_sum(&mut self.entering, import.to as usize, less);
         self.imports[number] = Priced {
             from: import.from,
             to: import.to,
@@ -123,7 +123,7 @@ impl WeightSums {
     }
 }
 
-/// The imports with the sums of their weights.
+/// A copy of the imports, with the sums of the outgoing and the incoming weights of each module.
 fn weight_sums_of(alloc: Global, imports: &[Priced], modules: u32) -> Result<WeightSums, AllocError>
     requires between { AreBetween imports.now modules }
     requires fits { sum_by weight_of imports.now < 2 ^ 64 }
@@ -135,8 +135,8 @@ fn weight_sums_of(alloc: Global, imports: &[Priced], modules: u32) -> Result<Wei
     let mut entering = vec![in alloc; 0; modules as usize]?;
     let mut copied = Vec::with_capacity(alloc, imports.len())?;
     for import in imports {
-        add_at(&mut leaving, import.from as usize, import.amount);
-        add_at(&mut entering, import.to as usize, import.amount);
+        add_to_sum(&mut leaving, import.from as usize, import.amount);
+        add_to_sum(&mut entering, import.to as usize, import.amount);
         copied.push(*import)?;
     }
     Ok(WeightSums {
@@ -146,9 +146,9 @@ fn weight_sums_of(alloc: Global, imports: &[Priced], modules: u32) -> Result<Wei
     })
 }
 
-/// The imports with reduced weights: in reverse order to the outgoing weight of the imported module, then in order to the incoming weight
-/// of the importer. In a topological order no weight stays above what paths can use; in any order no flow between the two modules is
-/// lost. Fails if an allocation fails.
+/// The imports with reduced weights: in reverse `order` each is reduced to the outgoing weight of its imported module, then in `order` to
+/// the incoming weight of its importer. In any order no flow from `from` to `to` is lost; a topological order reduces most. Fails if an
+/// allocation fails.
 pub fn reduced_capacities(
     alloc: Global,
     imports: &[Priced],

@@ -4,7 +4,7 @@ use Rattle.std.specs.Prelude.{All, map}
 use Rattle.std.proofs.lemmas.List.Sums.{sum_by-cons}
 use Rattle.cut_net.proofs.ListSums.{sum_by-mono}
 use Rattle.residual_graph.specs.declared.arc.Arc.{Arc}
-use Rattle.residual_graph.specs.Flows.{emptied, entering, leaving, DifferInFlowOnly, IsBalanced}
+use Rattle.residual_graph.specs.Flows.{without_flow, entering, leaving, DifferInFlowOnly, IsBalanced}
 use Rattle.cut_plain.specs.Levels.{Raises}
 
 abbrev pub total : List Arc → ℕ
@@ -14,17 +14,17 @@ total arcs = sum_by (λ r. r.capacity) arcs
 abbrev pub value_of : List Arc → ℕ → ℕ
 value_of arcs a = leaving arcs a - entering arcs a
 
-total_emptied : (arcs : List Arc) → total (map emptied arcs) ≡ total arcs
+total_emptied : (arcs : List Arc) → total (map without_flow arcs) ≡ total arcs
 total_emptied [] = omega arith
 total_emptied (r ∷ more) =
     let rest = total_emptied more in
-    omega (arith, sum_by-cons (λ (s : Arc). s.capacity) (emptied r) (map emptied more), sum_by-cons (λ (s : Arc). s.capacity) r more)
+    omega (arith, sum_by-cons (λ (s : Arc). s.capacity) (without_flow r) (map without_flow more), sum_by-cons (λ (s : Arc). s.capacity) r more)
 
 pub total_same : (old new : List Arc) → DifferInFlowOnly old new → total new ≡ total old
 total_same old new same =
     let a = total_emptied old in
     let b = total_emptied new in
-    let e : total (map emptied new) ≡ total (map emptied old) = ap total same in
+    let e : total (map without_flow new) ≡ total (map without_flow old) = ap total same in
     omega arith
 
 cond_within : (t : Bool) (x y : ℕ) → x ≤ y → cond t x 0 ≤ y

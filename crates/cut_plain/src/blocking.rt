@@ -7,8 +7,8 @@ ghost use Rattle.cut_plain.specs.Levels.{Climbs, IsDescent, RaisesOrKeeps, oppos
 use residual_graph::{ResidualArc, ResidualGraph};
 use std::alloc::{AllocError, Global};
 
-/// A path to the sink, as far as it has been found, from its last step back: its first node, and for each node the index of its current
-/// residual arc. Arcs before the current one can't extend a path.
+/// A path to the sink that is being built backwards: `path` has its steps, the last one first, and `at` is its first node so far. For each
+/// node `current` has the index of its current residual arc; arcs before it can't extend the path.
 #[derive(Drop)]
 struct Descent {
     current: Vec<usize>,
@@ -16,6 +16,7 @@ struct Descent {
     at: u32,
 }
 
+/// The residual arc of the same arc in the opposite direction.
 fn opposite(step: ResidualArc) -> ResidualArc
     ensures { result ≡ opposite step }
 {
@@ -36,8 +37,8 @@ fn climbs(graph: &ResidualGraph, step: ResidualArc, levels: &[u32]) -> bool
     levels[tail as usize] < levels[head as usize] && graph.residual(step) > 0
 }
 
-/// Augments if the path begins at the source; otherwise extends it by a step, passes an arc that can't extend it, or retreats. Returns
-/// false if it can't retreat.
+/// One step of the search. If the path begins at the source, augments along it and starts a new one. Otherwise extends it by a residual
+/// arc, skips an arc that can't extend it, or drops its first step. Returns false if nothing is left to drop.
 fn advance_descent(
     graph: &mut ResidualGraph,
     levels: &[u32],
@@ -85,8 +86,7 @@ fn advance_descent(
     }
 }
 
-/// Augments along paths on which levels rise until none is left. With the levels of a breadth-first search from the source, a path is
-/// dropped only at saturated arcs.
+/// Augments along paths from `from` to `to` on which levels rise, until there is no such path.
 pub(crate) fn blocking_flow(
     alloc: Global,
     graph: &mut ResidualGraph,

@@ -11,7 +11,7 @@ use residual_graph::{
 };
 use std::alloc::{AllocError, Global};
 
-/// Raises the flow by a path of the search, which has reached the sink, and then by a blocking flow.
+/// Raises the flow along the path by which the search reached the sink, and then by a blocking flow.
 fn raise_flow(
     alloc: Global,
     graph: &mut ResidualGraph,

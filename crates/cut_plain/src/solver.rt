@@ -13,7 +13,7 @@ use cut_solve::{
 };
 use std::alloc::{AllocError, Global};
 
-/// A cheapest cut between two modules, with a flow that proves it.
+/// A cheapest cut between two modules if pins are ignored, with a flow that proves it.
 fn solve(alloc: Global, net: &Net, from: u32, to: u32) -> Result<Cut, AllocError>
     requires apart { from ≢ to }
     requires from { from < length net.now.names }
@@ -29,8 +29,8 @@ fn solve(alloc: Global, net: &Net, from: u32, to: u32) -> Result<Cut, AllocError
     minimum_cut(alloc, net, &source_side.reached_flags, flow, from, to)
 }
 
-/// A cheapest cut between the modules of two names: the reported imports with their weights, the sum of the weights in qualified
-/// references, and a flow of that value. Imports are in the order of their numbers, each once, and no flow is 0.
+/// A cheapest cut between the modules of two names: the reported imports with their weights, the sum of the weights, and a flow of that
+/// value. Imports are in the order of their numbers, each once, and no flow is 0.
 /// An import is reported if it leaves the minimal source side and the imported module reaches `to` outside of it. None is pinned.
 /// If a path of pinned imports leads from the one module to the other, no cut exists. Then the result is that path: the shortest one, of
 /// several the lexicographically smallest.

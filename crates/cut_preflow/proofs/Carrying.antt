@@ -8,7 +8,7 @@ use Rattle.cut_preflow.specs.declared.ends.FlowEnds.{FlowEnds}
 use Rattle.cut_preflow.specs.Preflow.{FlowNetwork, State, count, import_at, flow_at, inflow, outflow, excess, is_forward, tail, head, residual, is_active, push_amount, pushed}
 use Rattle.cut_preflow.specs.Kept.{IsValidPreflow}
 use Rattle.cut_preflow.specs.Trace.{IsSound, IsWithinLimits, flow_network}
-use Rattle.cut_preflow.specs.Indexed.{AreActive, IsIndexed, with_added_excess, carried, is_active_by}
+use Rattle.cut_preflow.specs.Indexed.{AreActive, IsIndexed, with_added_excess, with_moved_excess, is_active_by}
 use Rattle.cut_preflow.proofs.Choices.{choice_le, choice_same, choice_other, pick_true, pick_false, true_or_false}
 use Rattle.cut_preflow.proofs.Totals.{total-le}
 use Rattle.cut_preflow.proofs.Pushes.{by_key_raised}
@@ -81,7 +81,7 @@ brought_at source xs node amount v l ne = elim (cases_eq node source) [
 
 -- and after it went from one node to another
 carried_at : (source : ℕ) (xs : List ℕ) (from to amount v : ℕ) → from < length xs → to < length xs → amount ≤ get_or xs from 0 → v ≢ source →
-    get_or (carried source xs from to amount) v 0 + (if from == v then amount else 0) ≡ get_or xs v 0 + (if to == v then amount else 0)
+    get_or (with_moved_excess source xs from to amount) v 0 + (if from == v then amount else 0) ≡ get_or xs v 0 + (if to == v then amount else 0)
 carried_at source xs from to amount v in_from in_to pays ne =
     let comes = brought_at source (set xs from (get_or xs from 0 - amount)) to amount v (omega (arith, length-set xs from (get_or xs from 0 - amount))) ne in
     elim (cases_eq from v) [
@@ -142,10 +142,10 @@ carries net s nodes xs active arc sound is can = record {
   to_low = to_low;
   pays = omega (arith, is.excesses_are (tail net arc) can.active.low can.active.not_source, (moves net s arc can).paid);
   fits = λ other.
-      let carried = push_carries net s arc sound can (head net arc) to_low other in
+      let with_moved_excess = push_carries net s arc sound can (head net arc) to_low other in
       let none = choice_other (tail net arc) (head net arc) (push_amount net s arc) 0 apart in
       let some = choice_same (head net arc) (head net arc) (push_amount net s arc) 0 refl in
-      omega (arith, carried, none, some, inflow_fits net (after_push net s arc) sound.limits (push_keeps net s arc sound.network sound.kept can) (head net arc), is.excesses_are (head net arc) to_low other);
+      omega (arith, with_moved_excess, none, some, inflow_fits net (after_push net s arc) sound.limits (push_keeps net s arc sound.network sound.kept can) (head net arc), is.excesses_are (head net arc) to_low other);
 }
   where
     to_low : head net arc < net.nodes
@@ -156,7 +156,7 @@ carries net s nodes xs active arc sound is can = record {
 
 -- after a push that applies they are those of the state after it
 pub pushed_indexed : (ends : FlowEnds) (imports : List Priced) (s : State) (nodes : ℕ) (xs ys : List ℕ) (before after : List Bool) (arc : ℕ) → IsSound (flow_network ends imports) s → IsIndexed (flow_network ends imports) s nodes xs before → Pushable (flow_network ends imports) s arc →
-    ys ≡ carried ends.source xs (tail (flow_network ends imports) arc) (head (flow_network ends imports) arc) (push_amount (flow_network ends imports) s arc) → AreActive ends ys after →
+    ys ≡ with_moved_excess ends.source xs (tail (flow_network ends imports) arc) (head (flow_network ends imports) arc) (push_amount (flow_network ends imports) s arc) → AreActive ends ys after →
     IsIndexed (flow_network ends imports) (after_push (flow_network ends imports) s arc) nodes ys after
 pushed_indexed ends imports s nodes xs ys before after arc sound is can same by =
     indexed_from ends imports (after_push net s arc) nodes ys after is.nodes_are are by

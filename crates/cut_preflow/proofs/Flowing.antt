@@ -6,7 +6,7 @@ use Rattle.cut_net.specs.Network.{Network, missing_item}
 use Rattle.cut_net.specs.WellFormed.{AreBetween}
 use Rattle.cut_net.specs.Cuts.{IsSetOf, IsClosed, IsFlow, InSourceSide, Reached}
 use Rattle.cut_net.proofs.NearSide.{is_near}
-use Rattle.cut_part.specs.CapacityReduction.{IsBarred}
+use Rattle.cut_part.specs.CapacityReduction.{IsUnreachable}
 use Rattle.cut_preflow.specs.Preflow.{FlowNetwork, State, count, flow_at, import_at, inflow, outflow}
 use Rattle.cut_preflow.specs.Kept.{IsFlowNetwork, IsValidPreflow, IsQuiet}
 use Rattle.cut_preflow.specs.Flows.{AreSourceSide, AreReached, HasFlow, IsSinkUnreachable, flow_on, network_between, value_of}
@@ -73,7 +73,7 @@ module _ (net : Network) (a b : ℕ) (s : State) (is : IsFlowNetwork (network_be
       at_start = omega (arith, entering_is flow_net s is.apart_ends size a, leaving_is flow_net s is.apart_ends size a, source_gives flow_net s is kept quiet);
     }
 
-    pub shut_off : IsBarred net (flow_on flow_net s) a b
+    pub shut_off : IsUnreachable net (flow_on flow_net s) a b
     shut_off =
         let some = closed_side flow_net s is kept quiet in
         (some.0, record { start = some.1; end = some.2; closed = shut_closed some.0 some.3 })
@@ -95,7 +95,7 @@ quiet_has_flow flow_net s is kept quiet net of =
 
 pub quiet_is_shut_off : (flow_net : FlowNetwork) (s : State) → IsFlowNetwork flow_net → IsValidPreflow flow_net s → IsQuiet flow_net s → IsSinkUnreachable flow_net s
 quiet_is_shut_off flow_net s is kept quiet net of =
-    subst (λ f. IsFlowNetwork f → IsValidPreflow f s → IsQuiet f s → IsBarred net (flow_on f s) f.source f.sink) (sym of)
+    subst (λ f. IsFlowNetwork f → IsValidPreflow f s → IsQuiet f s → IsUnreachable net (flow_on f s) f.source f.sink) (sym of)
     (λ is' kept' quiet'. shut_off net flow_net.source flow_net.sink s is' kept'.flows kept' quiet') is kept quiet
 
 pub marks_reached : (flow_net : FlowNetwork) (s : State) (bits : List Bool) → IsFlowNetwork flow_net → length s.flow ≡ count flow_net → IsReachableSet flow_net.imports s.flow flow_net.source bits → AreReached flow_net s bits

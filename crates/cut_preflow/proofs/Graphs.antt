@@ -11,7 +11,7 @@ use Rattle.residual_graph.specs.Flows.{pushed}
 use Rattle.residual_graph.proofs.Walking.{along, reaches_itself}
 use Rattle.residual_graph.specs.Graphs.{AreClosed, AreReached, HasArc, head, no_arc, residual, tail}
 use Rattle.residual_graph.specs.OutArcs.{IsOutOf, no_out_arc, step_of}
-use Rattle.cut_preflow.specs.FlowGraphs.{FlowGraphModel, IsArcFrom, opening_arc, opening_arcs, flow_of, flows_of, import_of, imports_of, arc_number, out_arc_number}
+use Rattle.cut_preflow.specs.FlowGraphs.{FlowGraphModel, IsArcFrom, initial_arc, initial_arcs, flow_of, flows_of, import_of, imports_of, arc_number, out_arc_number}
 use Rattle.cut_preflow.specs.Preflow.{head_in, import_in, is_forward, opening_flows, residual_in, tail_in}
 use Rattle.cut_preflow.specs.Side.{IsReachableSet, has}
 use Rattle.cut_preflow.proofs.Arcs.{eq_from, eq_true, even_forward, half_even, half_odd, odd_back}
@@ -112,29 +112,29 @@ numbers_are g v outs each all a = (
   λ (low, leaves). all a low leaves,
 )
 
-pub opened_imports : (source : ℕ) (imports : List Priced) → imports_of (opening_arcs source imports) ≡ imports
+pub opened_imports : (source : ℕ) (imports : List Priced) → imports_of (initial_arcs source imports) ≡ imports
 opened_imports source [] = refl
 opened_imports source (i ∷ imports) = ap (λ more. i ∷ more) (opened_imports source imports)
 
-pub opened_flows : (source : ℕ) (imports : List Priced) → flows_of (opening_arcs source imports) ≡ opening_flows source imports
+pub opened_flows : (source : ℕ) (imports : List Priced) → flows_of (initial_arcs source imports) ≡ opening_flows source imports
 opened_flows source [] = refl
 opened_flows source (i ∷ imports) = ap (λ more. (if i.from == source then i.amount else 0) ∷ more) (opened_flows source imports)
 
-opened_at : (source : ℕ) (imports : List Priced) (k : ℕ) (d : Arc) → k < length imports → get_or (opening_arcs source imports) k d ≡ opening_arc source (import_in imports k)
+opened_at : (source : ℕ) (imports : List Priced) (k : ℕ) (d : Arc) → k < length imports → get_or (initial_arcs source imports) k d ≡ initial_arc source (import_in imports k)
 opened_at source [] k d low = absurd (omega arith)
 opened_at source (i ∷ imports) zero d low = refl
 opened_at source (i ∷ imports) (suc k) d low = opened_at source imports k d (omega arith)
 
-pub opened_within : (source : ℕ) (imports : List Priced) → All (λ r. r.flow ≤ r.capacity) (opening_arcs source imports)
+pub opened_within : (source : ℕ) (imports : List Priced) → All (λ r. r.flow ≤ r.capacity) (initial_arcs source imports)
 opened_within source imports k d low =
-    let len = length-map imports (opening_arc source) in
+    let len = length-map imports (initial_arc source) in
     let i = import_in imports k in
     subst (λ (r : Arc). r.flow ≤ r.capacity) (sym (opened_at source imports k d (omega arith))) (choice_le (i.from == source) i.amount)
 
 pub opened_between : (source nodes : ℕ) (imports : List Priced) → ((k : ℕ) → k < length imports → ((import_in imports k).from < nodes) × ((import_in imports k).to < nodes)) →
-    All (λ r. (r.from < nodes) × (r.to < nodes)) (opening_arcs source imports)
+    All (λ r. (r.from < nodes) × (r.to < nodes)) (initial_arcs source imports)
 opened_between source nodes imports ends k d low =
-    let len = length-map imports (opening_arc source) in
+    let len = length-map imports (initial_arc source) in
     let in_imports : k < length imports = omega arith in
     subst (λ (r : Arc). (r.from < nodes) × (r.to < nodes)) (sym (opened_at source imports k d in_imports)) (ends k in_imports)
 

@@ -6,7 +6,7 @@ use Rattle.residual_graph.specs.declared.arc.OutArc.{OutArc}
 use Rattle.residual_graph.specs.declared.arc.ResidualArc.{ResidualArc}
 use Rattle.cut_preflow.specs.Preflow.{tail_in, head_in, residual_in}
 
--- the specification of a residual graph: the number of nodes, the imports, and the flow on each
+-- a `FlowGraph` as contracts see it: the number of nodes, the imports, and the flow on each import
 pub record FlowGraphModel : Type 0 where
   pub nodes : ℕ
   pub imports : List Priced
@@ -26,11 +26,11 @@ abbrev pub flows_of : List Arc → List ℕ
 flows_of arcs = map flow_of arcs
 
 -- the arc of an import, saturated if its tail is the source
-abbrev pub opening_arc : ℕ → Priced → Arc
-opening_arc source i = record { from = i.from; to = i.to; capacity = i.amount; flow = if i.from == source then i.amount else 0 }
+abbrev pub initial_arc : ℕ → Priced → Arc
+initial_arc source i = record { from = i.from; to = i.to; capacity = i.amount; flow = if i.from == source then i.amount else 0 }
 
-abbrev pub opening_arcs : ℕ → List Priced → List Arc
-opening_arcs source imports = map (opening_arc source) imports
+abbrev pub initial_arcs : ℕ → List Priced → List Arc
+initial_arcs source imports = map (initial_arc source) imports
 
 -- the number of a residual arc: 2 i forward, 2 i + 1 backward
 abbrev pub arc_number : ResidualArc → ℕ
@@ -39,14 +39,14 @@ arc_number s = if s.forward then 2 * s.arc else 2 * s.arc + 1
 abbrev pub out_arc_number : OutArc → ℕ
 out_arc_number a = arc_number a.step
 
--- an arc with its head and residual capacity
+-- the residual arc `a` is one of the graph, and its head and residual capacity are those in the graph
 pub record IsArc (g : FlowGraphModel) (a : OutArc) : Type 0 where
   pub known : out_arc_number a < 2 * length g.imports
   pub head_is : a.head ≡ head_in g.imports (out_arc_number a)
   pub residual_is : a.residual ≡ residual_in g.imports g.flow (out_arc_number a)
   pub low : a.head < g.nodes
 
--- an arc of node v, with its head and residual capacity
+-- the residual arc `a` leaves node v, and its head and residual capacity are those in the graph
 pub record IsArcFrom (g : FlowGraphModel) (v : ℕ) (a : OutArc) : Type 0 where
   pub arc : IsArc g a
   pub leaves : tail_in g.imports (out_arc_number a) ≡ v

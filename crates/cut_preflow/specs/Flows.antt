@@ -6,11 +6,11 @@ use Rattle.cut_net.specs.Cuts.{IsSetOf, IsFlow, InSourceSide, Reached}
 use Rattle.cut_net.specs.Lines.{flow_by}
 use Rattle.cut_net.specs.Pins.{ArePins, InSourceSideWithPins, PinChain}
 use Rattle.cut_part.specs.Apart.{flow_lines}
-use Rattle.cut_part.specs.CapacityReduction.{IsBarred}
+use Rattle.cut_part.specs.CapacityReduction.{IsUnreachable}
 use Rattle.cut_preflow.specs.Preflow.{FlowNetwork, State, inflow, outflow}
 use Rattle.cut_preflow.specs.Side.{has}
 
--- two different modules of the network
+-- a and b are two different modules of the network
 pub record AreEnds (net : Network) (a b : ℕ) : Type 0 where
   pub from_in : a < length net.names
   pub to_in : b < length net.names
@@ -24,7 +24,7 @@ network_between net a b = record { nodes = length net.names; imports = net.impor
 abbrev pub network_on : ℕ → List Priced → ℕ → ℕ → FlowNetwork
 network_on nodes imports source sink = record { nodes = nodes; imports = imports; source = source; sink = sink }
 
--- the flow network has the nodes and imports of the network
+-- the flow network is the network between two nodes: it has its nodes and imports
 abbrev pub IsOf : Network → FlowNetwork → Type 0
 IsOf net flow_net = flow_net ≡ network_between net flow_net.source flow_net.sink
 
@@ -42,7 +42,7 @@ HasFlow flow_net s = (net : Network) → IsOf net flow_net → IsFlow net flow_n
 
 -- the sink isn't reachable from the source in the residual graph of the state's flow
 abbrev pub IsSinkUnreachable : FlowNetwork → State → Type 0
-IsSinkUnreachable flow_net s = (net : Network) → IsOf net flow_net → IsBarred net (flow_on flow_net s) flow_net.source flow_net.sink
+IsSinkUnreachable flow_net s = (net : Network) → IsOf net flow_net → IsUnreachable net (flow_on flow_net s) flow_net.source flow_net.sink
 
 -- the flagged modules are those that the source reaches in the residual graph of the state's flow
 abbrev pub AreReached : FlowNetwork → State → List Bool → Type 0

@@ -1,9 +1,10 @@
--- The redundant data of a preflow: a graph of its nodes, the excess of each, and the active ones.
+-- The redundant data of a preflow, stored for speed: the number of nodes, the excess of each node, and the set of active nodes.
 use Rattle.std.specs.Prelude.{◌≡◌, ◌≢◌, ℕ, ◌+◌, ◌-◌, ◌<◌, Bool, false, not, ◌&&◌, ◌==◌, nat_lt, if◌then◌else◌, List, length, slice_index, slice_index_or, slice_set}
 use Rattle.cut_preflow.specs.declared.ends.FlowEnds.{FlowEnds}
 use Rattle.cut_preflow.specs.Preflow.{FlowNetwork, State, excess, is_active}
 
--- the graph has the network's nodes, the excesses are those of all nodes but the source, and the active nodes are those of the state
+-- the stored number of nodes is the network's, the stored excesses are those of the state, but for the source, and the flagged nodes are
+-- the active ones
 pub record IsIndexed (net : FlowNetwork) (s : State) (nodes : ℕ) (excesses : List ℕ) (active : List Bool) : Type 0 where
   pub nodes_are : nodes ≡ net.nodes
   pub each_counted : length excesses ≡ net.nodes
@@ -26,5 +27,5 @@ abbrev pub with_added_excess : ℕ → List ℕ → ℕ → ℕ → List ℕ
 with_added_excess source excesses node amount = if node == source then excesses else slice_set excesses node (slice_index excesses node + amount)
 
 -- the excesses after an amount moves from one node to another
-abbrev pub carried : ℕ → List ℕ → ℕ → ℕ → ℕ → List ℕ
-carried source excesses from to amount = with_added_excess source (slice_set excesses from (slice_index excesses from - amount)) to amount
+abbrev pub with_moved_excess : ℕ → List ℕ → ℕ → ℕ → ℕ → List ℕ
+with_moved_excess source excesses from to amount = with_added_excess source (slice_set excesses from (slice_index excesses from - amount)) to amount

@@ -12,7 +12,7 @@ pub record IsFlowNetwork (net : FlowNetwork) : Type 0 where
   pub apart : net.source ≢ net.sink
   pub apart_ends : AreApart net.imports
 
--- the invariant of every run
+-- the invariant of the states after any list of events
 pub record IsValidPreflow (net : FlowNetwork) (s : State) : Type 0 where
   pub flows : length s.flow ≡ count net
   pub labels : length s.label ≡ net.nodes

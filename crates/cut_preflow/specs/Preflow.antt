@@ -124,8 +124,8 @@ least_head_in imports flow label v (suc arc) =
 abbrev pub least_head : FlowNetwork → State → ℕ → ℕ → Option ℕ
 least_head net s v arcs = least_head_in net.imports s.flow s.label v arcs
 
--- the new label of a relabel, if it applies: one more than the smallest label at the heads, if none of them is lower than the node's
--- label
+-- the new label of a relabel, given the node's label and the smallest label at the heads of its arcs with residual capacity. The relabel
+-- applies only if this smallest label is at least the node's
 abbrev pub raised_over : ℕ → Option ℕ → Option ℕ
 raised_over label None = None
 raised_over label (Some least) = if nat_le label least then Some (least + 1) else None
@@ -143,6 +143,7 @@ abbrev pub after : FlowNetwork → State → Step → State
 after net s (Push arc) = if can_push net s arc then record { flow = pushed net s arc; label = s.label } else s
 after net s (Relabel node) = relabelled s node (relabel_target net s node)
 
+-- whether the step applies
 abbrev pub applies : FlowNetwork → State → Step → Bool
 applies net s (Push arc) = can_push net s arc
 applies net s (Relabel node) = is_some (relabel_target net s node)
@@ -152,7 +153,7 @@ abbrev pub run : FlowNetwork → State → List Event → State
 run net s [] = s
 run net s (e ∷ es) = run net (after net s e.step) es
 
--- each event applies to the state of its predecessors
+-- each event applies in the state after its predecessors
 abbrev pub is_legal : FlowNetwork → State → List Event → Bool
 is_legal net s [] = true
 is_legal net s (e ∷ es) = applies net s e.step && is_legal net (after net s e.step) es

@@ -2,7 +2,7 @@
 use Rattle.std.specs.Prelude.{◌≡◌, ℕ, ◌+◌, ◌*◌, ◌<◌, ◌≤◌, true}
 use Rattle.cut_preflow.specs.Preflow.{FlowNetwork, State, count, head, is_active, label_at, residual, tail}
 
--- an arc of the node with residual capacity leads to this label
+-- an arc with residual capacity leads from node v to a node with the label `least`
 pub record LeadsTo (net : FlowNetwork) (s : State) (v least : ℕ) : Type 0 where
   pub arc : ℕ
   pub known : arc < 2 * count net

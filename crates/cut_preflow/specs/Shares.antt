@@ -17,14 +17,14 @@ pub record Shared : Type 0 where
   pub own : ℕ
   pub shares_out : ℕ
 
--- an applied step is counted
+-- the count after an event: one more if its step was applied
 abbrev pub count_after : ℕ → Outcome → ℕ
 count_after n (Moved amount) = n + 1
 count_after n (Raised label) = n + 1
 count_after n Stale = n
 count_after n Refused = n
 
--- an event with outcome `Refused` flags the share
+-- the flag of a share after an event: an outcome `Refused` sets it
 abbrev pub mark_after : Bool → Outcome → Bool
 mark_after marked (Moved amount) = marked
 mark_after marked (Raised label) = marked

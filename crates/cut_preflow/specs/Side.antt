@@ -7,7 +7,7 @@ use Rattle.cut_preflow.specs.Preflow.{tail_in, head_in, residual_in}
 abbrev pub has : List Bool → ℕ → Bool
 has bits v = slice_index_or bits v false
 
--- none of the arcs below this number leaves the set with residual capacity
+-- no residual arc with a number below `arcs` and with residual capacity leaves the set `side`
 abbrev pub IsClosedBelow : List Priced → List ℕ → (ℕ → Bool) → ℕ → Type 0
 IsClosedBelow imports flow side arcs =
     (arc : ℕ) → arc < arcs → 0 < residual_in imports flow arc → side (tail_in imports arc) ≡ true → side (head_in imports arc) ≡ true
@@ -16,7 +16,7 @@ IsClosedBelow imports flow side arcs =
 abbrev pub IsWithin : List Bool → (ℕ → Bool) → Type 0
 IsWithin bits side = (v : ℕ) → has bits v ≡ true → side v ≡ true
 
--- the smallest set with the source that no arc with residual capacity leaves
+-- the flagged nodes are the smallest set with the source that no arc with residual capacity leaves
 pub record IsReachableSet (imports : List Priced) (flow : List ℕ) (source : ℕ) (bits : List Bool) : Type 0 where
   pub starts : has bits source ≡ true
   pub closed : IsClosedBelow imports flow (has bits) (2 * length imports)

@@ -24,7 +24,7 @@ state_with flows labels = record { flow = flows; label = labels }
 abbrev pub flow_graph_model_of : FlowNetwork → State → FlowGraphModel
 flow_graph_model_of net s = record { nodes = net.nodes; imports = net.imports; flow = s.flow }
 
--- the specification of a preflow: the network that it was started on, and the applied events
+-- a preflow as contracts see it: the network that it was started on, and the applied events
 pub record Trace : Type 0 where
   pub net : FlowNetwork
   pub history : List Event

@@ -12,7 +12,7 @@ use crate::flow_graph::arc_number;
 use crate::preflow_core::PreflowCore;
 use residual_graph::OutArc;
 
-/// The minimum of a label and an optional one.
+/// The smaller one of a label and an optional label, which counts as infinite if it is `None`.
 fn smaller(least: Option<u32>, label: u32) -> u32
     ensures { result ≡ smaller least label }
 {
@@ -23,7 +23,7 @@ fn smaller(least: Option<u32>, label: u32) -> u32
 }
 
 impl PreflowCore {
-    /// The amount of a push over the arc; none if the push doesn't apply.
+    /// The amount that a push over the arc moves; none if the push doesn't apply. Arcs are numbered as in `Step`.
     pub(crate) fn push_amount(&self, arc: u32) -> Option<u64>
         ensures { result ≡ (if can_push self.now.net (state_of self.now) arc then Some (push_amount self.now.net (state_of self.now) arc) else None) }
     {
@@ -41,7 +41,7 @@ impl PreflowCore {
         }
     }
 
-    /// The smallest label at the heads of a node's arcs with residual capacity.
+    /// The smallest label at the heads of a node's arcs with residual capacity; `None` if no arc of the node has capacity.
     fn least_label(&self, node: u32) -> Option<u32>
         requires { node < self.now.net.nodes }
         ensures some { IfSome result (λ least. LeadsTo self.now.net (state_of self.now) node least × ((other : ℕ) → LeadsTo self.now.net (state_of self.now) node other → least ≤ other)) }
@@ -57,7 +57,8 @@ impl PreflowCore {
         least
     }
 
-    /// The new label by a relabel of the node; none if the relabel doesn't apply.
+    /// The label that a relabel gives the node: one more than the smallest label at the heads of its arcs with residual capacity. None if
+    /// the relabel doesn't apply.
     pub(crate) fn raised_label(&self, node: u32) -> Option<u32>
         ensures { result ≡ relabel_target self.now.net (state_of self.now) node }
     {
@@ -82,13 +83,13 @@ impl PreflowCore {
         out.residual > 0 && u64::from(self.label(node)) == u64::from(self.label(out.head)) + 1
     }
 
-    /// The new current arc of a node after a push over this arc: the index of the first arc from the current one on over which a push
-    /// applies, at most the index after this arc.
+    /// The index of a node's new current arc after a push over `arc`: of the first arc, from the current one on, over which a push applies,
+    /// but at most the index after `arc`.
     pub(crate) fn next_current_arc(&self, node: u32, arc: u32) -> usize
         requires { node < self.now.net.nodes }
     {
         let outs = self.out_arcs(node);
-        for position in self.passed(node)..outs.len() {
+        for position in self.current_arc_index(node)..outs.len() {
             let out = outs[position];
             if self.can_push(out, node) {
                 return position;
@@ -100,7 +101,7 @@ impl PreflowCore {
         outs.len()
     }
 
-    /// The first of these arcs of an active node over which a push applies.
+    /// The number of the first arc in `outs` over which a push applies. They are arcs of `node`, which is active.
     fn first_pushable_arc(&self, node: u32, outs: &[OutArc]) -> Option<u32>
         requires each { All (IsArcFrom (flow_graph_model_of self.now.net (state_of self.now)) node) outs.now }
         requires active { is_active self.now.net (state_of self.now) node ≡ true }
@@ -129,7 +130,7 @@ impl PreflowCore {
             return None;
         }
         let outs = self.out_arcs(node);
-        let (passed, ahead) = outs.split_at(self.passed(node).min(outs.len()));
+        let (passed, ahead) = outs.split_at(self.current_arc_index(node).min(outs.len()));
         match self.first_pushable_arc(node, ahead) {
             Some(arc) => Some(arc),
             None => self.first_pushable_arc(node, passed),

@@ -2,8 +2,8 @@
 
 use std::alloc::{AllocError, Global};
 
-/// A bit for each index, 64 to a word, and a second level with a bit for each word that isn't 0. So the next set bit is found by
-/// inspecting a few words. No clause states this; callers test what they find.
+/// A bit for each index, 64 to a word; and in `above` a bit for each word, set if the word isn't 0. So the next set bit is found by
+/// inspecting a few words. No clause states this, so callers check that what they find is a member.
 #[derive(Drop)]
 pub(crate) struct BitSet {
     words: Vec<u64>,
@@ -15,7 +15,7 @@ fn bit_of(position: usize) -> u64 {
     1u64 << (position % 64)
 }
 
-/// The first set bit from this index on, within its word.
+/// The index of the first set bit from index `position` on, if its word has one.
 fn first_bit_from(words: &[u64], position: usize) -> Option<usize> {
     let word = words.get(position / 64).copied()?;
     let rest = word & (u64::MAX << (position % 64));
@@ -27,7 +27,7 @@ fn first_bit_from(words: &[u64], position: usize) -> Option<usize> {
 }
 
 impl BitSet {
-    /// The empty set for this many indices. Fails if an allocation fails.
+    /// The empty set, for indices below `positions`. Fails if an allocation fails.
     pub(crate) fn new(alloc: Global, positions: usize) -> Result<BitSet, AllocError> {
         let words = positions / 64 + 1;
         Ok(BitSet {
@@ -75,7 +75,7 @@ impl BitSet {
         }
     }
 
-    /// The first word from this one on that isn't 0.
+    /// The index of the first word from index `word` on that isn't 0.
     fn first_word_from(&self, word: usize) -> Option<usize> {
         let mut from = word;
         for above in word / 64..self.above.len() {
@@ -88,7 +88,7 @@ impl BitSet {
     }
 
     /// The first member from this index on.
-    pub(crate) fn next(&self, position: usize) -> Option<usize> {
+    pub(crate) fn next_member(&self, position: usize) -> Option<usize> {
         if let Some(found) = first_bit_from(&self.words, position) {
             return Some(found);
         }

@@ -5,7 +5,7 @@ use crate::bits::BitSet;
 use residual_graph::positions_of;
 use std::alloc::{AllocError, Global};
 
-/// The nodes in discharge order, the index of each in it, a set of the scheduled ones, and the current index.
+/// The nodes in discharge order, for each node its index in the order, the set of the indices of scheduled nodes, and the current index.
 #[derive(Drop)]
 pub(crate) struct DischargeOrder {
     nodes: Vec<u32>,
@@ -34,7 +34,7 @@ impl DischargeOrder {
         })
     }
 
-    /// The current node.
+    /// The node at the current index; none if the order is empty.
     pub(crate) fn node(&self) -> Option<u32> {
         self.nodes.get(self.at).copied()
     }
@@ -66,18 +66,18 @@ impl DischargeOrder {
     #[inline(always)]
     pub(crate) fn advance(&mut self) {
         if !self.bits.has(self.at) {
-            self.scan_forward();
+            self.find_next_scheduled();
         }
     }
 
-    /// Searches the next scheduled node.
+    /// Moves the current index to the next scheduled node, from the current index on and then from the beginning.
     #[inline(never)]
-    fn scan_forward(&mut self) {
-        if let Some(position) = self.bits.next(self.at) {
+    fn find_next_scheduled(&mut self) {
+        if let Some(position) = self.bits.next_member(self.at) {
             self.at = position;
             return;
         }
-        if let Some(position) = self.bits.next(0) {
+        if let Some(position) = self.bits.next_member(0) {
             self.at = position;
         }
     }

@@ -1,4 +1,4 @@
-//! Events and their outcomes.
+//! The events of a preflow, that is, steps tried by workers, and the outcomes of events.
 
 use std::mem::size_of;
 
@@ -33,8 +33,8 @@ pub enum Outcome {
     Raised { label: u32 },
     /// The step doesn't apply, and nothing changed.
     Stale,
-    /// The step applies, but the history's allocation failed, and nothing changed except the flag of a share that would have counted the
-    /// step.
+    /// The step applies, but the history's allocation failed. The preflow is unchanged; only the share that would have counted the step is
+    /// flagged.
     Refused,
 }
 

@@ -2,7 +2,7 @@
 ghost use Rattle.std.specs.Prelude.{◌≡◌, ◌≢◌, ◌+◌, ◌^◌, ◌<◌, ◌≤◌, ℕ, IfOk, length, slice_index, slice_set};
 ghost use Rattle.cut_preflow.specs.Total.{total};
 ghost use Rattle.cut_preflow.specs.Preflow.{import_in, into, opening_flows};
-ghost use Rattle.cut_preflow.specs.Indexed.{AreActive, with_added_excess, carried};
+ghost use Rattle.cut_preflow.specs.Indexed.{AreActive, with_added_excess, with_moved_excess};
 
 use crate::discharge_order::DischargeOrder;
 use crate::ends::FlowEnds;
@@ -69,7 +69,7 @@ pub(crate) fn move_excess(
     requires active { AreActive ends excesses.old.items active.old }
     requires pays { amount ≤ slice_index excesses.old.items from }
     requires fits { to ≢ ends.source → slice_index excesses.old.items to + amount < 2 ^ 64 }
-    ensures excesses { excesses.new.items ≡ carried ends.source excesses.old.items from to amount }
+    ensures excesses { excesses.new.items ≡ with_moved_excess ends.source excesses.old.items from to amount }
     ensures active { AreActive ends excesses.new.items active.new }
 {
     let left = excesses[from as usize] - amount;
@@ -77,8 +77,8 @@ pub(crate) fn move_excess(
     add_excess(ends, excesses, active, to, amount);
 }
 
-/// Adds to each node the flow of the saturated imports by the source.
-fn add_opening_excess(
+/// Adds to the excess of each module that the source imports the weight of this import, since the initial preflow saturates it.
+fn add_initial_excess(
     ends: FlowEnds,
     imports: &[Priced],
     excesses: &mut Vec<u64>,
@@ -99,7 +99,7 @@ fn add_opening_excess(
 }
 
 /// The excess of each node in the initial preflow, and the set of active nodes, with their discharge order. Fails if an allocation fails.
-pub(crate) fn opening_excesses(
+pub(crate) fn initial_excesses(
     alloc: Global,
     ends: FlowEnds,
     imports: &[Priced],
@@ -112,6 +112,6 @@ pub(crate) fn opening_excesses(
 {
     let mut each = vec![in alloc; 0u64; ends.nodes as usize]?;
     let mut active = NodeSet::new(alloc, ends.nodes, discharge_order)?;
-    add_opening_excess(ends, imports, &mut each, &mut active);
+    add_initial_excess(ends, imports, &mut each, &mut active);
     Ok(Excesses { each, active })
 }

@@ -2,7 +2,7 @@
 ghost use Rattle.std.specs.Prelude.{◌≡◌, ◌+◌, ◌-◌, ◌*◌, ◌/◌, ◌^◌, ◌<◌, ◌≤◌, ℕ, All, Contains, IfOk, if◌then◌else◌, length, map, slice_index, slice_set};
 ghost use Rattle.residual_graph.specs.declared.arc.ResidualArc.{ResidualArc};
 ghost use Rattle.cut_preflow.specs.Total.{total};
-ghost use Rattle.cut_preflow.specs.FlowGraphs.{IsArcFrom, opening_arcs, arc_number, out_arc_number};
+ghost use Rattle.cut_preflow.specs.FlowGraphs.{IsArcFrom, initial_arcs, arc_number, out_arc_number};
 ghost use Rattle.cut_preflow.specs.Side.{IsReachableSet};
 ghost use Rattle.cut_preflow.specs.Preflow.{import_in, into, is_forward, opening_flows, out_of, tail_in, head_in, residual_in};
 
@@ -13,7 +13,7 @@ use residual_graph::{Arc, OutArc, ResidualArc, ResidualGraph, search, topologica
 use std::alloc::{AllocError, Global};
 use std::marker::Model;
 
-/// The residual graph of a network's imports. Its specification is the number of nodes, the imports, and the flow on each.
+/// The residual graph of a network's imports. Contracts see it as the number of nodes, the imports, and the flow on each import.
 #[derive(Drop)]
 pub(crate) struct FlowGraph {
     graph: ResidualGraph,
@@ -30,9 +30,9 @@ impl Model for FlowGraph {
     ghost invariant = { λ f. length f.graph.arcs ≤ 65536 };
 }
 
-/// The arcs of the initial preflow: those of the imports by the source are saturated.
-fn opening_arcs(alloc: Global, source: u32, imports: &[Priced]) -> Result<Vec<Arc>, AllocError>
-    ensures { IfOk result (λ arcs. arcs.items ≡ opening_arcs source imports.now) }
+/// The arcs of the initial preflow: an arc of an import by the source is saturated, any other has flow 0.
+fn initial_arcs(alloc: Global, source: u32, imports: &[Priced]) -> Result<Vec<Arc>, AllocError>
+    ensures { IfOk result (λ arcs. arcs.items ≡ initial_arcs source imports.now) }
 {
     imports
         .iter()
@@ -45,7 +45,7 @@ fn opening_arcs(alloc: Global, source: u32, imports: &[Priced]) -> Result<Vec<Ar
         .collect(alloc)
 }
 
-/// The residual arc of this number.
+/// The residual arc of this number: 2i is import i forward, 2i + 1 backward.
 fn step_of(arc: u32) -> ResidualArc
     ensures { result ≡ record { arc = arc / 2; forward = is_forward arc } }
 {
@@ -55,7 +55,7 @@ fn step_of(arc: u32) -> ResidualArc
     }
 }
 
-/// The number of a residual arc.
+/// The number of a residual arc: 2i for import i forward, 2i + 1 backward.
 pub(crate) fn arc_number(step: ResidualArc) -> u32
     requires { step.arc < 65536 }
     ensures { result ≡ arc_number step }
@@ -75,7 +75,7 @@ impl FlowGraph {
         requires few { length imports.now ≤ 65536 }
         ensures { IfOk result (λ f. f ≡ record { nodes = ends.nodes; imports = imports.now; flow = opening_flows ends.source imports.now }) }
     {
-        let arcs = opening_arcs(alloc, ends.source, imports)?;
+        let arcs = initial_arcs(alloc, ends.source, imports)?;
         let graph = ResidualGraph::new(alloc, arcs, ends.nodes)?;
         Ok(FlowGraph { graph })
     }

@@ -1,5 +1,5 @@
-//! Laws of all lists of events, including events that don't apply or have numbers out of range. Each is proved as the contract of a
-//! function that does nothing, by the definitions in the contracts of `start` and `apply`.
+//! Laws of all lists of events, including events that don't apply or have numbers out of range. Each law is the contract of a function
+//! with an empty body. The definitions are those that the contracts of `start` and `apply` cite.
 ghost use Rattle.std.specs.Prelude.{◌≡◌, ◌≢◌, ◌↔◌, ◌≤◌, ◌<◌, ◌*◌, ◌+◌, ℕ, Bool, true, Some, List, length};
 ghost use Rattle.cut_net.specs.Network.{Network};
 ghost use Rattle.cut_net.specs.Pins.{ArePins, IsFlowWithPins, InSourceSideWithPins, PinChain};
@@ -41,8 +41,8 @@ pub fn quiet_run_reaches_source_side()
         IsQuiet flow_net s → IsSetOf modules (Reached net (flow_on flow_net s) a) → IsSetOf modules (InSourceSide net a b) }
 {}
 
-/// If no node but source and sink has excess after a list of events, the flow is a flow with pins; and if no path of pinned imports leads
-/// from the source to the sink, the modules that the source reaches are the minimal source side with pins.
+/// If no node but source and sink has excess after a list of events, the flow is a flow by the definition with pins. If also no path of
+/// pinned imports leads from the source to the sink, the modules that the source reaches are the minimal source side with pins.
 pub fn quiet_run_with_pins()
     // The flow is a flow with pins.
     ensures flow { (net : Network) (a b : ℕ) (events : List Event) → IsNetwork net → AreEnds net a b →
@@ -59,7 +59,7 @@ pub fn quiet_run_with_pins()
     source_side_with_pins();
 }
 
-/// No list of events changes the state more often than the bound, and no legal history is longer.
+/// A list of events changes the state at most 4n²m + 2nm + 4n² times, for n nodes and m imports; no legal history is longer.
 pub fn steps_are_bounded()
     // The number of changes is bounded.
     ensures changes { (net : Network) (a b : ℕ) (events : List Event) → IsNetwork net → AreEnds net a b →
@@ -71,7 +71,7 @@ pub fn steps_are_bounded()
 
 /// A relabel applies to an active node none of whose arcs with residual capacity leads to a lower label, if it has one with residual
 /// capacity. The new label is one more than the smallest label at their heads.
-pub fn relabel_is_least()
-    // The new label of a relabel is exactly this one.
+pub fn new_label_is_smallest()
+    // A relabel of node v gives it the label `label` exactly if `IsRaised` holds.
     ensures { (flow_net : FlowNetwork) (s : State) (v label : ℕ) → (relabel_target flow_net s v ≡ Some label) ↔ IsRaised flow_net s v label }
 {}

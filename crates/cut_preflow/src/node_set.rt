@@ -7,8 +7,8 @@ use crate::discharge_order::DischargeOrder;
 use std::alloc::{AllocError, Global};
 use std::marker::Model;
 
-/// A set of the nodes of a network, with a discharge order for its members. Its specification is a flag for each node. It has a
-/// permutation of all nodes whose prefix are the members, and its inverse.
+/// A set of the nodes of a network, with a discharge order for its members. Contracts see it as a flag for each node. `order` is a
+/// permutation of all nodes whose first `size` nodes are the members; `position` is its inverse.
 #[derive(Drop)]
 pub(crate) struct NodeSet {
     order: Vec<u32>,
@@ -35,7 +35,7 @@ fn ascending_nodes(alloc: Global, nodes: u32) -> Result<Vec<u32>, AllocError>
     (0..nodes).collect(alloc)
 }
 
-/// Swaps two nodes of the permutation, and updates its inverse.
+/// Swaps the nodes at the indices `first` and `second` of the permutation, and updates its inverse.
 fn swap_nodes(order: &mut [u32], position: &mut [u32], first: u32, second: u32)
     requires inverse { AreInverse order.old position.old }
     requires first { first < length order.old }
@@ -52,7 +52,7 @@ fn swap_nodes(order: &mut [u32], position: &mut [u32], first: u32, second: u32)
 }
 
 impl NodeSet {
-    /// The empty set of this many nodes. No node is scheduled in the discharge order. Fails if an allocation fails.
+    /// The empty set, for nodes below `nodes`. No node may be scheduled in the discharge order. Fails if an allocation fails.
     pub(crate) fn new(
         alloc: Global,
         nodes: u32,
@@ -105,8 +105,8 @@ impl NodeSet {
         }
     }
 
-    /// A member, if there is one.
-    pub(crate) fn last(&self) -> Option<u32>
+    /// A member, the last one in the permutation; none if the set is empty.
+    pub(crate) fn any_member(&self) -> Option<u32>
         ensures some { IfSome result (λ v. slice_index_or self.now v false ≡ true) }
         ensures none { IsNone result → (v : ℕ) → slice_index_or self.now v false ≡ false }
     {

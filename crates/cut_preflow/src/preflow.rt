@@ -22,9 +22,9 @@ use std::marker::Model;
 use std::sync::ledger;
 use std::sync::ledger::{Blank, Book};
 
-/// A preflow on a network between two of its modules (Goldberg and Tarjan 1988, section 3), to be guarded by the lock of many workers: a
-/// flow for each import, a label for each module, the applied events, and a ledger that counts them. Its specification is the network,
-/// the events and the counts; flows and labels are determined by the events. The type parameter names the network.
+/// A preflow on a network between two of its modules (Goldberg and Tarjan 1988, section 3), to be guarded by a lock: a flow for each
+/// import, a label for each module, the applied events, and a ledger that counts these. Contracts see it as the network, the events and
+/// the counts, since the events determine flows and labels. The type parameter identifies the network.
 #[derive(Drop)]
 pub struct Preflow<L: NetworkLedger> {
     core_state: PreflowCore,
@@ -78,7 +78,7 @@ impl<L: NetworkLedger> Preflow<L> {
         })
     }
 
-    /// As `start`, on this many nodes and these imports, in any order.
+    /// As `start`, on a network with the nodes below `nodes` and these imports, in any order.
     pub fn start_on(
         alloc: Global,
         blank: Blank,
@@ -115,7 +115,7 @@ impl<L: NetworkLedger> Preflow<L> {
         })
     }
 
-    /// An empty, unflagged share; none if 64 shares are out.
+    /// A new share of the ledger, which counts no step and isn't flagged. It is out until `rejoin`. None if 64 shares are out.
     pub fn share(&mut self) -> Option<Share<L>>
         // There is a share exactly if fewer than 64 are out.
         ensures some { IsSome result ↔ (self.old.shares_out < 64) }
@@ -177,10 +177,12 @@ impl<L: NetworkLedger> Preflow<L> {
         let outcome = self.core_state.apply(event);
         match outcome {
             Outcome::Moved { .. } | Outcome::Raised { .. } => {
-                // Moves no part, but shows that a share is out: the own share and this one have at most the ledger's 65 parts together.
+                // Called only for its contract: with 0 parts and 0 counts nothing changes. The contract states that both shares together
+                // have at most the ledger's 65 parts, which shows that a share is out.
                 self.own.give(&mut share.part, 0, 0);
                 self.book.add(&mut share.part, 1);
-                // So the share's count fits 64 bits: it is at most the ledger's total, and the history is within the bound on steps.
+                // Shows that the share's count fits 64 bits: it is at most the ledger's total, which is the length of the history, and
+                // that is bounded.
                 self.book.audit(&mut share.part);
                 let _ = self.core_state.history();
                 share.count += 1;
@@ -191,7 +193,7 @@ impl<L: NetworkLedger> Preflow<L> {
         outcome
     }
 
-    /// Whether no node is active. If so, flags the share.
+    /// Returns whether no node is active, and flags the share if so.
     pub fn note_quiet(&self, share: &mut Share<L>) -> bool
         // The result is whether no node is active.
         ensures quiet { IsTrue result ↔ IsQuiet self.now.trace.net (state_of self.now.trace) }
@@ -205,8 +207,8 @@ impl<L: NetworkLedger> Preflow<L> {
         quiet
     }
 
-    /// Merges a share into the preflow's own, and returns how many are still out. If none is, the own share counts all steps of the
-    /// history.
+    /// Merges a share into the preflow's own share. Returns the number of shares that are still out; if it is 0, the own share counts all
+    /// steps of the history.
     pub fn rejoin(&mut self, share: Share<L>) -> u32
         // The result is the number of shares that are out, one less than before.
         ensures out { (result ≡ self.new.shares_out) × (result + 1 ≡ self.old.shares_out) }
@@ -239,7 +241,7 @@ impl<L: NetworkLedger> Preflow<L> {
         ensures net { self.now.trace.net ≡ L.net }
         // The ledger counts all steps of the history.
         ensures counted { self.now.counted ≡ length self.now.trace.history }
-        // If no share is out, so does the own share.
+        // If no share is out, the own share counts all steps of the history.
         ensures whole { self.now.shares_out ≡ 0 → self.now.own ≡ length self.now.trace.history }
         // The history is legal.
         ensures legal { is_legal self.now.trace.net (opening self.now.trace.net) self.now.trace.history ≡ true }
@@ -250,17 +252,17 @@ impl<L: NetworkLedger> Preflow<L> {
         // If no node is active, the sink isn't reachable in the residual graph.
         ensures shut { IsQuiet self.now.trace.net (state_of self.now.trace) → IsSinkUnreachable self.now.trace.net (state_of self.now.trace) }
     {
-        // Its clause `legal` states that the history is legal.
+        // The clause `legal` of `history` states that the history is legal.
         let _ = self.core_state.history();
         self.core_state.invariants();
     }
 
-    /// The applied events, in order; each applied to the state of its predecessors. For n modules and m imports they are at most 4n²m +
-    /// 2nm + 4n².
+    /// The applied events, in order; each applied in the state after its predecessors. For n modules and m imports there are at most
+    /// 4n²m + 2nm + 4n² events.
     pub fn history(&self) -> &[Event]
         // They are the events of the history.
         ensures events { result.now ≡ self.now.trace.history }
-        // Each event applied to the state of its predecessors.
+        // Each event applied in the state after its predecessors.
         ensures legal { is_legal self.now.trace.net (opening self.now.trace.net) self.now.trace.history ≡ true }
         // Their number is bounded.
         ensures few { length self.now.trace.history ≤ max_steps self.now.trace.net }
@@ -378,7 +380,7 @@ impl<L: NetworkLedger> Preflow<L> {
         ensures memory { IsErr result → IsQuiet self.new.trace.net (state_of self.new.trace) → ⊥ }
     {
         self.invariants();
-        let most = self.core_state.most_steps();
+        let most = self.core_state.step_bound();
         match self.settle_within(most) {
             Ok(()) => Ok(()),
             Err(SettleFault::Unfinished) => unreachable!(),
@@ -386,9 +388,9 @@ impl<L: NetworkLedger> Preflow<L> {
         }
     }
 
-    /// Flags the modules that the source reaches by arcs with residual capacity, by module number. If no node is active, they are the
-    /// minimal source side, also with pins if no path of pinned imports leads from the source to the sink, and the sink isn't one of
-    /// them. Fails if an allocation fails.
+    /// For each module whether the source reaches it by arcs with residual capacity. If no node is active, the flagged modules are the
+    /// minimal source side, and the sink isn't one of them. If also no path of pinned imports leads from the source to the sink, they are
+    /// the minimal source side with pins. Fails if an allocation fails.
     pub fn side(&self) -> Result<Vec<bool>, AllocError>
         // There is a flag for each node.
         ensures size { IfOk result (λ m. length m.items ≡ self.now.trace.net.nodes) }

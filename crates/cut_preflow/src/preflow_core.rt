@@ -10,7 +10,7 @@ ghost use Rattle.cut_preflow.specs.Trace.{flow_graph_model_of, state_of, step_ou
 
 use crate::discharge_order::DischargeOrder;
 use crate::ends::FlowEnds;
-use crate::excesses::{move_excess, opening_excesses};
+use crate::excesses::{initial_excesses, move_excess};
 use crate::flow_graph::FlowGraph;
 use crate::node_set::NodeSet;
 use crate::{Event, Outcome, Step};
@@ -20,9 +20,8 @@ use std::alloc::{AllocError, Global};
 use std::marker::Model;
 
 /// A preflow on a network between two of its modules (Goldberg and Tarjan 1988, section 3): a flow for each import, a label for each
-/// module, and the applied events. Its specification is the network and the events, which determine flows and labels. The imports with
-/// their flows are a residual graph, in which the arcs of a node are adjacent. For speed it also has the excess of each node but the
-/// source, the set of active nodes with their discharge order, and the current arc of each node.
+/// module, and the applied events. Contracts see it as the network and the events, which determine flows and labels. For speed it also
+/// has the excess of each node but the source, the set of active nodes with their discharge order, and the current arc of each node.
 #[derive(Drop)]
 pub(crate) struct PreflowCore {
     ends: FlowEnds,
@@ -46,7 +45,7 @@ impl Model for PreflowCore {
 }
 
 /// The initial labels: the number of nodes for the source, 0 for the others.
-fn opening_labels(alloc: Global, ends: FlowEnds) -> Result<Vec<u32>, AllocError>
+fn initial_labels(alloc: Global, ends: FlowEnds) -> Result<Vec<u32>, AllocError>
     requires { ends.source < ends.nodes }
     ensures { IfOk result (λ labels. labels.items ≡ slice_set (replicate ends.nodes 0) ends.source ends.nodes) }
 {
@@ -62,10 +61,10 @@ fn new_core(alloc: Global, ends: FlowEnds, imports: Vec<Priced>) -> Result<Prefl
     ensures { IfOk result (λ p. p ≡ record { net = flow_network ends imports.items; history = [] }) }
 {
     let graph = FlowGraph::initial_preflow(alloc, ends, imports.as_slice())?;
-    let labels = opening_labels(alloc, ends)?;
+    let labels = initial_labels(alloc, ends)?;
     let order = graph.order(alloc)?;
     let discharge_order = DischargeOrder::of_nodes(alloc, order, ends.nodes)?;
-    let excesses = opening_excesses(alloc, ends, imports.as_slice(), discharge_order)?;
+    let excesses = initial_excesses(alloc, ends, imports.as_slice(), discharge_order)?;
     let current = CurrentArcs::new(alloc, ends.nodes)?;
     Ok(PreflowCore {
         ends,
@@ -153,13 +152,13 @@ impl PreflowCore {
         requires { node < self.old.net.nodes }
         ensures { self.new ≡ self.old }
     {
-        let passed = self.next_current_arc(node, arc);
-        self.current.set_current(node, passed);
+        let index = self.next_current_arc(node, arc);
+        self.current.set_current(node, index);
     }
 
     /// The index of the node's current arc.
-    pub(crate) fn passed(&self, node: u32) -> usize {
-        self.current.passed(node)
+    pub(crate) fn current_arc_index(&self, node: u32) -> usize {
+        self.current.current_index(node)
     }
 
     /// The current node of the discharge order, if it is active.
@@ -195,11 +194,11 @@ impl PreflowCore {
         ensures flow { IsQuiet self.now.net (state_of self.now) → HasFlow self.now.net (state_of self.now) }
         ensures shut { IsQuiet self.now.net (state_of self.now) → IsSinkUnreachable self.now.net (state_of self.now) }
     {
-        // Using a field makes the facts of the type known here.
+        // The prover knows the type's invariant only after a use of a field.
         let _ = &self.labels;
     }
 
-    /// The applied events, in order; each applied to the state of its predecessors. Their number is bounded.
+    /// The applied events, in order; each applied in the state after its predecessors. Their number is bounded.
     pub(crate) fn history(&self) -> &[Event]
         ensures events { result.now ≡ self.now.history }
         ensures legal { is_legal self.now.net (opening self.now.net) self.now.history ≡ true }
@@ -304,7 +303,7 @@ impl PreflowCore {
     }
 
     /// The bound on applied steps: 4n²m + 2nm + 4n² for n modules and m imports.
-    pub(crate) fn most_steps(&self) -> u64
+    pub(crate) fn step_bound(&self) -> u64
         ensures { result ≡ max_steps self.now.net }
     {
         self.invariants();
@@ -317,7 +316,7 @@ impl PreflowCore {
         ensures some { IfSome result (λ v. is_active self.now.net (state_of self.now) v ≡ true) }
         ensures none { IsNone result ↔ IsQuiet self.now.net (state_of self.now) }
     {
-        self.active.last()
+        self.active.any_member()
     }
 
     /// Flags the nodes that the source reaches by arcs with residual capacity. If no node is active, they are the minimal source side,
@@ -332,7 +331,7 @@ impl PreflowCore {
         self.graph.reach(*self.labels.allocator(), self.ends.source)
     }
 
-    /// Pushes over an arc, if that applies.
+    /// Pushes over the arc of the event, if the push applies, and appends the event to the history.
     fn push(&mut self, event: Event, arc: u32) -> Outcome
         requires { event.step ≡ Step.Push arc }
         ensures outcome { result ≢ Outcome.Refused → result ≡ step_outcome self.old.net (state_of self.old) event.step }
@@ -360,7 +359,7 @@ impl PreflowCore {
         Outcome::Moved { amount }
     }
 
-    /// Relabels a node, if that applies.
+    /// Relabels the node of the event, if the relabel applies, and appends the event to the history.
     fn relabel(&mut self, event: Event, node: u32) -> Outcome
         requires { event.step ≡ Step.Relabel node }
         ensures outcome { result ≢ Outcome.Refused → result ≡ step_outcome self.old.net (state_of self.old) event.step }

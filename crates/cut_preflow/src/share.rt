@@ -9,11 +9,11 @@ use std::sync::ledger::Ledger;
 /// The number of parts of a preflow's ledger: one for each share that may be out, and one for the preflow's own share.
 pub const LEDGER_PARTS: u64 = 65;
 
-/// The largest number of shares that may be out at a time.
+/// The largest number of shares that may be out at a time: given away by `share` and not yet returned by `rejoin`.
 pub(crate) const MOST_SHARES: u32 = 64;
 
-/// The ledger of a preflow's steps. It names the network between two modules that the preflow is on, so preflows of different networks
-/// have different types. A ledger is chosen by a call at `Brand` with a new `Blank` of 65 parts, whose proofs name the network.
+/// The ledger of a preflow's steps, as a type parameter. It also identifies the preflow's network, source and sink, so preflows on
+/// different networks have different types. In a call with `Brand` the proofs of the call choose the network.
 pub trait NetworkLedger: Ledger {
     ghost use Rattle.cut_preflow.specs.Preflow.{FlowNetwork};
 
@@ -27,8 +27,8 @@ impl NetworkLedger for Brand {
     ghost net = { record { nodes = 0; imports = []; source = 0; sink = 0 } };
 }
 
-/// The steps of one worker, and a flag that it may stop, since it saw no active node or had an event with outcome `Refused`. It belongs
-/// to the preflow of its ledger, and has one of its parts.
+/// The number of steps of one worker, and a flag that the worker may stop: it saw no active node, or had an event with outcome `Refused`.
+/// The share has one part of its preflow's ledger.
 #[derive(Drop)]
 pub struct Share<L: Ledger> {
     pub(crate) part: ledger::Share<L>,

@@ -5,7 +5,7 @@ use Rattle.std.specs.List.{list_all}
 use Rattle.std.specs.Str.{bytes_eq}
 use Rattle.std.proofs.lemmas.Bool.{and_parts, ltb-true, lt-ltb}
 use Rattle.std.proofs.lemmas.Slice.Eq.{bytes_eq-Decides}
-use Rattle.texts.specs.Fields.{cut_at, named, number_of, is_name, line_of}
+use Rattle.texts.specs.Fields.{split_at_first, named, number_of, is_name, line_of}
 use Rattle.cut_report.specs.ReportLine.{ReportLine, Ends, Weighs, Removes, Flows, Blocks, Last, report_line}
 use Rattle.cut_report.specs.ReportLines.{IsWellFormed}
 use Rattle.texts.proofs.FieldCuts.{cut_takes, cut_again, cut_none, without, some_is}
@@ -43,7 +43,7 @@ record IsAmount (fields : List ℕ) (x : List ℕ × List ℕ × ℕ) : Type 0 w
 ends_take : (fields : List ℕ) (x : List ℕ × List ℕ) → ends_of fields ≡ Some x → AreEnds fields x
 unfolding ends_of
 ends_take fields x e =
-    bind_some (cut_at 32 fields) _ x e (λ parts h0 e.
+    bind_some (split_at_first 32 fields) _ x e (λ parts h0 e.
     bind_some (named parts.0) _ x e (λ from h1 e.
     bind_some (named parts.1) _ x e (λ to h2 e.
     let a = named_takes parts.0 from h1 in
@@ -58,8 +58,8 @@ ends_again m n p q = rw (cut_again 32 m n (name_without 32 m refl p), named_agai
 amount_takes : (fields : List ℕ) (x : List ℕ × List ℕ × ℕ) → amount_of fields ≡ Some x → IsAmount fields x
 unfolding amount_of
 amount_takes fields x e =
-    bind_some (cut_at 32 fields) _ x e (λ first h0 e.
-    bind_some (cut_at 32 first.1) _ x e (λ second h1 e.
+    bind_some (split_at_first 32 fields) _ x e (λ first h0 e.
+    bind_some (split_at_first 32 first.1) _ x e (λ second h1 e.
     bind_some (named first.0) _ x e (λ from h2 e.
     bind_some (named second.0) _ x e (λ to h3 e.
     bind_some (number_of second.1) _ x e (λ amount h4 e.
@@ -120,7 +120,7 @@ unfolding line_of_text
 line_takes text line e =
     by_test (bytes_eq text (codes "end")) _ _ line e
     (λ w e. subst (λ (l : ReportLine). IsSpelling text l) (some_is _ line e) (record { form = tt; spelled = sym (same_word text (codes "end") w) }))
-    (λ _ e. bind_some (cut_at 32 text) _ line e (λ parts h e.
+    (λ _ e. bind_some (split_at_first 32 text) _ line e (λ parts h e.
     rw (cut_takes 32 text parts h) (under_takes parts.0 parts.1 line e)))
 
 -- a text with a space in it isn't the last line
@@ -128,13 +128,13 @@ parted : (word fields : List ℕ) → without 32 word ≡ true → line_of_text 
 unfolding line_of_text
 parted word fields h = go (bytes_eq (word ++ 32 ∷ fields) (codes "end")) refl
   where
-    cuts : cut_at 32 (word ++ 32 ∷ fields) ≡ Some (word, fields)
+    cuts : split_at_first 32 (word ++ 32 ∷ fields) ≡ Some (word, fields)
     cuts = cut_again 32 word fields h
 
-    go : (b : Bool) → bytes_eq (word ++ 32 ∷ fields) (codes "end") ≡ b → cond b (Some Last) (cut_at 32 (word ++ 32 ∷ fields) >>= λ parts. line_under parts.0 parts.1) ≡ line_under word fields
+    go : (b : Bool) → bytes_eq (word ++ 32 ∷ fields) (codes "end") ≡ b → cond b (Some Last) (split_at_first 32 (word ++ 32 ∷ fields) >>= λ parts. line_under parts.0 parts.1) ≡ line_under word fields
     go true e =
         let same = same_word (word ++ 32 ∷ fields) (codes "end") e in
-        let none : cut_at 32 (word ++ 32 ∷ fields) ≡ None = rw same (cut_none 32 (codes "end") refl) in
+        let none : split_at_first 32 (word ++ 32 ∷ fields) ≡ None = rw same (cut_none 32 (codes "end") refl) in
         absurd (let bad : Some (word, fields) ≡ None = rw cuts at none in cc)
     go false e = rw cuts refl
 

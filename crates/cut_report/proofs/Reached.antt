@@ -6,7 +6,7 @@ use Rattle.std.proofs.lemmas.List.Elements.{All-from_get_or, Contains-append_lef
 use Rattle.std.proofs.lemmas.List.Quantifiers.{all_pairs_push}
 use Rattle.digraph.specs.declared.edge.Edge.{Edge}
 use Rattle.digraph.specs.Chains.{Chain, IsAcyclic, IsChain}
-use Rattle.digraph.specs.Edges.{transposed, AreBetween, Leads}
+use Rattle.digraph.specs.Edges.{transpose, AreBetween, Leads}
 use Rattle.digraph.specs.ShortestPaths.{IsPathAround}
 use Rattle.digraph.proofs.ByNode.{flipped_between}
 use Rattle.digraph.proofs.GoingUp.{path_of_chain}
@@ -119,24 +119,24 @@ module _ (G H : ℕ → ℕ → Type 0) (back : (m n : ℕ) → G m n → H n m)
   acyclic_back none m n leads (more, chain) = none n m (back m n leads) (chain_back n more m chain)
 
 -- the edges, each the other way round
-reversed_leads : (edges others : List Edge) → ((p : Edge) → Contains others p ↔ Contains (map transposed edges) p) → AreReversed (Leads others) (Leads edges)
+reversed_leads : (edges others : List Edge) → ((p : Edge) → Contains others p ↔ Contains (map transpose edges) p) → AreReversed (Leads others) (Leads edges)
 reversed_leads edges others same m n = (
   λ has.
-      let (p, member, is) = from_map transposed edges (record { from = m; to = n }) ((same (record { from = m; to = n })).0 has) in
+      let (p, member, is) = from_map transpose edges (record { from = m; to = n }) ((same (record { from = m; to = n })).0 has) in
       let from : p.from ≡ n = ap (λ (q : Edge). q.to) is in
       let to : p.to ≡ m = ap (λ (q : Edge). q.from) is in
       subst (Contains edges) (ap₂ (λ (i j : ℕ). record { from = i; to = j }) from to) member,
-  λ has. (same (record { from = m; to = n })).1 (in_map transposed edges (record { from = n; to = m }) has),
+  λ has. (same (record { from = m; to = n })).1 (in_map transpose edges (record { from = n; to = m }) has),
 )
 
-reversed_between : (edges others : List Edge) (nodes : ℕ) → ((p : Edge) → Contains others p ↔ Contains (map transposed edges) p) → AreBetween edges nodes → AreBetween others nodes
+reversed_between : (edges others : List Edge) (nodes : ℕ) → ((p : Edge) → Contains others p ↔ Contains (map transpose edges) p) → AreBetween edges nodes → AreBetween others nodes
 reversed_between edges others nodes same between p has = flipped_between edges nodes between p ((same p).0 has)
 
 -- ---- the imports of a network, as edges the other way round
 
-module _ (imports : List Priced) (given reversed others : List Edge) (reversed_is : reversed ≡ map transposed given) (given_is : given ≡ map edge_of imports) (same : (p : Edge) → Contains others p ↔ Contains reversed p) where
-  all_same : (p : Edge) → Contains others p ↔ Contains (map transposed (map edge_of imports)) p
-  all_same p = subst (λ (r : List Edge). Contains others p ↔ Contains r p) (reversed_is ∙ ap (map transposed) given_is) (same p)
+module _ (imports : List Priced) (given reversed others : List Edge) (reversed_is : reversed ≡ map transpose given) (given_is : given ≡ map edge_of imports) (same : (p : Edge) → Contains others p ↔ Contains reversed p) where
+  all_same : (p : Edge) → Contains others p ↔ Contains (map transpose (map edge_of imports)) p
+  all_same p = subst (λ (r : List Edge). Contains others p ↔ Contains r p) (reversed_is ∙ ap (map transpose) given_is) (same p)
 
   pub imports_reversed : AreReversed (Leads others) (Imports imports Any)
   imports_reversed m n =

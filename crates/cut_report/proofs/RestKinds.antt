@@ -5,7 +5,7 @@ use Rattle.std.specs.List.{list_all}
 use Rattle.std.specs.Option.{option_map_or}
 use Rattle.std.proofs.lemmas.Bool.{and_from, and_parts, false_from_ne_true}
 use Rattle.std.proofs.lemmas.List.Elements.{All-cons, All-head, All-nil, All-tail}
-use Rattle.texts.specs.Fields.{cut_at, ended}
+use Rattle.texts.specs.Fields.{split_at_first, ended}
 use Rattle.cut_net.specs.Network.{Network, index_of}
 use Rattle.cut_net.specs.WellFormed.{AreNamesInOrder}
 use Rattle.cut_report.specs.ReportLine.{ReportLine, Ends, Weighs, Removes, Flows, Blocks, Last, report_line, written}
@@ -99,7 +99,7 @@ over_kind [] = Over
 over_kind (_ ∷ _) = Bad
 
 abbrev pub rest_kind : Network → Option ReportLine → List ℕ → Kind
-rest_kind net last rest = cond (is_last last) (over_kind rest) (option_map_or (λ x. text_kind net last x.0) (cut_at 10 rest) Unended)
+rest_kind net last rest = cond (is_last last) (over_kind rest) (option_map_or (λ x. text_kind net last x.0) (split_at_first 10 rest) Unended)
 
 -- nothing follows the last line
 pub ended_follows : (line : ReportLine) → may_follow (Some Last) line ≡ false
@@ -125,7 +125,7 @@ followed last line e = not_last last (λ same. absurd (let bad : false ≡ true 
 rest_at : (net : Network) (last : Option ReportLine) (rest text more : List ℕ) → is_last last ≡ false → has_line_end text ≡ false → rest ≡ ended text ++ more
     → rest_kind net last rest ≡ text_kind net last text
 rest_at net last rest text more h f e =
-    let first : cut_at 10 rest ≡ Some (text, more) = rw e (ended_cut text more (without_end text f)) in
+    let first : split_at_first 10 rest ≡ Some (text, more) = rw e (ended_cut text more (without_end text f)) in
     rw (h, first) refl
 
 line_at : (net : Network) (last : Option ReportLine) (rest : List ℕ) (line : ReportLine) → IsAllowedLine last line → BeginsWith rest (report_line line) → rest_kind net last rest ≡ line_kind net last line
@@ -134,7 +134,7 @@ line_at net last rest line h b =
 
 pub kind_good : (net : Network) (last : Option ReportLine) (line : ReportLine) (more : List ℕ) → AreNamesInOrder net.names → IsGoodAfter net last line → rest_kind net last (ended (report_line line) ++ more) ≡ Good
 kind_good net last line more h g =
-    let first : cut_at 10 (ended (report_line line) ++ more) ≡ Some (report_line line, more) = ended_cut (report_line line) more (line_without line g.form) in
+    let first : split_at_first 10 (ended (report_line line) ++ more) ≡ Some (report_line line, more) = ended_cut (report_line line) more (line_without line g.form) in
     rw (followed last line g.follows, first, line_again line g.form, g.follows, knows_known net line h g.known, g.above) refl
 
 pub kind_unknown : (net : Network) (last : Option ReportLine) (rest : List ℕ) (line : ReportLine) → IsAllowedLine last line → BeginsWith rest (report_line line) → (HasModuleNames net line → ⊥) → rest_kind net last rest ≡ Unknown

@@ -15,7 +15,7 @@ use Rattle.cut_net.proofs.Places.{index_takes}
 use Rattle.cut_report.specs.declared.fault.ReportLineFault.{ReportLineFault}
 use Rattle.cut_report.specs.declared.fault.ReportLineFault.TheVariants as faults
 use Rattle.cut_report.specs.ReportLine.{removes, flows, leading_lines, entry_lines}
-use Rattle.cut_report.specs.Builders.{◌>>=◌, BuilderState, Start, Named, Open, Shut, Ended, ClaimedPart, blocked_entry, chain_of, entry_of_part, step_in_cut, import_of, is_after, last_import, numbered_by, second_step, step_in_path, step, with_removed}
+use Rattle.cut_report.specs.Builders.{◌>>=◌, BuilderState, Start, FirstLine, CutLines, PathLine, Complete, ClaimedPart, blocked_entry, chain_of, entry_of_part, step_in_cut, import_of, is_after, last_import, first_line_step, second_step, step_in_path, step, with_removed}
 use Rattle.cut_report.proofs.NameOrder.{AreIn, index_from_known, known_from_index}
 use Rattle.cut_report.proofs.ImportLines.{AreLines, FitsWord, FitsFlow, IsRun, flow_lines, remove_lines, good_run, good_after}
 use Rattle.cut_report.proofs.EntryLines.{last_of-append, last_follows}
@@ -23,10 +23,10 @@ use Rattle.cut_report.proofs.RestKinds.{ended_follows}
 
 abbrev pub standing_lines : Network → BuilderState → List ReportLine
 standing_lines net Start = []
-standing_lines net (Named a b) = Ends (name_of net a) (name_of net b) ∷ []
-standing_lines net (Open p) = leading_lines net (entry_of_part p)
-standing_lines net (Shut a b chain) = leading_lines net (blocked_entry a b chain)
-standing_lines net (Ended e) = entry_lines net e
+standing_lines net (FirstLine a b) = Ends (name_of net a) (name_of net b) ∷ []
+standing_lines net (CutLines p) = leading_lines net (entry_of_part p)
+standing_lines net (PathLine a b chain) = leading_lines net (blocked_entry a b chain)
+standing_lines net (Complete e) = entry_lines net e
 
 abbrev pub last_line : Network → BuilderState → Option ReportLine
 last_line net s = last_of None (standing_lines net s)
@@ -112,8 +112,8 @@ by_chain P net names f w lacks has = go {T = BuilderState} P names f lacks has
 
 -- ---- each step
 
-name_is_step : (net : Network) (line : ReportLine) → IsNetwork net → IsWellFormed line → StepIs net Start line (numbered_by net line)
-unfolding numbered_by
+name_is_step : (net : Network) (line : ReportLine) → IsNetwork net → IsWellFormed line → StepIs net Start line (first_line_step net line)
+unfolding first_line_step
 name_is_step net (Ends m n) w h =
     by_index (StepIs net Start (Ends m n)) net m _ w (λ k. (record { form = h; follows = refl }, λ known. k known.0)) (λ x km ltm em.
     by_index (StepIs net Start (Ends m n)) net n _ w (λ k. (record { form = h; follows = refl }, λ known. k known.1)) (λ y kn ltn en.
@@ -124,19 +124,19 @@ name_is_step net (Flows m n k) w h = refl
 name_is_step net (Blocks names) w h = refl
 name_is_step net Last w h = refl
 
-open_is_step : (net : Network) (a b : ℕ) (line : ReportLine) → IsNetwork net → IsWellFormed line → StepIs net (Named a b) line (second_step net a b line)
+open_is_step : (net : Network) (a b : ℕ) (line : ReportLine) → IsNetwork net → IsWellFormed line → StepIs net (FirstLine a b) line (second_step net a b line)
 unfolding second_step
 open_is_step net a b (Ends m n) w h = refl
 open_is_step net a b (Weighs k) w h = (record { form = h; follows = refl; known = tt; above = refl }, refl)
 open_is_step net a b (Removes m n k) w h = refl
 open_is_step net a b (Flows m n k) w h = refl
 open_is_step net a b (Blocks names) w h =
-    by_chain (StepIs net (Named a b) (Blocks names)) net names _ w
+    by_chain (StepIs net (FirstLine a b) (Blocks names)) net names _ w
     (λ lacks. (record { form = h; follows = refl }, lacks))
     (λ chain known names_are. (record { form = h; follows = refl; known = known; above = refl }, rw names_are refl))
 open_is_step net a b Last w h = refl
 
-shut_is_step : (net : Network) (a b : ℕ) (chain : List ℕ) (line : ReportLine) → StepIs net (Shut a b chain) line (step_in_path a b chain line)
+shut_is_step : (net : Network) (a b : ℕ) (chain : List ℕ) (line : ReportLine) → StepIs net (PathLine a b chain) line (step_in_path a b chain line)
 unfolding step_in_path
 shut_is_step net a b chain (Ends m n) = refl
 shut_is_step net a b chain (Weighs k) = refl
@@ -151,17 +151,17 @@ found_removes net m n k q f = rw (f.from, f.to, f.amount_is) refl
 found_flows : (net : Network) (m n : List ℕ) (k : ℕ) (q : Priced) → IsFound net m n k q → flows net q ≡ Flows m n k
 found_flows net m n k q f = rw (f.from, f.to, f.amount_is) refl
 
-remove_is_step : (net : Network) (p : ClaimedPart) (m n : List ℕ) (k : ℕ) (flow : List Priced) → p.flow ≡ flow → IsNetwork net → AreGoodAfter net None (standing_lines net (Open p)) → IsWellFormed (Removes m n k)
-    → StepIs net (Open p) (Removes m n k) (with_removed net p flow m n k)
+remove_is_step : (net : Network) (p : ClaimedPart) (m n : List ℕ) (k : ℕ) (flow : List Priced) → p.flow ≡ flow → IsNetwork net → AreGoodAfter net None (standing_lines net (CutLines p)) → IsWellFormed (Removes m n k)
+    → StepIs net (CutLines p) (Removes m n k) (with_removed net p flow m n k)
 remove_is_step net p m n k [] e w g h =
     let start : Option ReportLine = Some (Weighs p.weight) in
-    let last_is : last_line net (Open p) ≡ last_of start (map (removes net) p.printed) = rw (e, append-nil (map (removes net) p.printed)) refl in
+    let last_is : last_line net (CutLines p) ≡ last_of start (map (removes net) p.printed) = rw (e, append-nil (map (removes net) p.printed)) refl in
     let run = good_run net FitsWord (removes net) start p.printed (map (flows net) p.flow) (remove_lines net w) g.1.1 in
-    let follows : may_follow (last_line net (Open p)) (Removes m n k) ≡ true = rw last_is (removed_inner net (λ x. may_follow x (Removes m n k) ≡ true) start p.printed refl (λ q. refl)) in
-    let above : (q : Priced) → IsFound net m n k q → is_above (last_line net (Open p)) (Removes m n k) ≡ is_after (last_import None p.printed) q = λ q f.
-    subst (λ (x : ReportLine). is_above (last_line net (Open p)) x ≡ is_after (last_import None p.printed) q) (found_removes net m n k q f)
+    let follows : may_follow (last_line net (CutLines p)) (Removes m n k) ≡ true = rw last_is (removed_inner net (λ x. may_follow x (Removes m n k) ≡ true) start p.printed refl (λ q. refl)) in
+    let above : (q : Priced) → IsFound net m n k q → is_above (last_line net (CutLines p)) (Removes m n k) ≡ is_after (last_import None p.printed) q = λ q f.
+    subst (λ (x : ReportLine). is_above (last_line net (CutLines p)) x ≡ is_after (last_import None p.printed) q) (found_removes net m n k q f)
     (rw last_is (above_last net FitsWord (removes net) start None p.printed q (remove_lines net w) run f.within refl)) in
-    by_import (StepIs net (Open p) (Removes m n k)) net (last_import None p.printed) m n k _ w
+    by_import (StepIs net (CutLines p) (Removes m n k)) net (last_import None p.printed) m n k _ w
     (λ u. (record { form = h; follows = follows }, u))
     (λ q known f low. (record { form = h; follows = follows }, known, above q f ∙ low))
     (λ q known f high. (
@@ -170,23 +170,23 @@ remove_is_step net p m n k [] e w g h =
     ))
 remove_is_step net p m n k (f ∷ fs) e w g h =
     let start : Option ReportLine = Some (Weighs p.weight) in
-    let last_is : last_line net (Open p) ≡ last_of (Some (flows net f)) (map (flows net) fs) = rw (e, last_of-append start (map (removes net) p.printed) (map (flows net) (f ∷ fs))) refl in
+    let last_is : last_line net (CutLines p) ≡ last_of (Some (flows net f)) (map (flows net) fs) = rw (e, last_of-append start (map (removes net) p.printed) (map (flows net) (f ∷ fs))) refl in
     rw last_is (flow_inner net (λ x. may_follow x (Removes m n k) ≡ false) (Some (flows net f)) fs refl (λ q. refl))
 
-flow_is_step : (net : Network) (p : ClaimedPart) (m n : List ℕ) (k : ℕ) → IsNetwork net → AreGoodAfter net None (standing_lines net (Open p)) → IsWellFormed (Flows m n k)
-    → StepIs net (Open p) (Flows m n k) (import_of net (last_import None p.flow) m n k >>= λ next. Ok (Open (record p { flow = p.flow ++ next ∷ [] })))
+flow_is_step : (net : Network) (p : ClaimedPart) (m n : List ℕ) (k : ℕ) → IsNetwork net → AreGoodAfter net None (standing_lines net (CutLines p)) → IsWellFormed (Flows m n k)
+    → StepIs net (CutLines p) (Flows m n k) (import_of net (last_import None p.flow) m n k >>= λ next. Ok (CutLines (record p { flow = p.flow ++ next ∷ [] })))
 flow_is_step net p m n k w g h =
     let start : Option ReportLine = Some (Weighs p.weight) in
     let middle : Option ReportLine = last_of start (map (removes net) p.printed) in
-    let last_is : last_line net (Open p) ≡ last_of middle (map (flows net) p.flow) = last_of-append start (map (removes net) p.printed) (map (flows net) p.flow) in
+    let last_is : last_line net (CutLines p) ≡ last_of middle (map (flows net) p.flow) = last_of-append start (map (removes net) p.printed) (map (flows net) p.flow) in
     let more : AreGoodAfter net middle (map (flows net) p.flow ++ []) = rw (append-nil (map (flows net) p.flow)) (good_after net (removes net) start p.printed (map (flows net) p.flow) g.1.1) in
     let run = good_run net FitsFlow (flows net) middle p.flow [] (flow_lines net w) more in
-    let follows : may_follow (last_line net (Open p)) (Flows m n k) ≡ true = inner net (λ x. may_follow x (Flows m n k) ≡ true) start p.printed p.flow refl (λ q. refl) (λ q. refl) in
+    let follows : may_follow (last_line net (CutLines p)) (Flows m n k) ≡ true = inner net (λ x. may_follow x (Flows m n k) ≡ true) start p.printed p.flow refl (λ q. refl) (λ q. refl) in
     let first : (q : Priced) → is_above middle (flows net q) ≡ true = λ q. removed_inner net (λ x. is_above x (flows net q) ≡ true) start p.printed refl (λ r. refl) in
-    let above : (q : Priced) → IsFound net m n k q → is_above (last_line net (Open p)) (Flows m n k) ≡ is_after (last_import None p.flow) q = λ q f.
-    subst (λ (x : ReportLine). is_above (last_line net (Open p)) x ≡ is_after (last_import None p.flow) q) (found_flows net m n k q f)
+    let above : (q : Priced) → IsFound net m n k q → is_above (last_line net (CutLines p)) (Flows m n k) ≡ is_after (last_import None p.flow) q = λ q f.
+    subst (λ (x : ReportLine). is_above (last_line net (CutLines p)) x ≡ is_after (last_import None p.flow) q) (found_flows net m n k q f)
     (rw last_is (above_last net FitsFlow (flows net) middle None p.flow q (flow_lines net w) run f.within (first q))) in
-    by_import (StepIs net (Open p) (Flows m n k)) net (last_import None p.flow) m n k _ w
+    by_import (StepIs net (CutLines p) (Flows m n k)) net (last_import None p.flow) m n k _ w
     (λ u. (record { form = h; follows = follows }, u))
     (λ q known f low. (record { form = h; follows = follows }, known, above q f ∙ low))
     (λ q known f high. (
@@ -194,7 +194,7 @@ flow_is_step net p m n k w g h =
       rw (map_push (flows net) p.flow q, found_flows net m n k q f, append_assoc (map (removes net) p.printed) (map (flows net) p.flow) (Flows m n k ∷ [])) refl,
     ))
 
-go_on_is_step : (net : Network) (p : ClaimedPart) (line : ReportLine) → IsNetwork net → AreGoodAfter net None (standing_lines net (Open p)) → IsWellFormed line → StepIs net (Open p) line (step_in_cut net p line)
+go_on_is_step : (net : Network) (p : ClaimedPart) (line : ReportLine) → IsNetwork net → AreGoodAfter net None (standing_lines net (CutLines p)) → IsWellFormed line → StepIs net (CutLines p) line (step_in_cut net p line)
 unfolding step_in_cut
 go_on_is_step net p (Ends m n) w g h = inner net (λ x. may_follow x (Ends m n) ≡ false) (Some (Weighs p.weight)) p.printed p.flow refl (λ q. refl) (λ q. refl)
 go_on_is_step net p (Weighs k) w g h = inner net (λ x. may_follow x (Weighs k) ≡ false) (Some (Weighs p.weight)) p.printed p.flow refl (λ q. refl) (λ q. refl)
@@ -204,17 +204,17 @@ go_on_is_step net p (Blocks names) w g h = inner net (λ x. may_follow x (Blocks
 go_on_is_step net p Last w g h = (record { form = tt; follows = last_follows net p.weight p.printed p.flow; known = tt; above = refl }, refl)
 
 -- the last of all lines
-pub last_is_end : (net : Network) (e : ReportClaim) → last_line net (Ended e) ≡ Some Last
+pub last_is_end : (net : Network) (e : ReportClaim) → last_line net (Complete e) ≡ Some Last
 last_is_end net e = last_of-append None (leading_lines net e) (Last ∷ [])
 
 pub step_is : (net : Network) (s : BuilderState) (line : ReportLine) → IsNetwork net → AreGoodAfter net None (standing_lines net s) → IsWellFormed line → StepIs net s line (step net s line)
 unfolding step
 step_is net Start line w g h = name_is_step net line w h
-step_is net (Named a b) line w g h = open_is_step net a b line w h
-step_is net (Open p) line w g h = go_on_is_step net p line w g h
-step_is net (Shut a b chain) line w g h = shut_is_step net a b chain line
-step_is net (Ended e) line w g h = rw (last_is_end net e) (ended_follows line)
+step_is net (FirstLine a b) line w g h = open_is_step net a b line w h
+step_is net (CutLines p) line w g h = go_on_is_step net p line w g h
+step_is net (PathLine a b chain) line w g h = shut_is_step net a b chain line
+step_is net (Complete e) line w g h = rw (last_is_end net e) (ended_follows line)
 
 -- before the end, the line before isn't the last
-pub not_ended : (net : Network) (p : ClaimedPart) → last_line net (Open p) ≢ Some Last
+pub not_ended : (net : Network) (p : ClaimedPart) → last_line net (CutLines p) ≢ Some Last
 not_ended net p = inner net (λ x. x ≢ Some Last) (Some (Weighs p.weight)) p.printed p.flow (λ e. absurd cc) (λ q e. absurd cc) (λ q e. absurd cc)

@@ -5,7 +5,7 @@ use Rattle.std.specs.Option.{ok_or}
 use Rattle.std.proofs.lemmas.Bool.{cases_Bool}
 use Rattle.std.proofs.lemmas.List.{append-nil, length_push, length-append}
 use Rattle.std.proofs.lemmas.List.Concat.{flat_map-append}
-use Rattle.texts.specs.Fields.{cut_at, ended, with_first}
+use Rattle.texts.specs.Fields.{split_at_first, ended, with_first}
 use Rattle.cut_net.specs.Network.{Network}
 use Rattle.cut_net.specs.WellFormed.{IsNetwork}
 use Rattle.cut_report.specs.ReportLine.{ReportLine, Last, report_line, written}
@@ -18,7 +18,7 @@ use Rattle.cut_report.specs.Lines.{line_of_text}
 use Rattle.cut_report.specs.declared.fault.ReportFault.{ReportFault}
 use Rattle.cut_report.specs.declared.builder.ReportBuilder.{ReportBuilder}
 use Rattle.cut_report.specs.declared.report.Report.{Report}
-use Rattle.cut_report.specs.Builders.{◌>>=◌, IsLineFault, IsReadAtLine, BuilderState, Start, Named, Open, Shut, Ended, finish_of, builder_state_of, report_fault_in_line, step, text_step}
+use Rattle.cut_report.specs.Builders.{◌>>=◌, IsLineFault, IsReadAtLine, BuilderState, Start, FirstLine, CutLines, PathLine, Complete, finish_of, builder_state_of, report_fault_in_line, step, text_step}
 use Rattle.cut_report.specs.Faults.{HasOutcome, UnlessMemory}
 use Rattle.cut_report.specs.Reading.{entry_of}
 use Rattle.cut_report.proofs.FaultLaws.{UnlessMemory-from}
@@ -28,28 +28,28 @@ use Rattle.cut_report.proofs.EntryLines.{good-append, good_front, good_report}
 use Rattle.cut_report.proofs.Standings.{StepIs, last_is_end, last_line, not_ended, standing_lines, step_is}
 
 -- what stands before the first such byte has none
-pub cut_front : (stop : ℕ) (bytes : List ℕ) (x : List ℕ × List ℕ) → cut_at stop bytes ≡ Some x → without stop x.0 ≡ true
-unfolding cut_at
+pub cut_front : (stop : ℕ) (bytes : List ℕ) (x : List ℕ × List ℕ) → split_at_first stop bytes ≡ Some x → without stop x.0 ≡ true
+unfolding split_at_first
 cut_front stop [] x e = absurd cc
 cut_front stop (b ∷ bytes) x e =
     elim (cases_Bool (eqb b stop)) [
       | inl stops ↦ let at : Some ([], bytes) ≡ Some x = rw stops at e in
           let pair : ([], bytes) ≡ x = some_is _ _ at in
           rw (← pair) refl
-      | inr goes ↦ let at : option_map (with_first b) (cut_at stop bytes) ≡ Some x = rw goes at e in
-          let p = with_some b (cut_at stop bytes) x at in
+      | inr goes ↦ let at : option_map (with_first b) (split_at_first stop bytes) ≡ Some x = rw goes at e in
+          let p = with_some b (split_at_first stop bytes) x at in
           let prefix : without stop (b ∷ p.0.0) ≡ true = rw (goes, cut_front stop bytes p.0 p.1) refl in
           subst (λ (y : List ℕ × List ℕ). without stop y.0 ≡ true) p.2 prefix
     ]
 
-pub cut_none_without : (stop : ℕ) (bytes : List ℕ) → cut_at stop bytes ≡ None → without stop bytes ≡ true
-unfolding cut_at
+pub cut_none_without : (stop : ℕ) (bytes : List ℕ) → split_at_first stop bytes ≡ None → without stop bytes ≡ true
+unfolding split_at_first
 cut_none_without stop [] e = refl
 cut_none_without stop (b ∷ bytes) e =
     elim (cases_Bool (eqb b stop)) [
       | inl stops ↦ let at : some {A = List ℕ × List ℕ} ([], bytes) ≡ None = rw stops at e in absurd cc
-      | inr goes ↦ let at : option_map (with_first b) (cut_at stop bytes) ≡ None = rw goes at e in
-          rw (goes, cut_none_without stop bytes (none_of b (cut_at stop bytes) at)) refl
+      | inr goes ↦ let at : option_map (with_first b) (split_at_first stop bytes) ≡ None = rw goes at e in
+          rw (goes, cut_none_without stop bytes (none_of b (split_at_first stop bytes) at)) refl
     ]
   where
     none_of : (b : ℕ) (o : Option (List ℕ × List ℕ)) → option_map (with_first b) o ≡ None → o ≡ None
@@ -57,7 +57,7 @@ cut_none_without stop (b ∷ bytes) e =
     none_of b (Some y) e = absurd cc
 
 -- the line of a text, and its end
-pub begins : (rest text after : List ℕ) → cut_at 10 rest ≡ Some (text, after) → BeginsWith rest text
+pub begins : (rest text after : List ℕ) → split_at_first 10 rest ≡ Some (text, after) → BeginsWith rest text
 begins rest text after e = record {
   more = after;
   whole = cut_takes 10 rest (text, after) e ∙ sym (append_assoc text (10 ∷ []) after);
@@ -81,10 +81,10 @@ nonempty rest text b e =
 -- no line that may follow is spelled so
 wrong : (net : Network) (s : BuilderState) (rest text : List ℕ) → BeginsWith rest text → ((line : ReportLine) → IsAllowedLine (last_line net s) line → report_line line ≢ text) → IsWrongLine (last_line net s) rest
 wrong net Start rest text b h = inr (λ e. absurd cc, (text, b, h))
-wrong net (Named x y) rest text b h = inr (λ e. absurd cc, (text, b, h))
-wrong net (Open p) rest text b h = inr (not_ended net p, (text, b, h))
-wrong net (Shut x y chain) rest text b h = inr (λ e. absurd cc, (text, b, h))
-wrong net (Ended e) rest text b h = inl (last_is_end net e, nonempty rest text b)
+wrong net (FirstLine x y) rest text b h = inr (λ e. absurd cc, (text, b, h))
+wrong net (CutLines p) rest text b h = inr (not_ended net p, (text, b, h))
+wrong net (PathLine x y chain) rest text b h = inr (λ e. absurd cc, (text, b, h))
+wrong net (Complete e) rest text b h = inl (last_is_end net e, nonempty rest text b)
 
 next_front : (net : Network) (bytes : List ℕ) (lines : List ReportLine) (line : ReportLine) (rest after : List ℕ) → rest ≡ ended (report_line line) ++ after → IsPrefix net bytes lines rest → IsGoodAfter net (last_of None lines) line
     → IsPrefix net bytes (lines ++ line ∷ []) after
@@ -134,7 +134,7 @@ by_line net bytes s rest after line (Err faults.Order) f h e one is = record {
 }
 by_line net bytes s rest after line (Err faults.Memory) f h e one is = tt
 
-pub text_is : (net : Network) (bytes : List ℕ) (s : BuilderState) (rest text after : List ℕ) → IsNetwork net → IsPrefix net bytes (standing_lines net s) rest → cut_at 10 rest ≡ Some (text, after) → TextIs net bytes s after (text_step net s text)
+pub text_is : (net : Network) (bytes : List ℕ) (s : BuilderState) (rest text after : List ℕ) → IsNetwork net → IsPrefix net bytes (standing_lines net s) rest → split_at_first 10 rest ≡ Some (text, after) → TextIs net bytes s after (text_step net s text)
 unfolding text_step
 text_is net bytes s rest text after w f e = go (line_of_text text) refl
   where
@@ -156,32 +156,32 @@ text_is net bytes s rest text after w f e = go (line_of_text text) refl
         by_line net bytes s rest after line (step net s line) f is.form whole one (step_is net s line w f.good is.form)
 
 -- what a text is that has no whole line more
-pub rest_is : (net : Network) (bytes : List ℕ) (s : BuilderState) (rest : List ℕ) → IsNetwork net → IsPrefix net bytes (standing_lines net s) rest → cut_at 10 rest ≡ None
+pub rest_is : (net : Network) (bytes : List ℕ) (s : BuilderState) (rest : List ℕ) → IsNetwork net → IsPrefix net bytes (standing_lines net s) rest → split_at_first 10 rest ≡ None
     → IsReportOutcome net bytes (finish_of s (length (standing_lines net s)) rest)
 rest_is net bytes Start rest w f e = record { before = []; rest = rest; prefix = f; unended = end_without rest (cut_none_without 10 rest e); not_last = λ same. absurd cc }
-rest_is net bytes (Named a b) rest w f e = record { before = standing_lines net (Named a b); rest = rest; prefix = f; unended = end_without rest (cut_none_without 10 rest e); not_last = λ same. absurd cc }
-rest_is net bytes (Open p) rest w f e = record { before = standing_lines net (Open p); rest = rest; prefix = f; unended = end_without rest (cut_none_without 10 rest e); not_last = not_ended net p }
-rest_is net bytes (Shut a b chain) rest w f e = record { before = standing_lines net (Shut a b chain); rest = rest; prefix = f; unended = end_without rest (cut_none_without 10 rest e); not_last = λ same. absurd cc }
-rest_is net bytes (Ended entry) [] w f e = record {
+rest_is net bytes (FirstLine a b) rest w f e = record { before = standing_lines net (FirstLine a b); rest = rest; prefix = f; unended = end_without rest (cut_none_without 10 rest e); not_last = λ same. absurd cc }
+rest_is net bytes (CutLines p) rest w f e = record { before = standing_lines net (CutLines p); rest = rest; prefix = f; unended = end_without rest (cut_none_without 10 rest e); not_last = not_ended net p }
+rest_is net bytes (PathLine a b chain) rest w f e = record { before = standing_lines net (PathLine a b chain); rest = rest; prefix = f; unended = end_without rest (cut_none_without 10 rest e); not_last = λ same. absurd cc }
+rest_is net bytes (Complete entry) [] w f e = record {
   report = good_report net entry w (good_front net None (leading_lines net entry) (Last ∷ []) f.good);
   spelled = f.whole ∙ append-nil (written (entry_lines net entry));
 }
-rest_is net bytes (Ended entry) (b ∷ rest) w f e =
-    (length (standing_lines net (Ended entry)), refl, record { before = standing_lines net (Ended entry); rest = b ∷ rest; prefix = f; count = refl; wrong = inl (last_is_end net entry, λ same. absurd cc) })
+rest_is net bytes (Complete entry) (b ∷ rest) w f e =
+    (length (standing_lines net (Complete entry)), refl, record { before = standing_lines net (Complete entry); rest = b ∷ rest; prefix = f; count = refl; wrong = inl (last_is_end net entry, λ same. absurd cc) })
 
 -- what is answered where no whole line follows
-pub told_at_end : (net : Network) (bytes : List ℕ) (s : BuilderState) (before : ℕ) (rest : List ℕ) (result : Result Report ReportFault) → IsNetwork net → IsPrefix net bytes (standing_lines net s) rest → cut_at 10 rest ≡ None
+pub told_at_end : (net : Network) (bytes : List ℕ) (s : BuilderState) (before : ℕ) (rest : List ℕ) (result : Result Report ReportFault) → IsNetwork net → IsPrefix net bytes (standing_lines net s) rest → split_at_first 10 rest ≡ None
     → before ≡ length (standing_lines net s) → IfOk result (λ report. finish_of s before rest ≡ Ok (entry_of report)) → IfErr result (λ fault. finish_of s before rest ≡ Err fault) → HasOutcome entry_of result (IsReportOutcome net bytes)
 told_at_end net bytes s before rest (Ok report) w f e n ok err = subst (IsReportOutcome net bytes) ok (rw n (rest_is net bytes s rest w f e))
 told_at_end net bytes s before rest (Err fault) w f e n ok err = UnlessMemory-from fault (subst (IsReportOutcome net bytes) err (rw n (rest_is net bytes s rest w f e)))
 
 -- a valid line, and the lines go on after it
-pub goes_on : (net : Network) (bytes : List ℕ) (s t : BuilderState) (rest text after : List ℕ) → IsNetwork net → IsPrefix net bytes (standing_lines net s) rest → cut_at 10 rest ≡ Some (text, after) → text_step net s text ≡ Ok t
+pub goes_on : (net : Network) (bytes : List ℕ) (s t : BuilderState) (rest text after : List ℕ) → IsNetwork net → IsPrefix net bytes (standing_lines net s) rest → split_at_first 10 rest ≡ Some (text, after) → text_step net s text ≡ Ok t
     → IsPrefix net bytes (standing_lines net t) after × (length (standing_lines net t) ≡ length (standing_lines net s) + 1)
 goes_on net bytes s t rest text after w f e is = rw is at (text_is net bytes s rest text after w f e)
 
 -- the fault of a line is that of the text
-pub fails : (net : Network) (bytes : List ℕ) (s : BuilderState) (rest text after : List ℕ) (line : ℕ) (fault : ReportFault) → IsNetwork net → IsPrefix net bytes (standing_lines net s) rest → cut_at 10 rest ≡ Some (text, after)
+pub fails : (net : Network) (bytes : List ℕ) (s : BuilderState) (rest text after : List ℕ) (line : ℕ) (fault : ReportFault) → IsNetwork net → IsPrefix net bytes (standing_lines net s) rest → split_at_first 10 rest ≡ Some (text, after)
     → line ≡ length (standing_lines net s) + 1 → IsReadAtLine {X = ReportBuilder} line builder_state_of (Err fault) (text_step net s text) → UnlessMemory fault (IsReportOutcome net bytes (Err fault))
 fails net bytes s rest text after line fault w f e n given = rw given.1 (by_fault given.0 given.2)
   where
@@ -192,7 +192,7 @@ fails net bytes s rest text after line fault w f e n given = rw given.1 (by_faul
     by_fault faults.Memory is = tt
 
 -- the length of what is left
-pub cut_length : (rest text after : List ℕ) → cut_at 10 rest ≡ Some (text, after) → length after + 1 ≤ length rest
+pub cut_length : (rest text after : List ℕ) → split_at_first 10 rest ≡ Some (text, after) → length after + 1 ≤ length rest
 cut_length rest text after e =
     let n : length rest ≡ length (text ++ 10 ∷ after) = ap length (cut_takes 10 rest (text, after) e) in
     omega (arith, n, length-append text (10 ∷ after))

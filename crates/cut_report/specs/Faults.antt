@@ -14,7 +14,7 @@ UnlessMemory faults.NoEnd P = P
 UnlessMemory faults.Device P = P
 UnlessMemory faults.Memory P = Unit {0}
 
--- the result, seen by the view, has the property, unless an allocation failed
+-- unless an allocation failed, the property holds for the result, with `view x` in place of a value x
 abbrev pub HasOutcome : {X Y : Type 0} → (X → Y) → Result X ReportFault → (Result Y ReportFault → Type 0) → Type 0
 HasOutcome view (Ok x) IsOutcome = IsOutcome (Ok (view x))
 HasOutcome view (Err fault) IsOutcome = UnlessMemory fault (IsOutcome (Err fault))
@@ -24,7 +24,7 @@ abbrev pub fault_of_sink : SinkFault → ReportFault
 fault_of_sink sink_faults.Memory = faults.Memory
 fault_of_sink sink_faults.Device = faults.Device
 
--- a device failed
+-- the error is that the device of a sink failed
 abbrev pub is_failure : ReportFault → Bool
 is_failure (faults.BadLine line) = false
 is_failure (faults.UnknownName line) = false

@@ -1,4 +1,4 @@
--- The text of a network, and of a path of imports. Each line is one that the text of a network may have.
+-- The text of a network, and the text of a path of imports, whose lines may also occur in the text of a network.
 use Rattle.std.specs.Prelude.{ℕ, List, ◌++◌, map, drop, find, unwrap_or}
 use Rattle.std.specs.List.{flat_map, zip}
 use Rattle.digraph.specs.ShortestPaths.{AreChain}
@@ -40,11 +40,11 @@ free_import m n = record { from = m; to = n; amount = 0 }
 abbrev pub import_between : Network → ℕ → ℕ → Priced
 import_between net m n = unwrap_or (find (have_equal_ends (free_import m n)) net.imports) (free_import m n)
 
--- the imports between each two consecutive modules of a list
+-- for each two consecutive modules of the list, the network's import of the second by the first, or one of weight 0 if there is none
 abbrev pub imports_along : Network → List ℕ → List Priced
 imports_along net modules = map (λ ends. import_between net ends.0 ends.1) (zip modules (drop 1 modules))
 
--- the lines of the imports along a list of modules
+-- the bytes of the lines of the imports along a list of modules, each with its LF
 abbrev pub chain_text : Network → List ℕ → List ℕ
 chain_text net modules = ended_lines (map (import_line net.names) (imports_along net modules))
 

@@ -39,15 +39,15 @@ removes net line = Removes (name_of net line.from) (name_of net line.to) line.am
 abbrev pub flows : Network → Priced → ReportLine
 flows net line = Flows (name_of net line.from) (name_of net line.to) line.amount
 
--- the lines between the first and the last
+-- the lines of an answer, which are those between the first and the last line of a report
 abbrev pub answer_lines : Network → AnswerClaim → List ReportLine
 answer_lines net (CutOf total printed flow) = Weighs total ∷ (map (removes net) printed ++ map (flows net) flow)
 answer_lines net (BlockedBy chain) = Blocks (map (name_of net) chain) ∷ []
 
--- all lines but the last
+-- all lines of a report but the last
 abbrev pub leading_lines : Network → ReportClaim → List ReportLine
 leading_lines net entry = Ends (name_of net entry.from) (name_of net entry.to) ∷ answer_lines net entry.claim
 
--- all lines
+-- all lines of a report
 abbrev pub entry_lines : Network → ReportClaim → List ReportLine
 entry_lines net entry = leading_lines net entry ++ Last ∷ []

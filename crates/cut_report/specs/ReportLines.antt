@@ -12,7 +12,7 @@ use Rattle.cut_report.specs.ReportText.{ReportText}
 use Rattle.cut_report.specs.declared.fault.ReportFault.{ReportFault}
 use Rattle.cut_report.specs.declared.fault.ReportFault.TheVariants as faults
 
--- names are identifiers, numbers fit 64 bits, no flow is 0, and no path is empty
+-- the names of the line are identifiers, its numbers fit 64 bits, a flow isn't 0, and a path isn't empty
 abbrev pub IsWellFormed : ReportLine → Type 0
 IsWellFormed (Ends m n) = (is_name m ≡ true) × (is_name n ≡ true)
 IsWellFormed (Weighs w) = w < 2 ^ 64
@@ -21,8 +21,8 @@ IsWellFormed (Flows m n f) = (is_name m ≡ true) × (is_name n ≡ true) × (f 
 IsWellFormed (Blocks names) = (0 < length names) × (list_all is_name names ≡ true)
 IsWellFormed Last = Unit {0}
 
--- which kinds of line may follow which: the two modules, the weight, `remove` lines, `flow` lines, the end;
--- or the two modules, a path of pinned imports, the end
+-- the kind of the line may follow that of the previous line (None before the first line). The kinds in order are `cut`, `weight`, `remove`
+-- lines, `flow` lines, `end`; or `cut`, `blocked`, `end`
 abbrev pub may_follow : Option ReportLine → ReportLine → Bool
 may_follow None (Ends _ _) = true
 may_follow None (Weighs _) = false
@@ -71,7 +71,7 @@ may_follow (Some Last) Last = false
 abbrev pub IsModuleName : Network → List ℕ → Type 0
 IsModuleName net name = Contains net.names name
 
--- the network has the line's names
+-- each name in the line is that of a module of the network
 abbrev pub HasModuleNames : Network → ReportLine → Type 0
 HasModuleNames net (Ends m n) = IsModuleName net m × IsModuleName net n
 HasModuleNames net (Weighs w) = Unit {0}
@@ -80,7 +80,7 @@ HasModuleNames net (Flows m n f) = IsModuleName net m × IsModuleName net n
 HasModuleNames net (Blocks names) = All (IsModuleName net) names
 HasModuleNames net Last = Unit {0}
 
--- the one pair of names comes before the other, by their bytes
+-- the pair of names k and l comes before the pair m and n, by the bytes of the first and then of the second name
 abbrev pub pair_is_before : List ℕ → List ℕ → List ℕ → List ℕ → Bool
 pair_is_before k l m n = is_lt (slice_cmp nat_cmp k m) || (bytes_eq k m && is_lt (slice_cmp nat_cmp l n))
 
@@ -113,24 +113,24 @@ is_above last (Flows m n _) = is_above_flow last m n
 is_above last (Blocks _) = true
 is_above last Last = true
 
--- the line may follow the previous one: its form, its kind, its names and their order are right
+-- the line may follow the line `last`: it is well-formed, its kind may follow, the network has its names, and it comes after `last`
 pub record IsGoodAfter (net : Network) (last : Option ReportLine) (line : ReportLine) : Type 0 where
   pub form : IsWellFormed line
   pub follows : may_follow last line ≡ true
   pub known : HasModuleNames net line
   pub above : is_above last line ≡ true
 
--- the last of the lines, or the given one if there are none
+-- the last line of the list; `last` if the list is empty
 abbrev pub last_of : Option ReportLine → List ReportLine → Option ReportLine
 last_of last [] = last
 last_of last (line ∷ lines) = last_of (Some line) lines
 
--- each line may follow its predecessor
+-- each line of the list may follow its predecessor, and the first one may follow `last`
 abbrev pub AreGoodAfter : Network → Option ReportLine → List ReportLine → Type 0
 AreGoodAfter net last [] = Unit {0}
 AreGoodAfter net last (line ∷ lines) = IsGoodAfter net last line × AreGoodAfter net (Some line) lines
 
--- the bytes begin with these good lines, and the rest follows
+-- the bytes are these lines, each of which may follow its predecessor, and then `rest`
 pub record IsPrefix (net : Network) (bytes : List ℕ) (lines : List ReportLine) (rest : List ℕ) : Type 0 where
   pub good : AreGoodAfter net None lines
   pub whole : bytes ≡ written lines ++ rest
@@ -145,18 +145,18 @@ pub record BeginsWith (rest line : List ℕ) : Type 0 where
   pub whole : rest ≡ ended line ++ more
   pub one_line : has_line_end line ≡ false
 
--- the line may follow, by its form and kind
+-- the line is well-formed, and its kind may follow that of the line `last`
 pub record IsAllowedLine (last : Option ReportLine) (line : ReportLine) : Type 0 where
   pub form : IsWellFormed line
   pub follows : may_follow last line ≡ true
 
--- a line that may not follow, by its form or kind, or a byte after the last line
+-- the rest begins with a line that is malformed or of a kind that may not follow `last`; or `last` is the line `end`, and bytes follow it
 abbrev pub IsWrongLine : Option ReportLine → List ℕ → Type 0
 IsWrongLine last rest =
     ((last ≡ Some Last) × (rest ≢ []))
     ⊎ ((last ≢ Some Last) × ((text : List ℕ) × BeginsWith rest text × ((line : ReportLine) → IsAllowedLine last line → report_line line ≢ text)))
 
--- good lines, and then this error
+-- the bytes are k good lines, and then a line that is malformed or of a wrong kind, or bytes after the line `end`
 pub record IsBadLine (net : Network) (bytes : List ℕ) (k : ℕ) : Type 0 where
   pub before : List ReportLine
   pub rest : List ℕ
@@ -164,7 +164,7 @@ pub record IsBadLine (net : Network) (bytes : List ℕ) (k : ℕ) : Type 0 where
   pub count : length before ≡ k
   pub wrong : IsWrongLine (last_of None before) rest
 
--- good lines, and then a line that may follow by its form and kind, with a name that the network lacks
+-- the bytes are k good lines, and then a line that may follow by its form and kind, but has a name that the network lacks
 pub record IsUnknownName (net : Network) (bytes : List ℕ) (k : ℕ) : Type 0 where
   pub before : List ReportLine
   pub rest : List ℕ
@@ -175,7 +175,8 @@ pub record IsUnknownName (net : Network) (bytes : List ℕ) (k : ℕ) : Type 0 w
   pub next : IsAllowedLine (last_of None before) line
   pub unknown : HasModuleNames net line → ⊥
 
--- good lines, and then a line of known names that may follow by its form and kind, but doesn't come after its predecessor
+-- the bytes are k good lines, and then a line with known names that may follow by its form and kind, but whose import doesn't come after
+-- that of its predecessor
 pub record IsOutOfOrder (net : Network) (bytes : List ℕ) (k : ℕ) : Type 0 where
   pub before : List ReportLine
   pub rest : List ℕ
@@ -187,7 +188,7 @@ pub record IsOutOfOrder (net : Network) (bytes : List ℕ) (k : ℕ) : Type 0 wh
   pub known : HasModuleNames net line
   pub below : is_above (last_of None before) line ≡ false
 
--- good lines without the last, and then no whole line
+-- the bytes are good lines without the line `end`, and then bytes without an LF
 pub record HasNoEnd (net : Network) (bytes : List ℕ) : Type 0 where
   pub before : List ReportLine
   pub rest : List ℕ
@@ -195,7 +196,7 @@ pub record HasNoEnd (net : Network) (bytes : List ℕ) : Type 0 where
   pub unended : has_line_end rest ≡ false
   pub not_last : last_of None before ≢ Some Last
 
--- the outcome of a text for the network: a report, or its first error; never a failed device or allocation
+-- this is an outcome of the text for the network: the report that it represents, or its first error, never a failed device or allocation
 abbrev pub IsReportOutcome : Network → List ℕ → Result ReportClaim ReportFault → Type 0
 IsReportOutcome net bytes (Ok entry) = ReportText net bytes entry
 IsReportOutcome net bytes (Err (faults.BadLine line)) = (k : ℕ) × (line ≡ k + 1) × IsBadLine net bytes k

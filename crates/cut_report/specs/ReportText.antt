@@ -1,4 +1,4 @@
--- The text of a report, which is unique.
+-- The text of a report, and which reports are well-formed.
 use Rattle.std.specs.Prelude.{◌≡◌, ℕ, ◌<◌, ◌^◌, List, length, All}
 use Rattle.cut_net.specs.declared.priced.Priced.{Priced}
 use Rattle.cut_net.specs.Network.{Network}

@@ -9,7 +9,7 @@ use cut_net::{Net, Priced};
 use digraph::{Edge, shortest_path};
 use std::alloc::{AllocError, Global};
 
-/// The imports as edges, without their weights.
+/// The imports as edges from importer to imported module, without weights, in their order.
 pub(crate) fn edges_of(alloc: Global, imports: &[Priced]) -> Result<Vec<Edge>, AllocError>
     ensures { IfOk result (λ edges. edges.items ≡ map edge_of imports.now) }
 {
@@ -22,8 +22,8 @@ pub(crate) fn edges_of(alloc: Global, imports: &[Priced]) -> Result<Vec<Edge>, A
         .collect(alloc)
 }
 
-/// The shortest path of imports from one module to another, of several the lexicographically smallest, as a list of module numbers.
-/// None if there is no path. The path from a module to itself has that module alone. Fails if an allocation fails.
+/// The shortest path of imports from one module to another, as a list of module numbers; of several shortest paths the lexicographically
+/// smallest one. `None` if there is no path. The path from a module to itself is that one module. Fails if an allocation fails.
 pub fn shortest_import_path(
     alloc: Global,
     net: &Net,
@@ -34,9 +34,9 @@ pub fn shortest_import_path(
     requires from { from < length net.now.names }
     // `to` is a module.
     requires to { to < length net.now.names }
-    // A returned path has the fewest imports of all paths, and of those the smallest names, from the first on.
+    // With a path it has the fewest imports of all paths, and it is the lexicographically smallest of the paths with as many imports.
     ensures found { IfOk result (λ answer. IfSome answer (λ chain. IsLeastChain (Imports net.now.imports Any) from to chain.items)) }
-    // Without a result no path leads from the one module to the other.
+    // With `None` no path leads from `from` to `to`.
     ensures none { IfOk result (λ answer. IfNone answer (Chain (Imports net.now.imports Any) from to → ⊥)) }
 {
     net.invariants();

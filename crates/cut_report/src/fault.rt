@@ -1,25 +1,26 @@
-//! Why a report can't be read or written.
+//! The errors of the reader and of the writer of reports.
 
 use crate::SinkFault;
 use std::alloc::{AllocError, AllocFailed};
 use thiserror::Error;
 
-/// The first error of a text, by lines and then within the line, or the error of a sink. Lines are numbered from 1.
+/// The error of the first line of a report that has an error, or the error of a sink. If a line has several errors, the one that is listed
+/// first here is returned. Lines are numbered from 1.
 #[derive(Clone, Copy, Debug, Error)]
 pub enum ReportFault {
-    /// The line isn't one that may occur here, or a byte follows the last line.
+    /// The line is malformed, its kind may not follow the previous line, or it follows the line `end`.
     #[error("line {line} breaks the form")]
     BadLine { line: u64 },
-    /// The network has no module with a name of the line.
+    /// The line has a name that no module of the network has.
     #[error("line {line} names no module")]
     UnknownName { line: u64 },
-    /// The line isn't after its predecessor, by the two names.
+    /// The line doesn't come after its predecessor of the same kind, by the two names.
     #[error("line {line} is out of order")]
     Order { line: u64 },
-    /// The text ends before its last line.
+    /// The text ends without the line `end` and its LF.
     #[error("the text has no end")]
     NoEnd,
-    /// The sink failed.
+    /// The device of the sink failed.
     #[error("the device failed")]
     Device,
     /// An allocation failed.
@@ -63,7 +64,7 @@ impl From<SinkFault> for ReportFault {
     }
 }
 
-/// The errors within a line, in the order of testing.
+/// The errors of a line without its number, in the order in which they are tested, and a failed allocation.
 #[derive(Clone, Copy)]
 pub(crate) enum ReportLineFault {
     BadLine,
@@ -76,6 +77,7 @@ impl ReportLineFault {
     ghost use Rattle.std.specs.Prelude.{◌≡◌};
     ghost use Rattle.cut_report.specs.Builders.{report_fault_in_line};
 
+    /// This error as an error of the report, with the number of its line.
     pub(crate) fn at(self, line: u64) -> ReportFault
         ensures { result ≡ report_fault_in_line line self }
     {

@@ -1,33 +1,35 @@
-//! A guess at the import of the next line. Reports are in the order of the network's imports, so the import mostly follows that of the
-//! previous line closely, and its names need not be looked up among all modules. The result is the same as by a lookup.
+//! A cursor into the network's imports, by which the names in a report's lines are found fast. Lines of a report are in the order of the
+//! network's imports, so a line's import is mostly one of the first few after that of the previous line. If it isn't, its names are
+//! looked up among all modules, with the same result.
 ghost use Rattle.std.specs.Prelude.{◌≡◌, ◌≤◌, Some, IfSome, length};
 ghost use Rattle.cut_net.specs.Network.{index_of};
 
 use cut_net::Net;
 
-/// The number of imports that are compared before the names are looked up.
+/// The largest number of imports that are compared with a line before its names are looked up among all modules.
 const MAX_COMPARED: usize = 8;
 
-/// The index after the import of the previous line. It determines only which imports are compared first.
+/// The index after that of the previous line's import, at which the comparison with the next line begins. It affects only the running time.
 #[derive(Drop)]
 pub(crate) struct ImportCursor {
     next_import: usize,
 }
 
 impl ImportCursor {
-    /// The index before all imports.
+    /// The cursor at the first import.
     pub(crate) fn first() -> ImportCursor {
         ImportCursor { next_import: 0 }
     }
 
-    /// Sets the index after the import between two modules.
+    /// Moves the cursor to the first import that comes after the pair `ends` of importer and imported module.
     pub(crate) fn move_past(&mut self, net: &Net, ends: (u32, u32)) {
         self.next_import = net.imports().partition_point(|import| {
             import.from < ends.0 || (import.from == ends.0 && import.to <= ends.1)
         });
     }
 
-    /// The numbers of the modules of two names, if one of the next imports is between them. Then sets the index after that import.
+    /// The numbers of the modules with these two names, if one of the first `MAX_COMPARED` imports from the cursor on leads from the one to
+    /// the other; the cursor is moved past that import. Otherwise `None`, and the cursor stays.
     pub(crate) fn find_ends_at_cursor(
         &mut self,
         net: &Net,

@@ -1,7 +1,8 @@
 //! Reports of cuts and of paths of pinned imports: their reader and writer; the writers of a network and of a path of imports.
 //! Also the shortest path between two modules, and the modules that a module reaches or that reach it (`digraph`, breadth-first search).
 //! Depends on `cut_net` for networks, `texts` for fields of lines, and `byte_sink` for output; it reexports `byte_sink`.
-//! The main calls are `read` and `write`. A report has exactly one text; `read` returns the report of a text or its first error.
+//! The main calls are `read` and `write`. `write` writes the text of a report, which is unique; `read` returns the report that a text
+//! represents, or the text's first error.
 #![tactic(auto)]
 
 mod builder;

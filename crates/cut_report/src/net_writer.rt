@@ -1,4 +1,6 @@
-//! Writing a network, and a path of its imports.
+//! Writers of a network, and of a path of its imports.
+//! Clauses of the functions that fill the buffer: `gathered`: with `Ok`, what the sink took and the new buffer together are the old buffer
+//! and the lines. `error_prefix`: with `Err`, the sink took a prefix of these. `failures`: the sink counts a failure only for `Device`.
 ghost use Rattle.std.specs.Prelude.{◌≡◌, ◌++◌, [], ◌<◌, length, map, IfErr, IfOk, OnOk};
 ghost use Rattle.std.specs.String.{string_bytes};
 ghost use Rattle.byte_sink.specs.Sinks.{failures_after, AppendsPrefix, Writes};
@@ -14,16 +16,16 @@ use cut_net::{Net, Priced, find_import};
 use std::alloc::{AllocError, Global};
 use std::fmt;
 
-/// The content of a line of a network.
+/// The content of a line of a network's text.
 #[derive(Clone, Copy, Drop)]
 enum NetLine<'a> {
-    /// A module.
+    /// A `module` line: the name of a module.
     Module(&'a str),
-    /// The first module imports the second, with this weight.
+    /// An `import` line: the first named module imports the second, with this weight.
     Import(&'a str, &'a str, u64),
 }
 
-/// Writes the line without its LF.
+/// Writes the bytes of the line, without its LF.
 impl fmt::Display for NetLine<'_> {
     ghost use Rattle.std.specs.Prelude.{Some};
     ghost use Rattle.cut_net.specs.NetText.{net_line};
@@ -39,7 +41,7 @@ impl fmt::Display for NetLine<'_> {
     }
 }
 
-/// Appends a line with its LF to the text, and writes the text if it is long.
+/// Appends a line with its LF to the buffer `text`, and writes the buffer to the sink if it is full.
 fn write_line<S: Sink>(text: &mut String, line: NetLine, sink: &mut S) -> Result<(), SinkFault>
     ensures gathered { OnOk result (WritesAllBut (S.taken sink.old) (S.taken sink.new)
         (string_bytes text.old ++ ended_line (net_line_content line.entry)) (string_bytes text.new)) }
@@ -51,7 +53,7 @@ fn write_line<S: Sink>(text: &mut String, line: NetLine, sink: &mut S) -> Result
     flush_if_full(text, sink)
 }
 
-/// Appends a line for each module.
+/// Appends a line for each module to the buffer `text`, which is written to the sink whenever it is full.
 fn write_modules<S: Sink>(text: &mut String, net: &Net, sink: &mut S) -> Result<(), SinkFault>
     ensures gathered { OnOk result (WritesAllBut (S.taken sink.old) (S.taken sink.new)
         (string_bytes text.old ++ ended_lines (map Module net.now.names)) (string_bytes text.new)) }
@@ -65,7 +67,7 @@ fn write_modules<S: Sink>(text: &mut String, net: &Net, sink: &mut S) -> Result<
     Ok(())
 }
 
-/// Appends a line for each import.
+/// Appends a line for each import to the buffer `text`, which is written to the sink whenever it is full.
 fn write_imports<S: Sink>(
     text: &mut String,
     net: &Net,
@@ -90,7 +92,7 @@ fn write_imports<S: Sink>(
 /// Writes the text of a network: a line for each module, sorted by name, and then one for each import, in their order.
 /// Fails with `Device` or `Memory`; the sink then has a prefix of the text.
 pub fn write_net<S: Sink>(alloc: Global, net: &Net, sink: &mut S) -> Result<(), SinkFault>
-    // Nothing is pinned, since a network's text can't express a pin.
+    // No import is pinned, since a network's text can't express a pin.
     requires { net.now.pins ≡ [] }
     // With `Ok` the sink took the whole text, otherwise a prefix of it.
     ensures writes { Writes (S.taken sink.old) (S.taken sink.new) result (net_text net.now) }
@@ -104,7 +106,7 @@ pub fn write_net<S: Sink>(alloc: Global, net: &Net, sink: &mut S) -> Result<(), 
     write_fully(sink, text.as_bytes())
 }
 
-/// The import between two modules, or one of weight 0 if there is none.
+/// The network's import of the module `to` by `from`; if there is none, an import between them with weight 0.
 fn import_between(net: &Net, from: u32, to: u32) -> Priced
     ensures { result ≡ import_between net.now from to }
 {
@@ -117,7 +119,7 @@ fn import_between(net: &Net, from: u32, to: u32) -> Priced
     find_import(net.imports(), none).unwrap_or(none)
 }
 
-/// The imports between each two consecutive modules.
+/// For each two consecutive modules of the list, the network's import of the second by the first, or one with weight 0 if there is none.
 fn imports_along(alloc: Global, net: &Net, modules: &[u32]) -> Result<Vec<Priced>, AllocError>
     ensures { IfOk result (λ imports. imports.items ≡ imports_along net.now modules.now) }
 {
@@ -136,9 +138,9 @@ pub fn write_chain<S: Sink>(
     chain: &[u32],
     sink: &mut S,
 ) -> Result<(), SinkFault>
-    // Each module imports the next.
+    // Each module of the path imports the next one.
     requires chain { AreImportChain net.now chain.now }
-    // Nothing is pinned, since a pinned import has no weight.
+    // No import is pinned, since a pinned import has no weight.
     requires unpinned { net.now.pins ≡ [] }
     // With `Ok` the sink took all of the lines, otherwise a prefix of them.
     ensures writes { Writes (S.taken sink.old) (S.taken sink.new) result (chain_text net.now chain.now) }

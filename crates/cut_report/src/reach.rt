@@ -1,4 +1,4 @@
-//! The modules that a module reaches, and those that reach it.
+//! The modules that a module reaches by imports, and the modules that reach it.
 ghost use Rattle.std.specs.Prelude.{◌≡◌, ◌≢◌, ◌↔◌, ◌<◌, ◌≤◌, ℕ, All, AllPairs, Contains, IfOk, length};
 ghost use Rattle.digraph.specs.Chains.{IsAcyclic};
 ghost use Rattle.digraph.specs.Edges.{AreBetween, IsAscending, Leads};
@@ -7,10 +7,10 @@ ghost use Rattle.cut_report.specs.Reach.{Reaches};
 
 use crate::chain::edges_of;
 use cut_net::Net;
-use digraph::{Edge, graph_of, sort_and_dedup, transposed};
+use digraph::{Edge, graph_of, sort_and_dedup, transpose};
 use std::alloc::{AllocError, Global};
 
-/// The nodes to which a path of one or more edges leads from the start, in ascending order.
+/// The nodes, in ascending order, to which a path of one or more edges leads from `start`.
 fn reachable_nodes(
     alloc: Global,
     edges: &[Edge],
@@ -31,7 +31,7 @@ fn reachable_nodes(
     let mut reached = Vec::new(alloc);
     for node in 0..nodes {
         let node = node as u32;
-        // The search counts the start as reached, but no path leads back to it.
+        // The search counts the start as reached. But no path of one or more edges leads back to it, since the graph is acyclic.
         if node != start && search.has_reached(node) {
             reached.push(node)?;
         }
@@ -43,11 +43,11 @@ fn reachable_nodes(
 pub fn reached_modules(alloc: Global, net: &Net, from: u32) -> Result<Vec<u32>, AllocError>
     // `from` is a module.
     requires { from < length net.now.names }
-    // Each is listed once, in the order of the names.
+    // With `Ok` the module numbers are strictly ascending, which is the order of the names.
     ensures ascending { IfOk result (λ reached. AllPairs (λ m n. m < n) reached.items) }
-    // The modules are exactly those to which a path leads.
+    // With `Ok` the result has exactly the modules to which a path of one or more imports leads from `from`.
     ensures exact { IfOk result (λ reached. (n : ℕ) → Contains reached.items n ↔ Reaches (Imports net.now.imports Any) from n) }
-    // They are modules of the network.
+    // With `Ok` all numbers in the result are those of modules of the network.
     ensures within { IfOk result (λ reached. All (λ n. n < length net.now.names) reached.items) }
 {
     net.invariants();
@@ -59,16 +59,16 @@ pub fn reached_modules(alloc: Global, net: &Net, from: u32) -> Result<Vec<u32>, 
 pub fn reaching_modules(alloc: Global, net: &Net, to: u32) -> Result<Vec<u32>, AllocError>
     // `to` is a module.
     requires { to < length net.now.names }
-    // Each is listed once, in the order of the names.
+    // With `Ok` the module numbers are strictly ascending, which is the order of the names.
     ensures ascending { IfOk result (λ reaching. AllPairs (λ m n. m < n) reaching.items) }
-    // The modules are exactly those from which a path leads.
+    // With `Ok` the result has exactly the modules from which a path of one or more imports leads to `to`.
     ensures exact { IfOk result (λ reaching. (n : ℕ) → Contains reaching.items n ↔ Reaches (Imports net.now.imports Any) n to) }
-    // They are modules of the network.
+    // With `Ok` all numbers in the result are those of modules of the network.
     ensures within { IfOk result (λ reaching. All (λ n. n < length net.now.names) reaching.items) }
 {
     net.invariants();
     let edges = edges_of(alloc, net.imports())?;
-    let mut reversed = transposed(alloc, edges.as_slice())?;
+    let mut reversed = transpose(alloc, edges.as_slice())?;
     sort_and_dedup(&mut reversed);
     reachable_nodes(alloc, reversed.as_slice(), net.nodes() as usize, to)
 }

@@ -14,9 +14,10 @@ use crate::{Report, ReportFault};
 use cut_net::Net;
 use std::alloc::Global;
 
-/// The report of the bytes, whose lines are added to a builder one by one; or their first error.
+/// The report that the bytes represent, or their first error. Adds the lines to a builder one by one.
 fn read_lines(alloc: Global, bytes: &[u8], net: &Net) -> Result<Report, ReportFault>
     requires { IsNetwork net.now }
+    // The result is an outcome of the bytes, a report or an error, unless an allocation failed.
     ensures { HasOutcome entry_of result (IsReportOutcome net.now bytes.now) }
 {
     let mut builder = ReportBuilder::Start;
@@ -31,11 +32,12 @@ fn read_lines(alloc: Global, bytes: &[u8], net: &Net) -> Result<Report, ReportFa
     builder.finish(before, rest)
 }
 
-/// The report of two modules of the network that the bytes spell. Fails with the first error of the bytes, by lines, or with `Memory`.
+/// The report that the bytes represent, for two modules of the network. Fails with the error of the first line that has one, with `NoEnd`,
+/// or with `Memory` if an allocation fails.
 pub fn read(alloc: Global, bytes: &[u8], net: &Net) -> Result<Report, ReportFault>
-    // The result is an outcome of the bytes, a report or an error, unless an allocation failed. So it is never `Device`.
+    // The result is an outcome of the bytes, a report or an error, unless an allocation failed. So the error is never `Device`.
     ensures exact { HasOutcome entry_of result (IsReportOutcome net.now bytes.now) }
-    // Any outcome of the bytes is the result, unless an allocation failed.
+    // Each outcome of the bytes, a report or an error, is the result, unless an allocation failed.
     ensures only { (o : Result ReportClaim ReportFault) → IsReportOutcome net.now bytes.now o → HasOutcome entry_of result (λ p. p ≡ o) }
 {
     net.invariants();

@@ -2,13 +2,13 @@
 
 use cut_net::Answer;
 
-/// An answer for two modules, which are given by their numbers.
+/// A report: an answer for two modules, which are given by their numbers.
 #[derive(Drop)]
 pub struct Report {
-    /// The module from which the paths begin.
+    /// The number of the module at which all the paths begin that a cut has to break.
     pub from: u32,
-    /// The module to which the paths lead.
+    /// The number of the module at which all the paths end that a cut has to break.
     pub to: u32,
-    /// A cut with its flow, or a path of pinned imports.
+    /// The answer for the two modules: a cut with its flow, or a path of pinned imports.
     pub answer: Answer,
 }

@@ -1,4 +1,6 @@
 //! The writer of reports.
+//! Clauses of the functions that fill the buffer: `gathered`: with `Ok`, what the sink took and the new buffer together are the old buffer
+//! and the lines. `error_prefix`: with `Err`, the sink took a prefix of these. `failures`: the sink counts a failure only for `Device`.
 ghost use Rattle.std.specs.Prelude.{◌≡◌, ◌++◌, ◌<◌, true, length, map, All, IfErr, IfOk, OnOk};
 ghost use Rattle.std.specs.String.{string_bytes};
 ghost use Rattle.texts.specs.Fields.{ended, line_of};
@@ -20,7 +22,7 @@ use byte_sink::flush_if_full;
 use cut_net::{Answer, Cut, Net, Priced};
 use std::alloc::{AllocError, Global};
 
-/// Appends a line with its LF to the text, and writes the text if it is long.
+/// Appends a line with its LF to the buffer `text`, and writes the buffer to the sink if it is full.
 fn write_line<S: Sink>(text: &mut String, line: Line, sink: &mut S) -> Result<(), SinkFault>
     ensures gathered { OnOk result (WritesAllBut (S.taken sink.old) (S.taken sink.new)
         (string_bytes text.old ++ ended (report_line (line_content line.entry))) (string_bytes text.new)) }
@@ -32,7 +34,7 @@ fn write_line<S: Sink>(text: &mut String, line: Line, sink: &mut S) -> Result<()
     flush_if_full(text, sink)
 }
 
-/// Appends a line for each import to remove.
+/// Appends a `remove` line for each of these imports to the buffer `text`, which is written to the sink whenever it is full.
 fn write_removes<S: Sink>(
     text: &mut String,
     net: &Net,
@@ -54,7 +56,7 @@ fn write_removes<S: Sink>(
     Ok(())
 }
 
-/// Appends a line for each import with flow.
+/// Appends a `flow` line for each of these imports to the buffer `text`, which is written to the sink whenever it is full.
 fn write_flows<S: Sink>(
     text: &mut String,
     net: &Net,
@@ -76,7 +78,8 @@ fn write_flows<S: Sink>(
     Ok(())
 }
 
-/// Appends the lines of a cut.
+/// Appends the lines of a cut to the buffer `text`: its weight, the imports to remove, and the imports with flow. Writes the buffer to the
+/// sink whenever it is full.
 fn write_cut<S: Sink>(
     text: &mut String,
     net: &Net,
@@ -95,7 +98,7 @@ fn write_cut<S: Sink>(
     write_flows(text, net, cut.flow.as_slice(), sink)
 }
 
-/// Appends a word to the text, after a space unless it is the first word; `count` is the number of words before it.
+/// Appends a word to `text`, with a space before it unless it is the first word. `count` is the number of words that `text` already has.
 fn append_word(text: &mut String, count: usize, word: &str) -> Result<(), AllocError>
     ensures { OnOk result (string_bytes text.new ≡ joined_with (string_bytes text.old) count word.now) }
 {
@@ -105,7 +108,7 @@ fn append_word(text: &mut String, count: usize, word: &str) -> Result<(), AllocE
     text.push_str(word)
 }
 
-/// The names of the modules, separated by spaces.
+/// The names of these modules in their order, separated by spaces.
 fn joined_names(alloc: Global, net: &Net, modules: &[u32]) -> Result<String, AllocError>
     requires { All (λ m. m < length net.now.names) modules.now }
     ensures { IfOk result (λ t. string_bytes t ≡ line_of (map (name_of net.now) modules.now)) }
@@ -117,7 +120,7 @@ fn joined_names(alloc: Global, net: &Net, modules: &[u32]) -> Result<String, All
     Ok(text)
 }
 
-/// Appends the line of a path of pinned imports.
+/// Appends the `blocked` line of a path of pinned imports to the buffer `text`, which is written to the sink if it is full.
 fn write_pin_chain<S: Sink>(
     alloc: Global,
     text: &mut String,
@@ -138,7 +141,8 @@ fn write_pin_chain<S: Sink>(
     write_line(text, Line::Blocks(names.as_str()), sink)
 }
 
-/// Appends the lines between the first and the last.
+/// Appends the lines of the answer, all lines of the report except its first and last one, to the buffer `text`. Writes the buffer to the
+/// sink whenever it is full.
 fn write_answer<S: Sink>(
     alloc: Global,
     text: &mut String,
@@ -159,7 +163,7 @@ fn write_answer<S: Sink>(
     }
 }
 
-/// Writes the text of the report in pieces.
+/// Writes the text of the report of an answer for two modules to the sink, through a buffer.
 fn write_text<S: Sink>(
     alloc: Global,
     net: &Net,
@@ -189,14 +193,14 @@ pub fn write<S: Sink>(
     answer: &Answer,
     sink: &mut S,
 ) -> Result<(), ReportFault>
-    // The lists of a cut are strictly sorted imports between modules of the network, and no flow is 0; a path has one or more modules of
-    // the network.
+    // `from` and `to` are modules. The lists of a cut are strictly sorted imports between modules of the network, and no flow is 0. A path
+    // has one or more modules of the network.
     requires { IsReport net.now (claim_of from to answer.now) }
     // With `Ok` the sink took the whole text, otherwise a prefix of it.
     ensures writes { WritesBy is_of_sink (S.taken sink.old) (S.taken sink.new) result (report_text net.now (claim_of from to answer.now)) }
     // The sink counts a failure if and only if the result is `Device`.
     ensures failures { S.failures sink.new ≡ failures_by is_failure result (S.failures sink.old) }
-    // No error of a text is returned.
+    // With `Err` the error is one of the sink: `Device` or `Memory`.
     ensures of_sink { IfErr result (λ fault. is_of_sink fault ≡ true) }
 {
     write_text(alloc, net, from, to, answer, sink)?;

@@ -23,7 +23,7 @@ use Rattle.cut_rules.specs.RuleLines.{Selector, Module, Folder, Named, Tree, Add
 use Rattle.cut_rules.specs.Rules.{HasFault, HasPattern, IsStale, LacksImport, LineFault, Selects}
 use Rattle.cut_rules.specs.Faults.{IsRefusal, UnlessMemory}
 use Rattle.cut_rules.specs.Names.{AreLinesOf}
-use Rattle.cut_rules.specs.Builders.{number_of, pattern_count, AreAllowed, ArePairs, AreRules, AreStale, IsAddedWithin, IsAddition, HasLines, IsRuleOf, IsSetIndex, IsTable, Takes}
+use Rattle.cut_rules.specs.Builders.{number_of, pattern_count, AreAllowed, ArePairs, AreRules, AreStale, IsAddedWithin, IsAddition, HasLines, IsRuleOf, IsSetIndex, IsTable, IsLineOutcome}
 use Rattle.cut_rules.proofs.LineLaws.{says_one}
 use Rattle.cut_rules.proofs.LineLists.{lines_push, lines_same}
 use Rattle.cut_rules.proofs.Numbers.{number_behind, number_once, set_numbered}
@@ -258,5 +258,5 @@ module _ (net : Network) (files : List File) (sets pieces : List (List ℕ)) whe
     pairs = subst (λ (m : ℕ). ArePairs builder.pairs (λ key. key.0.now) (λ key. key.1.now) pieces m) (sym e) pairs;
   }
 
-  pub refused : (line : ℕ) (fault : RulesFault) (result : Result (Unit {0}) RulesFault) (builder : RulesBuilder) → result ≡ Err fault → UnlessMemory fault (IsRefusal net files pieces fault) → Takes net files sets pieces line result builder
+  pub refused : (line : ℕ) (fault : RulesFault) (result : Result (Unit {0}) RulesFault) (builder : RulesBuilder) → result ≡ Err fault → UnlessMemory fault (IsRefusal net files pieces fault) → IsLineOutcome net files sets pieces line result builder
   refused line fault result builder is u = rw is u

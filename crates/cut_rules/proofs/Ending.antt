@@ -26,7 +26,7 @@ use Rattle.cut_rules.specs.Verdicts.{is_clean, is_none, lines_text, stale_line, 
 use Rattle.cut_rules.proofs.Fronts.{one_list}
 use Rattle.cut_rules.proofs.Pieces.{says_low}
 use Rattle.cut_rules.proofs.LineLaws.{says_one}
-use Rattle.cut_rules.proofs.Violations.{one_verdict}
+use Rattle.cut_rules.proofs.Violations.{violations_are_unique}
 
 -- ---- stale lines
 
@@ -78,9 +78,9 @@ none_map f [] = refl
 none_map f (x ∷ xs) = sym (not_zero (length (x ∷ xs)) (omega arith))
 
 -- whether nothing is written
-pub clean_is : (vs : List Violation) (stale : List StaleAllow) (error_prefix empty clean : Bool) → error_prefix ≡ not (is_none vs) → empty ≡ (length stale == 0) → clean ≡ (if error_prefix then false else empty) → clean ≡ is_clean vs (map stale_of stale)
-clean_is [] stale error_prefix empty clean b e c = c ∙ rw b (e ∙ sym (none_map stale_of stale))
-clean_is (v ∷ vs) stale error_prefix empty clean b e c = c ∙ rw b refl
+pub clean_is : (vs : List Violation) (stale : List StaleAllow) (is_broken empty clean : Bool) → is_broken ≡ not (is_none vs) → empty ≡ (length stale == 0) → clean ≡ (if is_broken then false else empty) → clean ≡ is_clean vs (map stale_of stale)
+clean_is [] stale is_broken empty clean b e c = c ∙ rw b (e ∙ sym (none_map stale_of stale))
+clean_is (v ∷ vs) stale is_broken empty clean b e c = c ∙ rw b refl
 
 module _ (style : Style) (net : Network) (sites : List Site) (old now new : Option (List ℕ)) where
   -- nothing was gathered, and nothing put
@@ -134,9 +134,9 @@ empty_is v b e = let ok = v.ok in let size : vec_len v ≡ length v.items = omeg
 
 -- ---- after the violations are gathered, into a text that was empty
 
-module _ (style other : Style) (same : other ≡ style) (net : Network) (sites : List Site) (files : List File) (pieces : List (List ℕ)) (rules : Rules) (elements : AreRulesOf net files pieces rules) (text : List ℕ) (empty : text ≡ []) (error_prefix : Bool) (old now : Option (List ℕ)) (rest : List ℕ) where
+module _ (style other : Style) (same : other ≡ style) (net : Network) (sites : List Site) (files : List File) (pieces : List (List ℕ)) (rules : Rules) (elements : AreRulesOf net files pieces rules) (text : List ℕ) (empty : text ≡ []) (is_broken : Bool) (old now : Option (List ℕ)) (rest : List ℕ) where
   abbrev pub Written : Type 0
-  Written = (vs : List Violation) × AreViolations net files pieces vs × (error_prefix ≡ not (is_none vs)) × WritesAllBut old now (text ++ flat_map (violation_line other net sites) vs) rest
+  Written = (vs : List Violation) × AreViolations net files pieces vs × (is_broken ≡ not (is_none vs)) × WritesAllBut old now (text ++ flat_map (violation_line other net sites) vs) rest
 
   abbrev pub mine : List Stale
   mine = map stale_of rules.stale.items
@@ -150,7 +150,7 @@ module _ (style other : Style) (same : other ≡ style) (net : Network) (sites :
   as_any : (w : Written) (new : Option (List ℕ)) (vs : List Violation) (stale : List Stale) → AreViolations net files pieces vs → AreStaleLines net pieces stale → AppendsPrefix old new (verdict_text style net sites w.0 mine) → AppendsPrefix old new (verdict_text style net sites vs stale)
   as_any w new vs stale are_vs are_stale front =
       subst (λ (ss : List Stale). AppendsPrefix old new (verdict_text style net sites vs ss)) (one_stale_list net pieces mine stale (stale_lines net files pieces rules elements) are_stale)
-      (subst (λ (ws : List Violation). AppendsPrefix old new (verdict_text style net sites ws mine)) (one_verdict net files pieces w.0 vs w.1 are_vs) front)
+      (subst (λ (ws : List Violation). AppendsPrefix old new (verdict_text style net sites ws mine)) (violations_are_unique net files pieces w.0 vs w.1 are_vs) front)
 
   pub stopped_at_stale : Written → (new : Option (List ℕ)) → AppendsPrefix now new (rest ++ flat_map stale_line mine) → (vs : List Violation) (stale : List Stale) → AreViolations net files pieces vs → AreStaleLines net pieces stale → AppendsPrefix old new (verdict_text style net sites vs stale)
   stopped_at_stale w new q vs stale are_vs are_stale = as_any w new vs stale are_vs are_stale (stale_stopped style net sites old now new w.0 mine rest (own_puts w) q)

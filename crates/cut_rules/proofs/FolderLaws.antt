@@ -15,7 +15,7 @@ use Rattle.std.proofs.lemmas.List.Sorted.{searchable_from_sorted}
 use Rattle.std.proofs.lemmas.Option.{get_or_from_slice_get}
 use Rattle.std.proofs.lemmas.Slice.Eq.{starts_is}
 use Rattle.cut_rules.specs.declared.file.File.{File}
-use Rattle.cut_rules.specs.Folders.{is_before, is_before_end, path_cmp}
+use Rattle.cut_rules.specs.Folders.{path_is_before, path_is_before_or_below, path_cmp}
 use Rattle.cut_rules.specs.Rules.{folder_prefix, IsBelow}
 use Rattle.cut_rules.proofs.Pieces.{get_low}
 
@@ -49,7 +49,7 @@ not_less (p ∷ front) rest e =
 
 -- ---- the two tests
 
-before_is : (text : List ℕ) (f : File) → is_before text f ≡ true → slice_cmp nat_cmp f.path.now text ≡ Less
+before_is : (text : List ℕ) (f : File) → path_is_before text f ≡ true → slice_cmp nat_cmp f.path.now text ≡ Less
 before_is text f e = by (slice_cmp nat_cmp f.path.now text) refl e
   where
     by : (o : Ordering) → slice_cmp nat_cmp f.path.now text ≡ o → is_lt o ≡ true → slice_cmp nat_cmp f.path.now text ≡ Less
@@ -65,7 +65,7 @@ module _ (files : List File) (sorted : IsSorted path_cmp files) (text : List ℕ
   rises other = searchable_from_sorted nat_list_cmp_total (λ (f : File). f.path.now) files other sorted
 
   -- those that come before the text stand in front
-  pub before_first : IsPartitionedBy (is_before text) files
+  pub before_first : IsPartitionedBy (path_is_before text) files
   before_first i j d le lt e =
       let low = rises text i j d le lt in
       let less = before_is text (get_or files j d) e in
@@ -78,7 +78,7 @@ module _ (files : List File) (sorted : IsSorted path_cmp files) (text : List ℕ
       lowest Greater l = absurd (omega (arith, l))
 
   -- and so do those that come before it or begin with it
-  pub not_behind_first : IsPartitionedBy (is_before_end text) files
+  pub not_behind_first : IsPartitionedBy (path_is_before_or_below text) files
   not_behind_first i j d le lt e = elim (or_cases _ _ e) [
     | inl before ↦ or_left _ _ (before_first i j d le lt before)
     | inr starts ↦
@@ -98,29 +98,29 @@ module _ (files : List File) (sorted : IsSorted path_cmp files) (text : List ℕ
       low_enough Greater l e = absurd (omega (arith, l))
 
 module _ (files : List File) (path text : List ℕ) (is_text : text ≡ folder_prefix path) (from to : ℕ)
-    (first : IsPartitionPoint (λ f. is_before text f ≡ true) (λ f. is_before text f ≡ false) files from)
-    (last : IsPartitionPoint (λ f. is_before_end text f ≡ true) (λ f. is_before_end text f ≡ false) files to) where
+    (first : IsPartitionPoint (λ f. path_is_before text f ≡ true) (λ f. path_is_before text f ≡ false) files from)
+    (last : IsPartitionPoint (λ f. path_is_before_or_below text f ≡ true) (λ f. path_is_before_or_below text f ≡ false) files to) where
   pub places_are : (k : ℕ) (f : File) → slice_get files k ≡ Some f → ((from ≤ k) × (k < to)) ↔ IsBelow path f.path.now
   places_are k f at =
       let lt : k < length files = get_low files k f at in
       let here : get_or files k f ≡ f = get_or_from_slice_get files k f f at in (
-        λ (low, high). elim (or_cases _ _ (subst (λ (g : File). is_before_end text g ≡ true) here (last.0 k f (omega arith) high))) [
-          | inl before ↦ absurd (let e : true ≡ false = sym before ∙ subst (λ (g : File). is_before text g ≡ false) here (first.1 k f low lt) in cc)
+        λ (low, high). elim (or_cases _ _ (subst (λ (g : File). path_is_before_or_below text g ≡ true) here (last.0 k f (omega arith) high))) [
+          | inl before ↦ absurd (let e : true ≡ false = sym before ∙ subst (λ (g : File). path_is_before text g ≡ false) here (first.1 k f low lt) in cc)
           | inr starts ↦ (drop (length text) f.path.now, (begins text f).0 starts ∙ ap (λ (t : List ℕ). t ++ drop (length text) f.path.now) is_text)
         ],
         λ (rest, is).
             let whole : f.path.now ≡ text ++ rest = is ∙ ap (λ (t : List ℕ). t ++ rest) (sym is_text) in (
               elim (cases_lt k from) [
                 | inl below ↦
-                    let less = before_is text f (subst (λ (g : File). is_before text g ≡ true) here (first.0 k f (omega arith) below)) in
+                    let less = before_is text f (subst (λ (g : File). path_is_before text g ≡ true) here (first.0 k f (omega arith) below)) in
                     absurd (not_less text rest (subst (λ (t : List ℕ). slice_cmp nat_cmp t text ≡ Less) whole less))
                 | inr above ↦ above
               ],
               elim (cases_lt k to) [
                 | inl below ↦ below
                 | inr above ↦
-                    let no : is_before_end text f ≡ false = subst (λ (g : File). is_before_end text g ≡ false) here (last.1 k f above lt) in
-                    absurd (let e : true ≡ false = sym (or_right (is_before text f) _ ((begins text f).1 rest whole)) ∙ no in cc)
+                    let no : path_is_before_or_below text f ≡ false = subst (λ (g : File). path_is_before_or_below text g ≡ false) here (last.1 k f above lt) in
+                    absurd (let e : true ≡ false = sym (or_right (path_is_before text f) _ ((begins text f).1 rest whole)) ∙ no in cc)
               ],
             ),
       )

@@ -23,9 +23,9 @@ use Rattle.cut_rules.specs.declared.rule.RuleKind.{RuleKind}
 use Rattle.cut_rules.specs.declared.rule.RuleKind.TheVariants as kinds
 use Rattle.cut_rules.specs.declared.rule_search.RuleSearch.{RuleSearch}
 use Rattle.cut_rules.specs.RuleLines.{Allow, May, Restricts, States}
-use Rattle.cut_rules.specs.Rules.{Counts, IsIn}
+use Rattle.cut_rules.specs.Rules.{IsUnallowedImport, IsIn}
 use Rattle.cut_rules.specs.Builders.{number_by, number_of}
-use Rattle.cut_rules.specs.Judged.{IsBarredBy, IsCountedGraph, IsFirstRule, IsDenoted, IsOutsider, IsRepeated, IsRuleSearch, IsSearchFor, IsTargetBy}
+use Rattle.cut_rules.specs.Judged.{IsBarredBy, IsCountedGraph, IsFirstRule, IsDenoted, IsForbiddenByMay, IsRepeated, IsRuleSearch, IsSearchFor, IsTargetBy}
 use Rattle.cut_rules.specs.Names.{names_in}
 use Rattle.cut_rules.specs.Outcomes.{AreRulesOf}
 use Rattle.digraph.specs.ShortestPaths.{IsPathAround}
@@ -56,7 +56,7 @@ module _ (net : Network) (network : IsNetwork net) (files : List File) (pieces :
   -- ---- imports that count
 
   module _ (graph : Graph) (of : IsCountedGraph net rules graph) where
-    pub counts : (m n : ℕ) → Leads graph.edges.now m n → Counts net pieces m n
+    pub counts : (m n : ℕ) → Leads graph.edges.now m n → IsUnallowedImport net pieces m n
     counts m n leads =
         let (k, lt, free, is) = (of.counted (record { from = m; to = n })).0 leads in
         let i = get_or net.imports k missing_item in (
@@ -69,7 +69,7 @@ module _ (net : Network) (network : IsNetwork net) (files : List File) (pieces :
               let e : true ≡ false = sym present ∙ free in cc,
         )
 
-    pub counted_back : (m n : ℕ) → Counts net pieces m n → Leads graph.edges.now m n
+    pub counted_back : (m n : ℕ) → IsUnallowedImport net pieces m n → Leads graph.edges.now m n
     counted_back m n (i, (k, lt, is), from, to, free) =
         let here : get_or net.imports k missing_item ≡ i = get_or_default net.imports k missing_item i lt ∙ is in
         (of.counted (record { from = m; to = n })).1 (
@@ -84,10 +84,10 @@ module _ (net : Network) (network : IsNetwork net) (files : List File) (pieces :
           ap edge_of here ∙ (λ k. record { from = from k; to = to k }),
         )
 
-  low_count : (m n : ℕ) → Counts net pieces m n → n < nodes
+  low_count : (m n : ℕ) → IsUnallowedImport net pieces m n → n < nodes
   low_count m n (i, has, from, to, free) = subst (λ (v : ℕ). v < nodes) to (network.between i has).1
 
-  low_source : (m n : ℕ) → Counts net pieces m n → m < nodes
+  low_source : (m n : ℕ) → IsUnallowedImport net pieces m n → m < nodes
   low_source m n (i, has, from, to, free) = subst (λ (v : ℕ). v < nodes) from (network.between i has).0
 
   -- ---- modules of names
@@ -141,7 +141,7 @@ module _ (net : Network) (network : IsNetwork net) (files : List File) (pieces :
         let one : Restricts r.kind x y ≡ Restricts kind u v = says_one pieces r.line (Restricts r.kind x y) (Restricts kind u v) says other in
         (cc, cc, cc)
 
-    outsider : (n : ℕ) → n < nodes → IsOutsider rules r.first n → (IsIn net files pieces x n → ⊥) × ((other : ℕ) (v : List ℕ) → States pieces other (May x v) → IsIn net files pieces v n → ⊥)
+    outsider : (n : ℕ) → n < nodes → IsForbiddenByMay rules r.first n → (IsIn net files pieces x n → ⊥) × ((other : ℕ) (v : List ℕ) → States pieces other (May x v) → IsIn net files pieces v n → ⊥)
     outsider n low (own, others) = (
       λ is. own ((is_in x r.first n low first).1 is),
       λ other v line is.
@@ -149,7 +149,7 @@ module _ (net : Network) (network : IsNetwork net) (files : List File) (pieces :
           others s has (kind, some_is s.first r.first (sym of_x ∙ first)) ((is_in v s.second n low of_v).1 is),
     )
 
-    outsider_back : (n : ℕ) → n < nodes → (IsIn net files pieces x n → ⊥) → ((other : ℕ) (v : List ℕ) → States pieces other (May x v) → IsIn net files pieces v n → ⊥) → IsOutsider rules r.first n
+    outsider_back : (n : ℕ) → n < nodes → (IsIn net files pieces x n → ⊥) → ((other : ℕ) (v : List ℕ) → States pieces other (May x v) → IsIn net files pieces v n → ⊥) → IsForbiddenByMay rules r.first n
     outsider_back n low own others = (
       λ named. own ((is_in x r.first n low first).0 named),
       λ s has (kind, same) named.
@@ -212,32 +212,32 @@ module _ (net : Network) (network : IsNetwork net) (files : List File) (pieces :
       alone_back : (m : ℕ) (path : List ℕ) → m < nodes → path ≡ m ∷ [] → IsIn net files pieces x m → IsPathAround Edges is.starts is.barrier m path
       alone_back m path low e named = subst (IsPathAround Edges is.starts is.barrier m) (sym e) (source_back m low named, refl, λ k d lt. absurd (omega arith))
 
-      entry_to : ((v : ℕ) → v < nodes → IsIn net files pieces y v → marked is.barrier v ≡ true) → (m : ℕ) (path : List ℕ) → IsPathAround Edges is.starts is.barrier m path → IsEntryPath (Counts net pieces) (IsIn net files pieces x) (IsIn net files pieces y) m path
+      entry_to : ((v : ℕ) → v < nodes → IsIn net files pieces y v → marked is.barrier v ≡ true) → (m : ℕ) (path : List ℕ) → IsPathAround Edges is.starts is.barrier m path → IsEntryPath (IsUnallowedImport net pieces) (IsIn net files pieces x) (IsIn net files pieces y) m path
       entry_to bars m [] none = absurd none
       entry_to bars m (start ∷ more) (source, chain, free) = (
         source_is start source,
-        chain_to Edges (Counts net pieces) (counts graph of) start more m chain,
+        chain_to Edges (IsUnallowedImport net pieces) (counts graph of) start more m chain,
         λ v has named.
             let low = low_chain Edges nodes low_lead start more m chain v has in
             let e : true ≡ false = sym (bars v low named) ∙ All-contains (λ (u : ℕ). marked is.barrier u ≡ false) more v free has in
             cc,
       )
 
-      entry_back : ((v : ℕ) → v < nodes → marked is.barrier v ≡ true → IsIn net files pieces y v) → (m : ℕ) → m < nodes → (path : List ℕ) → IsEntryPath (Counts net pieces) (IsIn net files pieces x) (IsIn net files pieces y) m path → IsPathAround Edges is.starts is.barrier m path
+      entry_back : ((v : ℕ) → v < nodes → marked is.barrier v ≡ true → IsIn net files pieces y v) → (m : ℕ) → m < nodes → (path : List ℕ) → IsEntryPath (IsUnallowedImport net pieces) (IsIn net files pieces x) (IsIn net files pieces y) m path → IsPathAround Edges is.starts is.barrier m path
       entry_back bars m low [] none = absurd none
       entry_back bars m low (start ∷ more) (source, chain, free) = (
         source_back start (low_start more chain) source,
-        chain_to (Counts net pieces) Edges (counted_back graph of) start more m chain,
+        chain_to (IsUnallowedImport net pieces) Edges (counted_back graph of) start more m chain,
         λ k d lt.
             let v = get_or more k d in
             let has = Contains-get_or more k d lt in
             elim (cases_Bool (marked is.barrier v)) [
-              | inl barred ↦ absurd (free v has (bars v (low_chain (Counts net pieces) nodes low_count start more m chain v has) barred))
+              | inl barred ↦ absurd (free v has (bars v (low_chain (IsUnallowedImport net pieces) nodes low_count start more m chain v has) barred))
               | inr no_mark ↦ no_mark
             ],
       )
         where
-          low_start : (more : List ℕ) → IsChain (Counts net pieces) start more m → start < nodes
+          low_start : (more : List ℕ) → IsChain (IsUnallowedImport net pieces) start more m → start < nodes
           low_start [] e = subst (λ (v : ℕ). v < nodes) (sym e) low
           low_start (n ∷ more) (step, rest) = low_source start n step
 
@@ -261,9 +261,9 @@ module _ (net : Network) (network : IsNetwork net) (files : List File) (pieces :
       forbidden_back kinds.Forbid e bars targets m n path low high (ByForbid u v line target free) =
           let (k, same_x, same_y) = same_line kinds.Forbid u v line in
           let target_is : IsIn net files pieces y n = subst (λ (w : List ℕ). IsIn net files pieces w n) (sym same_y) target in
-          let entry : IsEntryPath (Counts net pieces) (IsIn net files pieces x) (IsIn net files pieces y) m path =
-          subst (λ (w : List ℕ). IsEntryPath (Counts net pieces) (IsIn net files pieces w) (IsIn net files pieces y) m path) (sym same_x)
-          (subst (λ (w : List ℕ). IsEntryPath (Counts net pieces) (IsIn net files pieces u) (IsIn net files pieces w) m path) (sym same_y) free) in
+          let entry : IsEntryPath (IsUnallowedImport net pieces) (IsIn net files pieces x) (IsIn net files pieces y) m path =
+          subst (λ (w : List ℕ). IsEntryPath (IsUnallowedImport net pieces) (IsIn net files pieces w) (IsIn net files pieces y) m path) (sym same_x)
+          (subst (λ (w : List ℕ). IsEntryPath (IsUnallowedImport net pieces) (IsIn net files pieces u) (IsIn net files pieces w) m path) (sym same_y) free) in
           (entry_back (λ w low barred. (is_in y r.second w low second).0 ((bars w low).0 barred)) m low path entry, (targets n high).1 ((is_in y r.second n high second).1 target_is))
       forbidden_back kinds.ForbidImport e bars targets m n path low high (ByForbid u v line target free) = absurd (let k = (same_line kinds.Forbid u v line).0 in let f : kinds.ForbidImport ≡ kinds.Forbid = sym e ∙ k in cc)
       forbidden_back kinds.May e bars targets m n path low high (ByForbid u v line target free) = absurd (let k = (same_line kinds.Forbid u v line).0 in let f : kinds.May ≡ kinds.Forbid = sym e ∙ k in cc)

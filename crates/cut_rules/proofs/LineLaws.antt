@@ -12,7 +12,7 @@ use Rattle.std.proofs.lemmas.List.{take-append-drop}
 use Rattle.std.proofs.lemmas.Option.{option_and_then_some}
 use Rattle.std.proofs.lemmas.Str.{IsUtf8-from_is_utf8, is_utf8-from_IsUtf8}
 use Rattle.std.proofs.lemmas.Slice.Eq.{bytes_eq-Decides}
-use Rattle.texts.specs.Fields.{cut_at, named, is_name}
+use Rattle.texts.specs.Fields.{split_at_first, named, is_name}
 use Rattle.texts.proofs.FieldCuts.{cut_takes, cut_again, some_is}
 use Rattle.texts.proofs.FieldNames.{named_takes, named_again, name_without}
 use Rattle.cut_net.proofs.NetLines.{map_some}
@@ -227,7 +227,7 @@ fields_takes word fields l e = elim (cases_Bool (bytes_eq word (codes "tree"))) 
       map_some (λ (s : List ℕ). Adds s Tree) (last_name_of fields) l (rw is at e) (λ s h same.
       let (comment, whole, q, ends) = last_takes fields s h in
       rw (← same, word_is, whole) (comment, sym (append_assoc (codes "tree") (32 ∷ s) comment), q, ends))
-  | inr a ↦ option_and_then_some _ (cut_at 32 fields) l (rw a at e) (λ parts h1 e.
+  | inr a ↦ option_and_then_some _ (split_at_first 32 fields) l (rw a at e) (λ parts h1 e.
       option_and_then_some _ (named parts.0) l e (λ first h2 e.
       let p = named_takes parts.0 first h2 in
       let whole : fields ≡ first ++ 32 ∷ parts.1 = cut_takes 32 fields parts h1 ∙ rw p.0 refl in
@@ -237,7 +237,7 @@ fields_takes word fields l e = elim (cases_Bool (bytes_eq word (codes "tree"))) 
 -- the bytes of a parsed line are those of its content
 pub line_takes : (piece : List ℕ) (l : RuleLine) → rule_line_of piece ≡ Some l → Spells piece l
 unfolding rule_line_of
-line_takes piece l e = option_and_then_some _ (cut_at 32 piece) l e (λ parts h e.
+line_takes piece l e = option_and_then_some _ (split_at_first 32 piece) l e (λ parts h e.
     let (comment, whole, form, follows) = fields_takes parts.0 parts.1 l e in
     record { form = form; comment = comment; follows = follows; whole = cut_takes 32 piece parts h ∙ whole })
 
@@ -285,7 +285,7 @@ named_field : (name rest : List ℕ) → position_or_len is_blank (name ++ rest)
 named_field name rest e = rw e (take-append_seam name rest)
 
 abbrev HasField : List ℕ → List ℕ → Type 0
-HasField piece s = (parts : List ℕ × List ℕ) × (cut_at 32 piece ≡ Some parts) × (take (position_or_len is_blank parts.1) parts.1 ≡ s)
+HasField piece s = (parts : List ℕ × List ℕ) × (split_at_first 32 piece ≡ Some parts) × (take (position_or_len is_blank parts.1) parts.1 ≡ s)
 
 field_of : (s : List ℕ) (selector : Selector) (comment : List ℕ) → IsRuleLine (Adds s selector) → MayFollow (Adds s selector) comment → HasField (rule_line (Adds s selector) ++ comment) s
 field_of s (Module m) comment h ends =
@@ -306,7 +306,7 @@ set_field_is piece s e = option_and_then_some parse_set_name (rule_line_of piece
     by (Allow m n) spelled e = absurd cc
 
 -- how the names of a rule are read
-pub rule_by : (piece word fields : List ℕ) → cut_at 32 piece ≡ Some (word, fields) → rule_of piece ≡ option_and_then names_of_rule (line_of_fields word fields)
+pub rule_by : (piece word fields : List ℕ) → split_at_first 32 piece ≡ Some (word, fields) → rule_of piece ≡ option_and_then names_of_rule (line_of_fields word fields)
 unfolding rule_of rule_line_of
 rule_by piece word fields e = ap (λ (o : Option (List ℕ × List ℕ)). option_and_then names_of_rule (option_and_then (λ parts. line_of_fields parts.0 parts.1) o)) e
 
@@ -315,7 +315,7 @@ pub no_kind : (word fields : List ℕ) → kind_of word ≡ None → option_and_
 unfolding line_of_fields line_after
 no_kind word fields none = elim (cases_Bool (bytes_eq word (codes "tree"))) [
   | inl is ↦ rw is (no_name (last_name_of fields))
-  | inr a ↦ rw a (parts_none (cut_at 32 fields))
+  | inr a ↦ rw a (parts_none (split_at_first 32 fields))
 ]
   where
     no_name : (o : Option (List ℕ)) → option_and_then names_of_rule (option_map (λ s. Adds s Tree) o) ≡ None

@@ -11,7 +11,7 @@ use Rattle.cut_net.specs.Lines.{edge_of}
 use Rattle.cut_net.specs.Network.{Network, missing_item}
 use Rattle.cut_rules.specs.declared.reading.Rules.{Rules}
 use Rattle.cut_rules.specs.declared.rule.Rule.{Rule}
-use Rattle.cut_rules.specs.Judged.{IsCountedBefore, IsFlagSet, IsMayOf, IsDenoted, IsOutsiderOf}
+use Rattle.cut_rules.specs.Judged.{IsCountedBefore, IsFlagSet, IsMayOf, IsDenoted, IsForbiddenByMayRules}
 
 -- ---- imports that count
 
@@ -74,15 +74,15 @@ unmarked nodes old new v (inr h) = (λ e. (sym h.1 ∙ e, h.0), λ x. h.1 ∙ x.
 -- ---- outsiders
 
 module _ (rules : Rules) (first n : ℕ) where
-  pub outside_first : (own : List ℕ) (old new : List Bool) → marked old n ≡ true → IsFlagSet own false old new n → (Contains own n ↔ IsDenoted rules first n) → (marked new n ≡ true) ↔ IsOutsiderOf rules [] first n
+  pub outside_first : (own : List ℕ) (old new : List Bool) → marked old n ≡ true → IsFlagSet own false old new n → (Contains own n ↔ IsDenoted rules first n) → (marked new n ≡ true) ↔ IsForbiddenByMayRules rules [] first n
   outside_first own old new all is named =
       let un = unmarked own old new n is in (
         λ e. (λ of. (un.0 e).1 (named.1 of), λ r has may of. absurd (let (k, lt, at) = has in omega arith)),
         λ out. un.1 (all, λ has. out.0 (named.0 has)),
       )
 
-  module _ (some : List Rule) (k : ℕ) (d : Rule) (lt : k < length some) (old : List Bool) (so_far : (marked old n ≡ true) ↔ IsOutsiderOf rules (take k some) first n) where
-    pub outside_more : (members : List ℕ) (new : List Bool) → IsMayOf (get_or some k d) first → IsFlagSet members false old new n → (Contains members n ↔ IsDenoted rules (get_or some k d).second n) → (marked new n ≡ true) ↔ IsOutsiderOf rules (take (k + 1) some) first n
+  module _ (some : List Rule) (k : ℕ) (d : Rule) (lt : k < length some) (old : List Bool) (so_far : (marked old n ≡ true) ↔ IsForbiddenByMayRules rules (take k some) first n) where
+    pub outside_more : (members : List ℕ) (new : List Bool) → IsMayOf (get_or some k d) first → IsFlagSet members false old new n → (Contains members n ↔ IsDenoted rules (get_or some k d).second n) → (marked new n ≡ true) ↔ IsForbiddenByMayRules rules (take (k + 1) some) first n
     outside_more members new may is named =
         let un = unmarked members old new n is in (
           λ e.
@@ -97,7 +97,7 @@ module _ (rules : Rules) (first n : ℕ) where
           λ out. un.1 (so_far.1 (out.0, λ r has r_may of. out.1 r (more_member some k d lt r has) r_may of), λ has. out.1 (get_or some k d) (last_member some k d lt) may (named.0 has)),
         )
 
-    pub outside_same : (IsMayOf (get_or some k d) first → ⊥) → (marked old n ≡ true) ↔ IsOutsiderOf rules (take (k + 1) some) first n
+    pub outside_same : (IsMayOf (get_or some k d) first → ⊥) → (marked old n ≡ true) ↔ IsForbiddenByMayRules rules (take (k + 1) some) first n
     outside_same not_may = (
       λ e. let was = so_far.0 e in (
         was.0,

@@ -11,7 +11,7 @@ use Rattle.cut_rules.specs.declared.file.File.{File}
 use Rattle.cut_rules.specs.declared.rule.RuleKind.{RuleKind}
 use Rattle.cut_rules.specs.declared.rule.RuleKind.TheVariants as kinds
 use Rattle.cut_rules.specs.RuleLines.{Forbid, Restricts, States}
-use Rattle.cut_rules.specs.Rules.{Counts, IsAllowed, IsIn}
+use Rattle.cut_rules.specs.Rules.{IsUnallowedImport, IsAllowed, IsIn}
 use Rattle.cut_rules.specs.Verdicts.{import_at, Breaks, BreaksRule, ByForbid, ByForbidImport, ByMay, IsForbidden, IsForbiddenPath, IsOnPath, PathByForbid, PathByForbidImport, PathByMay}
 use Rattle.cut_rules.proofs.LineLaws.{says_one}
 
@@ -45,7 +45,7 @@ module _ (net : Network) (files : List File) (pieces : List (List ℕ)) (line : 
   kind_at kind other x y u v first second = let one : Restricts kind x y ≡ Restricts other u v = says_one pieces line (Restricts kind x y) (Restricts other u v) first second in (cc, cc, cc)
 
   -- an import that counts, by its number
-  number_of : (m n : ℕ) → Counts net pieces m n → (k : ℕ) × (k < length net.imports) × (IsAllowed net pieces (import_at net k) → ⊥) × ((import_at net k).from ≡ m) × ((import_at net k).to ≡ n)
+  number_of : (m n : ℕ) → IsUnallowedImport net pieces m n → (k : ℕ) × (k < length net.imports) × (IsAllowed net pieces (import_at net k) → ⊥) × ((import_at net k).from ≡ m) × ((import_at net k).to ≡ n)
   number_of m n (i, (k, lt, is), from, to, free) =
       let here : get_or net.imports k missing_item ≡ i = get_or_default net.imports k missing_item i lt ∙ is in (
         k,
@@ -59,19 +59,19 @@ module _ (net : Network) (files : List File) (pieces : List (List ℕ)) (line : 
 
   module _ (whole : List ℕ) (none : (k : ℕ) → IsOnPath net whole k → BreaksRule net files pieces line k → ⊥) where
     -- an import of the path that the rule forbids
-    stop : (before after path : List ℕ) (m n : ℕ) → Counts net pieces m n → whole ≡ before ++ m ∷ n ∷ after → IsForbidden net files pieces line m n path → ⊥
+    stop : (before after path : List ℕ) (m n : ℕ) → IsUnallowedImport net pieces m n → whole ≡ before ++ m ∷ n ∷ after → IsForbidden net files pieces line m n path → ⊥
     stop before after path m n counts split forbidden =
         let (k, lt, free, from, to) = number_of m n counts in
         none k (record { before = before; after = after; whole = split ∙ ap₂ (λ (a b : ℕ). before ++ a ∷ b ∷ after) (sym from) (sym to) })
         (path, record { within = lt; counted = free; forbidden = subst (λ (a : ℕ). IsForbidden net files pieces line a (import_at net k).to path) (sym from) (subst (λ (b : ℕ). IsForbidden net files pieces line m b path) (sym to) forbidden) })
 
     -- past the first modules, none of which after the start is of the second set
-    walk : (x y : List ℕ) → States pieces line (Forbid x y) → (start : ℕ) → IsIn net files pieces x start → (front before : List ℕ) (m : ℕ) → IsChain (Counts net pieces) start front m → ((v : ℕ) → Contains front v → IsIn net files pieces y v → ⊥)
-        → start ∷ front ≡ before ++ m ∷ [] → (n : ℕ) (more : List ℕ) (end : ℕ) → whole ≡ before ++ m ∷ n ∷ more → IsChain (Counts net pieces) m (n ∷ more) end → IsIn net files pieces y end → ⊥
+    walk : (x y : List ℕ) → States pieces line (Forbid x y) → (start : ℕ) → IsIn net files pieces x start → (front before : List ℕ) (m : ℕ) → IsChain (IsUnallowedImport net pieces) start front m → ((v : ℕ) → Contains front v → IsIn net files pieces y v → ⊥)
+        → start ∷ front ≡ before ++ m ∷ [] → (n : ℕ) (more : List ℕ) (end : ℕ) → whole ≡ before ++ m ∷ n ∷ more → IsChain (IsUnallowedImport net pieces) m (n ∷ more) end → IsIn net files pieces y end → ⊥
     walk x y says start source front before m chain free front_is n [] end split (step, e) target =
         stop before [] (start ∷ front) m n step split (ByForbid x y says (subst (IsIn net files pieces y) (sym e) target) (source, chain, free))
     walk x y says start source front before m chain free front_is n (o ∷ more) end split (step, rest) target =
-        walk x y says start source (front ++ n ∷ []) (before ++ m ∷ []) n (chain_push (Counts net pieces) start front m n chain step)
+        walk x y says start source (front ++ n ∷ []) (before ++ m ∷ []) n (chain_push (IsUnallowedImport net pieces) start front m n chain step)
         (λ v has named. elim (Contains-append_cases front (n ∷ []) v has) [
           | inl old ↦ free v old named
           | inr new ↦ stop before (o ∷ more) (start ∷ front) m n step split (ByForbid x y says (subst (IsIn net files pieces y) (sym (one_member n v new)) named) (source, chain, free))
@@ -99,7 +99,7 @@ module _ (net : Network) (files : List File) (pieces : List (List ℕ)) (line : 
   IsLeft number = (path : List ℕ) × IsForbiddenPath net files pieces line path × IsOnPath net path number
       × ((k : ℕ) → IsOnPath net path k → BreaksRule net files pieces line k → ((import_at net k).from ≡ (import_at net number).from) × ((import_at net k).to ≡ (import_at net number).to))
 
-  counts_here : (number : ℕ) → number < length net.imports → (IsAllowed net pieces (import_at net number) → ⊥) → Counts net pieces (import_at net number).from (import_at net number).to
+  counts_here : (number : ℕ) → number < length net.imports → (IsAllowed net pieces (import_at net number) → ⊥) → IsUnallowedImport net pieces (import_at net number).from (import_at net number).to
   counts_here number lt free = (import_at net number, Contains-get_or net.imports number missing_item lt, refl, refl, free)
 
   target_of : (x y : List ℕ) → States pieces line (Forbid x y) → (m n : ℕ) (path : List ℕ) → IsForbidden net files pieces line m n path → IsIn net files pieces y n
@@ -110,18 +110,18 @@ module _ (net : Network) (files : List File) (pieces : List (List ℕ)) (line : 
   pub leaves_one : (number : ℕ) (path : List ℕ) → Breaks net files pieces line number path → IsLeft number
   leaves_one number path breaks = by path breaks.forbidden
     where
-      counts : Counts net pieces (import_at net number).from (import_at net number).to
+      counts : IsUnallowedImport net pieces (import_at net number).from (import_at net number).to
       counts = counts_here number breaks.within breaks.counted
 
-      split : (front : List ℕ) (start : ℕ) → IsChain (Counts net pieces) start front (import_at net number).from → (before : List ℕ) × (start ∷ front ≡ before ++ (import_at net number).from ∷ [])
+      split : (front : List ℕ) (start : ℕ) → IsChain (IsUnallowedImport net pieces) start front (import_at net number).from → (before : List ℕ) × (start ∷ front ≡ before ++ (import_at net number).from ∷ [])
       split [] start e = ([], ap (λ (v : ℕ). v ∷ []) e)
       split (u ∷ front) start (step, rest) = let (before, whole) = split front u rest in (start ∷ before, ap (λ (vs : List ℕ). start ∷ vs) whole)
 
-      made : (x y : List ℕ) → States pieces line (Forbid x y) → (start : ℕ) → IsIn net files pieces x start → (front : List ℕ) → IsIn net files pieces y (import_at net number).to → IsChain (Counts net pieces) start front (import_at net number).from
+      made : (x y : List ℕ) → States pieces line (Forbid x y) → (start : ℕ) → IsIn net files pieces x start → (front : List ℕ) → IsIn net files pieces y (import_at net number).to → IsChain (IsUnallowedImport net pieces) start front (import_at net number).from
           → IsForbiddenPath net files pieces line ((start ∷ front) ++ (import_at net number).to ∷ [])
-      made x y says start source [] target chain = PathByForbid x y start (import_at net number).to [] (import_at net number).to says source (chain_push (Counts net pieces) start [] (import_at net number).from (import_at net number).to chain counts) target
+      made x y says start source [] target chain = PathByForbid x y start (import_at net number).to [] (import_at net number).to says source (chain_push (IsUnallowedImport net pieces) start [] (import_at net number).from (import_at net number).to chain counts) target
       made x y says start source (u ∷ front) target chain =
-          PathByForbid x y start u (front ++ (import_at net number).to ∷ []) (import_at net number).to says source (chain_push (Counts net pieces) start (u ∷ front) (import_at net number).from (import_at net number).to chain counts) target
+          PathByForbid x y start u (front ++ (import_at net number).to ∷ []) (import_at net number).to says source (chain_push (IsUnallowedImport net pieces) start (u ∷ front) (import_at net number).from (import_at net number).to chain counts) target
 
       by : (path : List ℕ) → IsForbidden net files pieces line (import_at net number).from (import_at net number).to path → IsLeft number
       by [] (ByForbid x y says target none) = absurd none
@@ -133,7 +133,7 @@ module _ (net : Network) (files : List File) (pieces : List (List ℕ)) (line : 
             made x y says start source front target chain,
             record { before = before; after = []; whole = ap (λ (vs : List ℕ). vs ++ n ∷ []) whole ∙ append_assoc before (m ∷ []) (n ∷ []) },
             λ k on (other, is). elim (last_two on.before on.after (import_at net k).from (import_at net k).to start front n (sym on.whole)) [
-              | inl (same, front_is) ↦ (chain_last (Counts net pieces) on.before (import_at net k).from start front m chain front_is, same)
+              | inl (same, front_is) ↦ (chain_last (IsUnallowedImport net pieces) on.before (import_at net k).from start front m chain front_is, same)
               | inr later ↦ absurd (free (import_at net k).to later (target_of x y says (import_at net k).from (import_at net k).to other is.forbidden))
             ],
           )

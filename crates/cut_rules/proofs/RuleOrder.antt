@@ -11,7 +11,7 @@ use Rattle.cut_rules.specs.declared.rule.Rule.{Rule}
 use Rattle.cut_rules.specs.declared.rule.RuleKind.{RuleKind}
 use Rattle.cut_rules.specs.declared.rule.RuleKind.TheVariants as kinds
 use Rattle.cut_rules.specs.RuleLines.{Restricts, States}
-use Rattle.cut_rules.specs.Judged.{AreOfRule, IsBound}
+use Rattle.cut_rules.specs.Judged.{AreRuleViolations, IsRuleCountBefore}
 use Rattle.cut_rules.specs.Outcomes.{AreRulesOf}
 use Rattle.cut_rules.specs.Verdicts.{Breaks, ByForbid, ByForbidImport, ByMay, IsForbidden}
 use Rattle.cut_rules.proofs.Pieces.{says_low}
@@ -27,7 +27,7 @@ says_of net files pieces line m n path (ByForbid x y says target free) = (kinds.
 says_of net files pieces line m n path (ByForbidImport x y says source target only) = (kinds.ForbidImport, x, y, says)
 says_of net files pieces line m n path (ByMay x may source outside others only) = (kinds.May, x, may.target, may.says)
 
-pub bound_start : (rules : List Rule) → IsBound rules 0 0
+pub bound_start : (rules : List Rule) → IsRuleCountBefore rules 0 0
 bound_start rules = record { before = λ k r less at. absurd (omega arith); after = λ k r least at. omega arith }
 
 module _ (rules : List Rule) (up : AllPairs (λ (r s : Rule). r.line < s.line) rules) where
@@ -40,7 +40,7 @@ module _ (rules : List Rule) (up : AllPairs (λ (r s : Rule). r.line < s.line) r
       let pair = up i j r less within in
       omega arith
 
-  pub bound_next : (k bound : ℕ) (r : Rule) → slice_get rules k ≡ Some r → IsBound rules k bound → IsBound rules (k + 1) (r.line + 1)
+  pub bound_next : (k bound : ℕ) (r : Rule) → slice_get rules k ≡ Some r → IsRuleCountBefore rules k bound → IsRuleCountBefore rules (k + 1) (r.line + 1)
   bound_next k bound r at is = record {
     before = λ j s less at_s. elim (cases_eq j k) [
       | inl e ↦ let same = ap (λ (x : Rule). x.line) (same_Some r s (sym at ∙ ap (slice_get rules) (sym e) ∙ at_s)) in omega arith
@@ -60,7 +60,7 @@ module _ (net : Network) (files : List File) (pieces : List (List ℕ)) (rules :
       let (r, (j, lt, is), same) = elements.rules.all line kind x y (says_low pieces line _ says).1 says in
       (j, r, slice_get-get_or list j r lt ∙ ap (λ (s : Rule). Some s) is, same)
 
-  pub gap : (k bound : ℕ) (r : Rule) → slice_get list k ≡ Some r → IsBound list k bound → IsGap net files pieces bound r.line
+  pub gap : (k bound : ℕ) (r : Rule) → slice_get list k ≡ Some r → IsRuleCountBefore list k bound → IsGap net files pieces bound r.line
   gap k bound r at is l i path least less breaks =
       let (j, s, at_s, same) = rule_at l i path breaks in
       elim (cases_lt j k) [
@@ -71,7 +71,7 @@ module _ (net : Network) (files : List File) (pieces : List (List ℕ)) (rules :
         ]
       ]
 
-  pub past_all : (k bound : ℕ) → length list ≤ k → IsBound list k bound → (l i : ℕ) (path : List ℕ) → Breaks net files pieces l i path → l < bound
+  pub past_all : (k bound : ℕ) → length list ≤ k → IsRuleCountBefore list k bound → (l i : ℕ) (path : List ℕ) → Breaks net files pieces l i path → l < bound
   past_all k bound end is l i path breaks =
       let (j, s, at_s, same) = rule_at l i path breaks in
       let within = slice_get_within list j s at_s in
@@ -79,7 +79,7 @@ module _ (net : Network) (files : List File) (pieces : List (List ℕ)) (rules :
       omega arith
 
 -- a rule that nothing breaks
-pub none_of_rule : (net : Network) (files : List File) (pieces : List (List ℕ)) (line high : ℕ) → ((k : ℕ) (path : List ℕ) → Breaks net files pieces line k path → ⊥) → AreOfRule net files pieces line 0 high []
+pub none_of_rule : (net : Network) (files : List File) (pieces : List (List ℕ)) (line high : ℕ) → ((k : ℕ) (path : List ℕ) → Breaks net files pieces line k path → ⊥) → AreRuleViolations net files pieces line 0 high []
 none_of_rule net files pieces line high none = record {
   each = λ v has. no_member v has;
   all = λ k path above below breaks. absurd (none k path breaks);

@@ -67,4 +67,4 @@ module _ (context : LineContext) (pieces : List (List ℕ)) where
   }
     where
       none_in : (number m : ℕ) → IsMember context.files.now builder.table number m → ⊥
-      none_in number m (s, e, (set, present, (k, placed, mark))) = false≢true (sym (is.sets.none s k set present) ∙ mark)
+      none_in number m (s, e, (set, present, (k, placed, flag_module))) = false≢true (sym (is.sets.none s k set present) ∙ flag_module)

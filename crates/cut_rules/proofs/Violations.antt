@@ -13,7 +13,7 @@ use Rattle.digraph.proofs.Members.{first_member, no_member, one_member}
 use Rattle.digraph.specs.ShortestPaths.{IsLeastOf}
 use Rattle.cut_net.specs.Network.{Network}
 use Rattle.cut_rules.specs.declared.file.File.{File}
-use Rattle.cut_rules.specs.Judged.{AreBelow, AreOfRule}
+use Rattle.cut_rules.specs.Judged.{AreViolationsBelow, AreRuleViolations}
 use Rattle.cut_rules.specs.Verdicts.{is_none, AreViolations, Breaks, ComesBefore, IsViolation, Violation}
 use Rattle.cut_rules.proofs.Fronts.{front_of, one_list}
 
@@ -66,7 +66,7 @@ before_apart v w first second = elim first [
 module _ (net : Network) (files : List File) (pieces : List (List ℕ)) where
   -- ---- the violations of one rule
 
-  pub none_between : (line low : ℕ) → AreOfRule net files pieces line low low []
+  pub none_between : (line low : ℕ) → AreRuleViolations net files pieces line low low []
   none_between line low = record {
     each = λ v has. no_member v has;
     all = λ k path above below breaks. absurd (omega arith);
@@ -74,7 +74,7 @@ module _ (net : Network) (files : List File) (pieces : List (List ℕ)) where
     ascending = λ i j d lt l. absurd (omega arith);
   }
 
-  pub none_here : (line k : ℕ) → ((path : List ℕ) → Breaks net files pieces line k path → ⊥) → AreOfRule net files pieces line k (k + 1) []
+  pub none_here : (line k : ℕ) → ((path : List ℕ) → Breaks net files pieces line k path → ⊥) → AreRuleViolations net files pieces line k (k + 1) []
   none_here line k none = record {
     each = λ v has. no_member v has;
     all = λ j path above below breaks. absurd (none path (subst (λ (n : ℕ). Breaks net files pieces line n path) (omega arith) breaks));
@@ -82,7 +82,7 @@ module _ (net : Network) (files : List File) (pieces : List (List ℕ)) where
     ascending = λ i j d lt l. absurd (omega arith);
   }
 
-  pub one_here : (v : Violation) → IsViolation net files pieces v → AreOfRule net files pieces v.line v.import_number (v.import_number + 1) (v ∷ [])
+  pub one_here : (v : Violation) → IsViolation net files pieces v → AreRuleViolations net files pieces v.line v.import_number (v.import_number + 1) (v ∷ [])
   one_here v is = record {
     each = λ w has.
         let same = one_member v w has in
@@ -92,7 +92,7 @@ module _ (net : Network) (files : List File) (pieces : List (List ℕ)) where
     ascending = λ i j d lt l. absurd (omega arith);
   }
 
-  pub of_rule_joined : (line low mid high : ℕ) (first more : List Violation) → low ≤ mid → mid ≤ high → AreOfRule net files pieces line low mid first → AreOfRule net files pieces line mid high more → AreOfRule net files pieces line low high (first ++ more)
+  pub of_rule_joined : (line low mid high : ℕ) (first more : List Violation) → low ≤ mid → mid ≤ high → AreRuleViolations net files pieces line low mid first → AreRuleViolations net files pieces line mid high more → AreRuleViolations net files pieces line low high (first ++ more)
   of_rule_joined line low mid high first more above below a b = record {
     each = λ v has. elim (Contains-append_cases first more v has) [
       | inl old ↦ let (is, at, less) = a.each v old in (is, at, omega arith)
@@ -115,7 +115,7 @@ module _ (net : Network) (files : List File) (pieces : List (List ℕ)) where
 
   -- ---- the violations of the rules before a line
 
-  pub none_below : AreBelow net files pieces 0 []
+  pub none_below : AreViolationsBelow net files pieces 0 []
   none_below = record {
     each = λ v has. no_member v has;
     all = λ line k path less breaks. absurd (omega arith);
@@ -127,7 +127,7 @@ module _ (net : Network) (files : List File) (pieces : List (List ℕ)) where
   IsGap bound line = (l k : ℕ) (path : List ℕ) → bound ≤ l → l < line → Breaks net files pieces l k path → ⊥
 
   -- with those of the first imports of the next rule
-  module _ (bound line high : ℕ) (first more : List Violation) (gap : IsGap bound line) (above : bound ≤ line) (a : AreBelow net files pieces bound first) (b : AreOfRule net files pieces line 0 high more) where
+  module _ (bound line high : ℕ) (first more : List Violation) (gap : IsGap bound line) (above : bound ≤ line) (a : AreViolationsBelow net files pieces bound first) (b : AreRuleViolations net files pieces line 0 high more) where
     pub ascend : AllPairs ComesBefore (first ++ more)
     ascend = all_pairs_append ComesBefore first more a.ascending b.ascending (λ v w old new.
         let (is, less) = a.each v old in
@@ -150,7 +150,7 @@ module _ (net : Network) (files : List File) (pieces : List (List ℕ)) where
         let (v, new, e) = b.all k path (omega arith) less (subst (λ (n : ℕ). Breaks net files pieces n k path) same breaks) in
         (v, Contains-append_right first more v new, (b.each v new).1 ∙ sym same, e)
 
-  pub below_more : (bound line : ℕ) (first more : List Violation) → IsGap bound line → bound ≤ line → AreBelow net files pieces bound first → AreOfRule net files pieces line 0 (length net.imports) more → AreBelow net files pieces (line + 1) (first ++ more)
+  pub below_more : (bound line : ℕ) (first more : List Violation) → IsGap bound line → bound ≤ line → AreViolationsBelow net files pieces bound first → AreRuleViolations net files pieces line 0 (length net.imports) more → AreViolationsBelow net files pieces (line + 1) (first ++ more)
   below_more bound line first more gap above a b = record {
     each = each_is bound line (length net.imports) first more gap above a b;
     all = λ l k path less breaks. present bound line (length net.imports) first more gap above a b l k path (elim (cases_eq l line) [ inl e ↦ inr (e, breaks.within) | inr ne ↦ inl (omega (arith, ne)) ]) breaks;
@@ -158,7 +158,7 @@ module _ (net : Network) (files : List File) (pieces : List (List ℕ)) where
   }
 
   -- no rule has a later line
-  pub all_below : (bound : ℕ) (vs : List Violation) → ((l k : ℕ) (path : List ℕ) → Breaks net files pieces l k path → l < bound) → AreBelow net files pieces bound vs → AreViolations net files pieces vs
+  pub all_below : (bound : ℕ) (vs : List Violation) → ((l k : ℕ) (path : List ℕ) → Breaks net files pieces l k path → l < bound) → AreViolationsBelow net files pieces bound vs → AreViolations net files pieces vs
   all_below bound vs none a = record {
     each = λ v has. (a.each v has).0;
     all = λ line k path breaks. a.all line k path (none line k path breaks) breaks;
@@ -181,12 +181,12 @@ module _ (net : Network) (files : List File) (pieces : List (List ℕ)) where
       let (w, has, line, number) = elements.all v.line v.import_number v.path is.is_chain in
       subst (Contains vs) (one_violation w v (elements.each w has) is line number) has
 
-  pub one_verdict : (vs ws : List Violation) → AreViolations net files pieces vs → AreViolations net files pieces ws → vs ≡ ws
-  one_verdict vs ws first second =
+  pub violations_are_unique : (vs ws : List Violation) → AreViolations net files pieces vs → AreViolations net files pieces ws → vs ≡ ws
+  violations_are_unique vs ws first second =
       one_list ComesBefore before_apart vs ws first.ascending second.ascending (λ v has. in_violations ws second v (first.each v has)) (λ w has. in_violations vs first w (second.each w has))
 
   -- those of the earlier rules and of the first imports of the next are the first of all
-  pub first_of_all : (bound line high : ℕ) (first more whole : List Violation) → IsGap bound line → bound ≤ line → AreBelow net files pieces bound first → AreOfRule net files pieces line 0 high more → AreViolations net files pieces whole
+  pub first_of_all : (bound line high : ℕ) (first more whole : List Violation) → IsGap bound line → bound ≤ line → AreViolationsBelow net files pieces bound first → AreRuleViolations net files pieces line 0 high more → AreViolations net files pieces whole
       → (rest : List Violation) × (whole ≡ (first ++ more) ++ rest)
   first_of_all bound line high first more whole gap above a b elements =
       front_of ComesBefore before_apart (first ++ more) whole (ascend bound line high first more gap above a b) elements.ascending

@@ -22,9 +22,9 @@ use Rattle.cut_rules.specs.declared.reading.Rules.{Rules}
 use Rattle.cut_rules.specs.declared.rule_search.RuleSearch.{RuleSearch}
 use Rattle.cut_rules.specs.declared.rule.StaleAllow.{StaleAllow}
 use Rattle.cut_rules.specs.declared.site.Site.{Site}
-use Rattle.cut_rules.specs.Judged.{AreOfRule, IsSearchFor}
+use Rattle.cut_rules.specs.Judged.{AreRuleViolations, IsSearchFor}
 use Rattle.cut_rules.specs.Outcomes.{AreRulesOf}
-use Rattle.cut_rules.specs.Verdicts.{import_at, site_text, spaced, stale_line, stale_of, violation_line, Breaks, Violation}
+use Rattle.cut_rules.specs.Verdicts.{import_at, site_text, names_after_spaces, stale_line, stale_of, violation_line, Breaks, Violation}
 use Rattle.cut_rules.proofs.Pieces.{says_low}
 use Rattle.cut_rules.proofs.Violations.{least_as, one_here}
 
@@ -33,14 +33,14 @@ use Rattle.cut_rules.proofs.Violations.{least_as, one_here}
 regroup : (a b c d e f g : List ℕ) → ((((a ++ b) ++ (c ++ d)) ++ e) ++ f) ++ g ≡ a ++ (b ++ (c ++ (d ++ ((e ++ f) ++ g))))
 regroup a b c d e f g = simp append_assoc
 
-names_more : (f : ℕ → List ℕ) (path : List ℕ) (n : ℕ) → spaced (map f (path ++ n ∷ [])) ≡ spaced (map f path) ++ 32 ∷ f n
-names_more f path n = ap spaced (map-append f path (n ∷ [])) ∙ flat_map-append (λ (name : List ℕ). 32 ∷ name) (map f path) (f n ∷ []) ∙ ap (λ (t : List ℕ). spaced (map f path) ++ t) (append-nil (32 ∷ f n))
+names_more : (f : ℕ → List ℕ) (path : List ℕ) (n : ℕ) → names_after_spaces (map f (path ++ n ∷ [])) ≡ names_after_spaces (map f path) ++ 32 ∷ f n
+names_more f path n = ap names_after_spaces (map-append f path (n ∷ [])) ∙ flat_map-append (λ (name : List ℕ). 32 ∷ name) (map f path) (f n ∷ []) ∙ ap (λ (t : List ℕ). names_after_spaces (map f path) ++ t) (append-nil (32 ∷ f n))
 
 pub violation_appended : (style : Style) (net : Network) (sites : List Site) (v : Violation) (site : Site) (t0 t1 t2 t3 t4 t5 : List ℕ) → slice_get sites v.import_number ≡ Some site → t1 ≡ t0 ++ location_text style site.path.now site.line site.column
-    → t2 ≡ t1 ++ (codes ": no " ++ decimal v.line) → t3 ≡ t2 ++ spaced (map (name_of net) v.path) → t4 ≡ t3 ++ 32 ∷ name_of net (import_at net v.import_number).to → t5 ≡ t4 ++ 10 ∷ [] → t5 ≡ t0 ++ violation_line style net sites v
+    → t2 ≡ t1 ++ (codes ": no " ++ decimal v.line) → t3 ≡ t2 ++ names_after_spaces (map (name_of net) v.path) → t4 ≡ t3 ++ 32 ∷ name_of net (import_at net v.import_number).to → t5 ≡ t4 ++ 10 ∷ [] → t5 ≡ t0 ++ violation_line style net sites v
 violation_appended style net sites v site t0 t1 t2 t3 t4 t5 at e1 e2 e3 e4 e5 =
     let loc = location_text style site.path.now site.line site.column in
-    let names = spaced (map (name_of net) v.path) in
+    let names = names_after_spaces (map (name_of net) v.path) in
     let last : List ℕ = 32 ∷ name_of net (import_at net v.import_number).to in
     let all : t5 ≡ ((((t0 ++ loc) ++ (codes ": no " ++ decimal v.line)) ++ names) ++ last) ++ 10 ∷ [] =
     e5 ∙ ap (λ (t : List ℕ). t ++ 10 ∷ []) (e4 ∙ ap (λ (t : List ℕ). t ++ last) (e3 ∙ ap (λ (t : List ℕ). t ++ names) (e2 ∙ ap (λ (t : List ℕ). t ++ (codes ": no " ++ decimal v.line)) e1))) in
@@ -70,7 +70,7 @@ module _ (net : Network) (network : IsNetwork net) (files : List File) (pieces :
   none_reached none path breaks = none path ((for.forbidden (import_at net k).from (import_at net k).to path low_from low_to).1 breaks.forbidden).0
 
   pub violation : marked rules.allowed.items k ≡ false → marked found.targets.items (import_at net k).to ≡ true → (path : List ℕ) → IsShortestPath (Leads for.edges) for.starts for.barrier (import_at net k).from path
-      → AreOfRule net files pieces line k (k + 1) (record { line = line; import_number = k; path = path } ∷ [])
+      → AreRuleViolations net files pieces line k (k + 1) (record { line = line; import_number = k; path = path } ∷ [])
   violation free target path shortest =
       one_here net files pieces (record { line = line; import_number = k; path = path })
       (least_as (IsPathAround (Leads for.edges) for.starts for.barrier (import_at net k).from) (Breaks net files pieces line k)

@@ -19,34 +19,34 @@ use Rattle.cut_rules.specs.Faults.{IsRefusal, UnlessMemory}
 use Rattle.cut_rules.specs.Names.{names_in, AreLinesOf, AreNames}
 use Rattle.cut_rules.specs.Rules.{LineFault, HasFault, HasPattern, IsStale, Selects}
 
--- one of the first lines, up to this number, adds modules to the set
+-- one of the first `count` lines adds modules to the set of the name s
 abbrev pub IsSetWithin : List (List ℕ) → ℕ → List ℕ → Type 0
 IsSetWithin pieces count s = (line : ℕ) × (line ≤ count) × (selector : Selector) × States pieces line (Adds s selector)
 
--- the number of the module, or that of the set after this many modules
+-- the number of a name, given the index of its module and of its set, if any: a module's index, or a set's index after `nodes` modules
 abbrev pub number_by : ℕ → Option ℕ → Option ℕ → Option ℕ
 number_by nodes (Some m) set = Some m
 number_by nodes None set = option_map (λ k. nodes + k) set
 
--- the number of the name
+-- the number of the name: the index of its module, or the number of all modules plus the index of its set; none if it is unknown
 abbrev pub number_of : Network → List (List ℕ) → List ℕ → Option ℕ
 number_of net sets name = number_by (length net.names) (index_of net name) (index_of (unpinned sets []) name)
 
--- the name isn't a module's, and this is its index among the sets, if it has one
+-- no module has the name, and place is its index among the sets, or none if it isn't among them
 abbrev pub IsSetIndex : Network → List (List ℕ) → List ℕ → Option ℕ → Type 0
 IsSetIndex net sets name place = (index_of net name ≡ None) × (index_of (unpinned sets []) name ≡ place)
 
 -- ---- members of sets
 
--- the index is that of a file of the module, or, after the indices of all files, the module's own
+-- the index denotes the module: it is that of a file of the module, or, after the indices of all files, the module's own
 abbrev pub IsAtIndex : List File → ℕ → ℕ → Type 0
 IsAtIndex files k m = ((f : File) × (slice_get files k ≡ Some f) × (f.module ≡ m)) ⊎ (k ≡ length files + m)
 
--- the module has an index in this range
+-- an index in this range, whose end is excluded, denotes the module
 abbrev pub HasIndex : List File → ℕ → ℕ → ℕ → Type 0
 HasIndex files from to m = (k : ℕ) × (from ≤ k) × (k < to) × IsAtIndex files k m
 
--- the module has a flagged index
+-- an index whose flag is set denotes the module
 abbrev pub HasFlaggedIndex : List File → List Bool → ℕ → Type 0
 HasFlaggedIndex files flags m = (k : ℕ) × IsAtIndex files k m × (marked flags k ≡ true)
 
@@ -58,7 +58,7 @@ InSet files sets s m = (set : ModuleSet) × (slice_get sets s ≡ Some set) × H
 abbrev pub IsMember : List File → SetTable → ℕ → ℕ → Type 0
 IsMember files table number m = (s : ℕ) × (number ≡ table.modules + s) × InSet files table.sets.items s m
 
--- one of the first lines adds the module to the set of this name
+-- one of the first `count` lines adds the module m to the set of the name x
 abbrev pub IsAddedWithin : Network → List File → List (List ℕ) → ℕ → List ℕ → ℕ → Type 0
 IsAddedWithin net files pieces count x m = (line : ℕ) × (line ≤ count) × (selector : Selector) × States pieces line (Adds x selector) × Selects net files selector m
 
@@ -76,7 +76,7 @@ pub record AreEmptySets (count places : ℕ) (sets : List ModuleSet) : Type 0 wh
   pub sized : AreSized places sets
   pub none : (s k : ℕ) (set : ModuleSet) → slice_get sets s ≡ Some set → marked set.flags.items k ≡ false
 
--- how many patterns the selector has
+-- the number of patterns of a selector: 1 for a pattern, otherwise 0
 abbrev pub pattern_count : Selector → ℕ
 pattern_count (Module m) = 0
 pattern_count (Folder path) = 0
@@ -97,7 +97,7 @@ pub record IsAddition (net : Network) (files : List File) (old : SetTable) (plac
   pub count : length new.sets.items ≡ length old.sets.items
   pub sized : (places : ℕ) → AreSized places old.sets.items → AreSized places new.sets.items
 
--- the table has the sets of the first lines, and counts their patterns
+-- the table has the modules that the first `count` lines add to sets, and the number of their patterns
 pub record IsTable (net : Network) (files : List File) (sets pieces : List (List ℕ)) (count : ℕ) (table : SetTable) : Type 0 where
   pub elements : (x : List ℕ) (number m : ℕ) → m < length net.names → number_of net sets x ≡ Some number → IsMember files table number m ↔ IsAddedWithin net files pieces count x m
   pub patterns : (lines : List ℕ) × AreLinesOf (HasPattern pieces) count lines × (length lines ≡ table.patterns)
@@ -112,7 +112,7 @@ pub record IsTable (net : Network) (files : List File) (sets pieces : List (List
 abbrev pub IsRuleOf : Network → List (List ℕ) → List (List ℕ) → Rule → Type 0
 IsRuleOf net sets pieces r = (x y : List ℕ) × States pieces r.line (Restricts r.kind x y) × (number_of net sets x ≡ Some r.first) × (number_of net sets y ≡ Some r.second)
 
--- the rules are those of the first lines, in order
+-- exactly the rules of the first `count` lines, in order
 pub record AreRules (net : Network) (sets pieces : List (List ℕ)) (count : ℕ) (rules : List Rule) : Type 0 where
   pub each : (r : Rule) → Contains rules r → (r.line ≤ count) × IsRuleOf net sets pieces r
   pub all : (line : ℕ) (kind : RuleKind) (x y : List ℕ) → line ≤ count → States pieces line (Restricts kind x y) → (r : Rule) × Contains rules r × (r.line ≡ line)
@@ -121,27 +121,27 @@ pub record AreRules (net : Network) (sets pieces : List (List ℕ)) (count : ℕ
 
 -- ---- allowed imports
 
--- the flagged imports are those that the first lines allow
+-- exactly the imports that one of the first `count` lines allows are flagged
 pub record AreAllowed (net : Network) (pieces : List (List ℕ)) (count : ℕ) (allowed : List Bool) : Type 0 where
   pub size : length allowed ≡ length net.imports
   pub elements : (k : ℕ) → k < length net.imports →
       (marked allowed k ≡ true) ↔
       ((line : ℕ) × (line ≤ count) × States pieces line (Allow (name_of net (slice_index_or net.imports k missing_item).from) (name_of net (slice_index_or net.imports k missing_item).to)))
 
--- exactly the stale `allow` lines among the first lines, in order
+-- exactly the stale `allow` lines among the first `count` lines, in order
 pub record AreStale (net : Network) (pieces : List (List ℕ)) (count : ℕ) (stale : List StaleAllow) : Type 0 where
   pub each : (s : StaleAllow) → Contains stale s → (s.line ≤ count) × IsStale net pieces s.line s.importer.now s.imported.now
   pub all : (line : ℕ) (m n : List ℕ) → line ≤ count → IsStale net pieces line m n → (s : StaleAllow) × Contains stale s × (s.line ≡ line)
   pub ascending : AllPairs (λ (s t : StaleAllow). s.line < t.line) stale
 
--- the keys, each of two names, are those that the first lines allow
+-- the keys are pairs of names: exactly the pairs of an importer and an imported module that the first `count` lines allow
 abbrev pub ArePairs : {K : Type 0} → BTreeSet K → (K → List ℕ) → (K → List ℕ) → List (List ℕ) → ℕ → Type 0
 ArePairs keys first second pieces count =
     (m n : List ℕ) → (contains_by (λ key. ordering_then (slice_cmp nat_cmp m (first key)) (slice_cmp nat_cmp n (second key))) keys ≡ true) ↔ ((line : ℕ) × (line ≤ count) × States pieces line (Allow m n))
 
 -- ---- lines
 
--- the first lines have no fault, and the builder has what they state
+-- the first `count` lines have no fault, and the builder has what they state
 pub record HasLines (net : Network) (files : List File) (sets pieces : List (List ℕ)) (count : ℕ) (builder : RulesBuilder) : Type 0 where
   pub sound : (line : ℕ) (fault : LineFault) → line ≤ count → HasFault net files pieces line fault → ⊥
   pub table : IsTable net files sets pieces count builder.table
@@ -150,10 +150,10 @@ pub record HasLines (net : Network) (files : List File) (sets pieces : List (Lis
   pub stale : AreStale net pieces count builder.stale.items
   pub pairs : ArePairs builder.pairs (λ key. key.0.now) (λ key. key.1.now) pieces count
 
--- the line of this number is the builder's last one, or this is the first fault of the text
-abbrev pub Takes : Network → List File → List (List ℕ) → List (List ℕ) → ℕ → Result (Unit {0}) RulesFault → RulesBuilder → Type 0
-Takes net files sets pieces line (Ok _) builder = HasLines net files sets pieces line builder
-Takes net files sets pieces line (Err fault) builder = UnlessMemory fault (IsRefusal net files pieces fault)
+-- the result of adding the line of this number: the builder has all lines up to it, or the error is the first fault of the text
+abbrev pub IsLineOutcome : Network → List File → List (List ℕ) → List (List ℕ) → ℕ → Result (Unit {0}) RulesFault → RulesBuilder → Type 0
+IsLineOutcome net files sets pieces line (Ok _) builder = HasLines net files sets pieces line builder
+IsLineOutcome net files sets pieces line (Err fault) builder = UnlessMemory fault (IsRefusal net files pieces fault)
 
 -- the builder has the lines before that of the context
 pub record HasPreviousLines (context : LineContext) (pieces : List (List ℕ)) (builder : RulesBuilder) : Type 0 where
@@ -166,7 +166,7 @@ pub record HasPreviousLines (context : LineContext) (pieces : List (List ℕ)) (
 abbrev pub IsStated : LineContext → List (List ℕ) → RuleLine → RulesBuilder → Type 0
 IsStated context pieces content builder = HasPreviousLines context pieces builder × States pieces context.line content
 
--- the builder before the first line: no set has a module, and there is no rule, no allowed import and no stale allow
+-- the builder before the first line: no set has a module, and there is no rule, no allowed import and no stale line
 pub record IsEmptyFor (context : LineContext) (builder : RulesBuilder) : Type 0 where
   pub modules : builder.table.modules ≡ length context.net.now.names
   pub sets : AreEmptySets (length context.names.now.sets.keys) (length context.files.now + length context.net.now.names) builder.table.sets.items

@@ -7,7 +7,7 @@ use Rattle.cut_rules.specs.declared.fault.RulesFault.TheVariants as faults
 use Rattle.cut_rules.specs.declared.file.File.{File}
 use Rattle.cut_rules.specs.Rules.{rank, HasFault, LineFault, BadLine, SetIsModule, NoSuchModule, TwiceAllowed, EmptySet, TooMany}
 
--- the line and its fault
+-- the number of the line with this error, and the line's fault; none for a failed allocation
 abbrev pub cause_of : RulesFault → Option (ℕ × LineFault)
 cause_of (faults.BadLine line) = Some (line, BadLine)
 cause_of (faults.SetIsModule line name) = Some (line, SetIsModule (string_bytes name))
@@ -17,17 +17,17 @@ cause_of (faults.EmptySet line text) = Some (line, EmptySet (string_bytes text))
 cause_of (faults.TooMany line) = Some (line, TooMany)
 cause_of faults.Memory = None
 
--- no line before this one has a fault, and no other fault of this line is looked for before this one
+-- the line has the fault, no earlier line has a fault, and no other fault of the line is tested before this one
 pub record IsFirstFault (net : Network) (files : List File) (pieces : List (List ℕ)) (line : ℕ) (fault : LineFault) : Type 0 where
   pub has : HasFault net files pieces line fault
   pub first_line : (before : ℕ) (other : LineFault) → before < line → HasFault net files pieces before other → ⊥
   pub first : (other : LineFault) → HasFault net files pieces line other → rank fault ≤ rank other
 
--- this is the error of the text: its first fault
+-- the error is that of the text: it has the line and the fault of the text's first fault
 abbrev pub IsRefusal : Network → List File → List (List ℕ) → RulesFault → Type 0
 IsRefusal net files pieces refusal = (line : ℕ) × (fault : LineFault) × IsFirstFault net files pieces line fault × (cause_of refusal ≡ Some (line, fault))
 
--- the fact holds, unless an allocation failed
+-- the property holds, unless the error is a failed allocation
 abbrev pub UnlessMemory : RulesFault → Type 0 → Type 0
 UnlessMemory faults.Memory P = Unit {0}
 UnlessMemory fault P = P

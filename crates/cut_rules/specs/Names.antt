@@ -12,7 +12,7 @@ use Rattle.cut_rules.specs.Rules.{IsRule, IsSet}
 abbrev pub names_in : List Name → List (List ℕ)
 names_in names = map (λ (n : Name). n.bytes.now) names
 
--- the index of the name among these
+-- the index of the name in the list, or none if the list doesn't have it
 abbrev pub index_among : List Name → List ℕ → Option ℕ
 index_among names x = index_of (unpinned (names_in names) []) x
 
@@ -30,7 +30,7 @@ pub record IsWithinRuleLimit (pieces : List (List ℕ)) (line : ℕ) : Type 0 wh
   pub elements : AreLinesOf (IsRule pieces) count lines
   pub few : length lines ≤ 4096
 
--- the name is a module's or one of these
+-- the name is that of a module, or is in the list of names
 abbrev pub IsKnownName : Network → List Name → List ℕ → Type 0
 IsKnownName net names x = Contains net.names x ⊎ Contains (names_in names) x
 
@@ -38,12 +38,12 @@ IsKnownName net names x = Contains net.names x ⊎ Contains (names_in names) x
 abbrev pub IsDeclaredName : Network → List (List ℕ) → List ℕ → Type 0
 IsDeclaredName net pieces x = Contains net.names x ⊎ IsSet pieces x
 
--- the names in rules are a module's or among these, but for rules after the first one too many; and none of these is a module's
+-- each name in the first 4097 rules is a module's or in the list, and no name of the list is a module's
 pub record AreRuleNames (net : Network) (pieces : List (List ℕ)) (names : List Name) : Type 0 where
   pub noted : (line : ℕ) (kind : RuleKind) (x y : List ℕ) → IsWithinRuleLimit pieces line → States pieces line (Restricts kind x y) → IsKnownName net names x × IsKnownName net names y
   pub apart : (x : List ℕ) → Contains (names_in names) x → Contains net.names x → ⊥
 
--- a name is flagged exactly if it is that of a set
+-- there is a flag for each name, which is set if and only if a line adds modules to the set of this name
 pub record AreDeclared (pieces : List (List ℕ)) (names : List Name) (declared : List Bool) : Type 0 where
   pub size : length declared ≡ length names
   pub elements : (x : List ℕ) (k : ℕ) → index_among names x ≡ Some k → (marked declared k ≡ true) ↔ IsSet pieces x

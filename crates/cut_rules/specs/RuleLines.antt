@@ -21,23 +21,25 @@ pub data RuleLine : Type 0 where
   Restricts : RuleKind → List ℕ → List ℕ → RuleLine
   Allow : List ℕ → List ℕ → RuleLine
 
--- the three kinds of rules
+-- a line `forbid X Y` with these names
 abbrev pub Forbid : List ℕ → List ℕ → RuleLine
 Forbid x y = Restricts kinds.Forbid x y
 
+-- a line `forbid-import X Y` with these names
 abbrev pub ForbidImport : List ℕ → List ℕ → RuleLine
 ForbidImport x y = Restricts kinds.ForbidImport x y
 
+-- a line `may X Y` with these names
 abbrev pub May : List ℕ → List ℕ → RuleLine
 May x y = Restricts kinds.May x y
 
--- the keyword of a kind
+-- the keyword of a rule of this kind
 abbrev pub keyword : RuleKind → List ℕ
 keyword kinds.Forbid = codes "forbid"
 keyword kinds.ForbidImport = codes "forbid-import"
 keyword kinds.May = codes "may"
 
--- the line without a comment
+-- the bytes of a line with this content, without a comment and a line end
 abbrev pub rule_line : RuleLine → List ℕ
 rule_line (Adds s (Module m)) = line_of (codes "set" ∷ s ∷ m ∷ [])
 rule_line (Adds s (Folder path)) = line_of (codes "folder" ∷ s ∷ path ∷ [])
@@ -46,7 +48,7 @@ rule_line (Adds s Tree) = line_of (codes "tree" ∷ s ∷ [])
 rule_line (Restricts kind x y) = line_of (keyword kind ∷ x ∷ y ∷ [])
 rule_line (Allow m n) = line_of (codes "allow" ∷ m ∷ n ∷ [])
 
--- names are identifiers; a path and a pattern are UTF-8
+-- the content is valid: its names are identifiers, and its path or pattern is UTF-8
 abbrev pub IsRuleLine : RuleLine → Type 0
 IsRuleLine (Adds s (Module m)) = (is_name s ≡ true) × (is_name m ≡ true)
 IsRuleLine (Adds s (Folder path)) = (is_name s ≡ true) × IsUtf8 path
@@ -68,12 +70,12 @@ pub record IsComment (text : List ℕ) : Type 0 where
   pub are_blank : list_all is_blank blanks ≡ true
   pub whole : text ≡ blanks ++ 35 ∷ rest
 
--- a comment after a rule begins with a blank
+-- the bytes after a rule on its line: none, or a comment that begins with a blank
 abbrev pub EndsRule : List ℕ → Type 0
 EndsRule [] = Unit {0}
 EndsRule (b ∷ text) = (is_blank b ≡ true) × IsComment (b ∷ text)
 
--- what may follow a rule on its line: nothing follows a path or a pattern, which is the rest of the line
+-- the bytes may follow this content on its line: none, or a comment unless the content ends with a path or a pattern
 abbrev pub MayFollow : RuleLine → List ℕ → Type 0
 MayFollow (Adds s (Module m)) text = EndsRule text
 MayFollow (Adds s (Folder path)) text = text ≡ []

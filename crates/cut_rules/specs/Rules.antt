@@ -11,19 +11,19 @@ use Rattle.cut_rules.specs.RuleLines.{RuleLine, Selector, Module, Folder, Named,
 
 -- ---- sets
 
--- the path with a slash at its end
+-- the path with a slash at its end, which is added unless the path ends with one
 abbrev pub with_slash : List ℕ → List ℕ
 with_slash path = if ends_with nat_eq path (47 ∷ []) then path else path ++ 47 ∷ []
 
--- the path without a `./` before it
+-- the path without the `./` at its beginning, if it begins with that
 abbrev pub without_dot : List ℕ → List ℕ
 without_dot path = if starts_with nat_eq path (46 ∷ 47 ∷ []) then drop 2 path else path
 
--- what the path of each file below PATH begins with, so that `.` and `./` are the tree's own folder
+-- the prefix of the paths of all files below the folder `path`; it is empty for `.` and `./`, the folder of the tree
 abbrev pub folder_prefix : List ℕ → List ℕ
 folder_prefix path = without_dot (with_slash path)
 
--- the file is below the folder
+-- the path of the file is below the folder `path`
 abbrev pub IsBelow : List ℕ → List ℕ → Type 0
 IsBelow path file = (rest : List ℕ) × (file ≡ folder_prefix path ++ rest)
 
@@ -39,7 +39,7 @@ module _ (net : Network) (files : List File) where
   Selects (Named pattern) m = (m < length net.names) × Matches pattern (name_of net m)
   Selects Tree m = HasFile files (λ path. Unit {0}) m
 
--- a line adds modules to the set
+-- a line adds modules to the set of this name
 abbrev pub IsSet : List (List ℕ) → List ℕ → Type 0
 IsSet pieces s = (line : ℕ) × (selector : Selector) × States pieces line (Adds s selector)
 
@@ -55,8 +55,8 @@ abbrev pub IsAllowed : Network → List (List ℕ) → Priced → Type 0
 IsAllowed net pieces i = (line : ℕ) × States pieces line (Allow (name_of net i.from) (name_of net i.to))
 
 -- an import that no line allows leads from the one module to the other
-abbrev pub Counts : Network → List (List ℕ) → ℕ → ℕ → Type 0
-Counts net pieces m n = (i : Priced) × Contains net.imports i × (i.from ≡ m) × (i.to ≡ n) × (IsAllowed net pieces i → ⊥)
+abbrev pub IsUnallowedImport : Network → List (List ℕ) → ℕ → ℕ → Type 0
+IsUnallowedImport net pieces m n = (i : Priced) × Contains net.imports i × (i.from ≡ m) × (i.to ≡ n) × (IsAllowed net pieces i → ⊥)
 
 -- the network has no import of the second module by the first
 abbrev pub LacksImport : Network → List ℕ → List ℕ → Type 0
@@ -107,6 +107,7 @@ abbrev pub HasPattern : List (List ℕ) → ℕ → Type 0
 HasPattern pieces line = (s pattern : List ℕ) × States pieces line (Adds s (Named pattern))
 
 module _ (net : Network) (files : List File) (pieces : List (List ℕ)) where
+  -- the name is that of a module of the network
   abbrev pub IsModule : List ℕ → Type 0
   IsModule name = Contains net.names name
 
@@ -119,15 +120,15 @@ module _ (net : Network) (files : List File) (pieces : List (List ℕ)) where
   IsFirstUnknown name x y = ((name ≡ x) × IsUnknown x) ⊎ ((name ≡ y) × IsUnknown y × (IsUnknown x → ⊥))
 
   -- a line with this content has the fault
-  abbrev pub IsWrong : ℕ → LineFault → RuleLine → Type 0
-  IsWrong line (SetIsModule name) (Adds s selector) = (name ≡ s) × IsModule s
-  IsWrong line (NoSuchModule name) (Adds s (Module m)) = (name ≡ m) × (IsModule m → ⊥)
-  IsWrong line (NoSuchModule name) (Restricts kind x y) = IsFirstUnknown name x y
-  IsWrong line (TwiceAllowed m n) (Allow importer imported) = (m ≡ importer) × (n ≡ imported) × (before : ℕ) × (before < line) × States pieces before (Allow importer imported)
-  IsWrong line (EmptySet text) (Adds s selector) = (text ≡ selector_text s selector) × ((m : ℕ) → Selects net files selector m → ⊥)
-  IsWrong line TooMany (Adds s (Named pattern)) = IsOverLimit (HasPattern pieces) line
-  IsWrong line TooMany (Restricts kind x y) = IsOverLimit (IsRule pieces) line
-  IsWrong line fault content = ⊥
+  abbrev pub ContentHasFault : ℕ → LineFault → RuleLine → Type 0
+  ContentHasFault line (SetIsModule name) (Adds s selector) = (name ≡ s) × IsModule s
+  ContentHasFault line (NoSuchModule name) (Adds s (Module m)) = (name ≡ m) × (IsModule m → ⊥)
+  ContentHasFault line (NoSuchModule name) (Restricts kind x y) = IsFirstUnknown name x y
+  ContentHasFault line (TwiceAllowed m n) (Allow importer imported) = (m ≡ importer) × (n ≡ imported) × (before : ℕ) × (before < line) × States pieces before (Allow importer imported)
+  ContentHasFault line (EmptySet text) (Adds s selector) = (text ≡ selector_text s selector) × ((m : ℕ) → Selects net files selector m → ⊥)
+  ContentHasFault line TooMany (Adds s (Named pattern)) = IsOverLimit (HasPattern pieces) line
+  ContentHasFault line TooMany (Restricts kind x y) = IsOverLimit (IsRule pieces) line
+  ContentHasFault line fault content = ⊥
 
   -- the line is neither empty nor a comment, and has no valid content
   abbrev pub IsInvalidLine : ℕ → Type 0
@@ -135,7 +136,7 @@ module _ (net : Network) (files : List File) (pieces : List (List ℕ)) where
 
   -- the line of this number has this fault
   abbrev pub HasFault : ℕ → LineFault → Type 0
-  HasFault line fault = (IsInvalidLine line × (fault ≡ BadLine)) ⊎ ((content : RuleLine) × States pieces line content × IsWrong line fault content)
+  HasFault line fault = (IsInvalidLine line × (fault ≡ BadLine)) ⊎ ((content : RuleLine) × States pieces line content × ContentHasFault line fault content)
 
 -- the order in which the errors of a line are tested
 abbrev pub rank : LineFault → ℕ

@@ -11,17 +11,18 @@ use Rattle.cut_rules.specs.declared.file.File.{File}
 use Rattle.cut_rules.specs.declared.rule.StaleAllow.{StaleAllow}
 use Rattle.cut_rules.specs.declared.site.Site.{Site}
 use Rattle.cut_rules.specs.RuleLines.{Forbid, ForbidImport, May, States}
-use Rattle.cut_rules.specs.Rules.{Counts, IsAllowed, IsIn, IsStale}
+use Rattle.cut_rules.specs.Rules.{IsUnallowedImport, IsAllowed, IsIn, IsStale}
 
 -- ---- imports that break a rule
 
 -- a path to the module m from a source, which enters no barred module after its start
 module _ (Leads : ℕ → ℕ → Type 0) (IsSource IsBarred : ℕ → Type 0) (m : ℕ) where
+  -- the path begins at a source, leads to the module m, and enters no barred module after its start
   abbrev pub IsEntryPath : List ℕ → Type 0
   IsEntryPath [] = ⊥
   IsEntryPath (start ∷ more) = IsSource start × IsChain Leads start more m × ((n : ℕ) → Contains more n → IsBarred n → ⊥)
 
--- the line is the first `may` line of X
+-- the line is the first `may` line whose first name is x
 pub record IsFirstMay (pieces : List (List ℕ)) (line : ℕ) (x : List ℕ) : Type 0 where
   pub target : List ℕ
   pub says : States pieces line (May x target)
@@ -30,7 +31,7 @@ pub record IsFirstMay (pieces : List (List ℕ)) (line : ℕ) (x : List ℕ) : T
 module _ (net : Network) (files : List File) (pieces : List (List ℕ)) (line m n : ℕ) where
   -- the rule of the line forbids that m imports n at the end of this path
   pub data IsForbidden (path : List ℕ) : Type 0 where
-    ByForbid : (x y : List ℕ) → States pieces line (Forbid x y) → IsIn net files pieces y n → IsEntryPath (Counts net pieces) (IsIn net files pieces x) (IsIn net files pieces y) m path → IsForbidden path
+    ByForbid : (x y : List ℕ) → States pieces line (Forbid x y) → IsIn net files pieces y n → IsEntryPath (IsUnallowedImport net pieces) (IsIn net files pieces x) (IsIn net files pieces y) m path → IsForbidden path
     ByForbidImport : (x y : List ℕ) → States pieces line (ForbidImport x y) → IsIn net files pieces x m → IsIn net files pieces y n → path ≡ m ∷ [] → IsForbidden path
     ByMay : (x : List ℕ) → IsFirstMay pieces line x → IsIn net files pieces x m → (IsIn net files pieces x n → ⊥)
         → ((other : ℕ) (y : List ℕ) → States pieces other (May x y) → IsIn net files pieces y n → ⊥) → path ≡ m ∷ [] → IsForbidden path
@@ -41,6 +42,7 @@ pub record Violation : Type 0 where
   pub import_number : ℕ
   pub path : List ℕ
 
+-- the import of this number in the network
 abbrev pub import_at : Network → ℕ → Priced
 import_at net k = slice_index_or net.imports k missing_item
 
@@ -51,7 +53,8 @@ module _ (net : Network) (files : List File) (pieces : List (List ℕ)) where
     pub counted : IsAllowed net pieces (import_at net k) → ⊥
     pub forbidden : IsForbidden net files pieces line (import_at net k).from (import_at net k).to path
 
-  -- the path is the one with the fewest imports, and of those the one with the smallest names, from the first on
+  -- the violation has a path by which its import breaks the rule: the one with the fewest imports, of several the one with the smallest
+  -- names from the first on
   abbrev pub IsViolation : Violation → Type 0
   IsViolation v = IsLeastOf (Breaks v.line v.import_number) v.path
 
@@ -67,12 +70,13 @@ pub record AreViolations (net : Network) (files : List File) (pieces : List (Lis
 
 -- ---- stale lines
 
--- an allow line whose import the network doesn't have
+-- an `allow` line whose import the network doesn't have: its number, and the names of the two modules
 pub record Stale : Type 0 where
   pub line : ℕ
   pub importer : List ℕ
   pub imported : List ℕ
 
+-- a stale line with the bytes of its names
 abbrev pub stale_of : StaleAllow → Stale
 stale_of s = record { line = s.line; importer = s.importer.now; imported = s.imported.now }
 
@@ -85,22 +89,22 @@ pub record AreStaleLines (net : Network) (pieces : List (List ℕ)) (stale : Lis
 -- ---- the text
 
 -- the names, each after a space
-abbrev pub spaced : List (List ℕ) → List ℕ
-spaced names = flat_map (λ (name : List ℕ). 32 ∷ name) names
+abbrev pub names_after_spaces : List (List ℕ) → List ℕ
+names_after_spaces names = flat_map (λ (name : List ℕ). 32 ∷ name) names
 
--- the location of an import
+-- the text of an import's location in this style; empty without a location
 abbrev pub site_text : Style → Option Site → List ℕ
 site_text style None = []
 site_text style (Some site) = location_text style site.path.now site.line site.column
 
--- PATH:LINE:COL: no LINE A .. M N
+-- the line `PATH:LINE:COL: no LINE A .. M N` of a violation, with the location in this style
 abbrev pub violation_line : Style → Network → List Site → Violation → List ℕ
 violation_line style net sites v =
-    site_text style (slice_get sites v.import_number) ++ (codes ": no " ++ (decimal v.line ++ (spaced (map (name_of net) (v.path ++ (import_at net v.import_number).to ∷ [])) ++ 10 ∷ [])))
+    site_text style (slice_get sites v.import_number) ++ (codes ": no " ++ (decimal v.line ++ (names_after_spaces (map (name_of net) (v.path ++ (import_at net v.import_number).to ∷ [])) ++ 10 ∷ [])))
 
--- stale LINE M N
+-- the line `stale LINE M N` of a stale `allow` line
 abbrev pub stale_line : Stale → List ℕ
-stale_line s = codes "stale " ++ (decimal s.line ++ (spaced (s.importer ∷ s.imported ∷ []) ++ 10 ∷ []))
+stale_line s = codes "stale " ++ (decimal s.line ++ (names_after_spaces (s.importer ∷ s.imported ∷ []) ++ 10 ∷ []))
 
 -- the lines of the violations, and then the stale lines
 abbrev pub lines_text : Style → Network → List Site → List Violation → List Stale → List ℕ
@@ -115,28 +119,28 @@ is_none (_ ∷ _) = false
 abbrev pub is_clean : List Violation → List Stale → Bool
 is_clean violations stale = if is_none violations then is_none stale else false
 
--- the lines, or yes if there is none
+-- the output: the lines of violations and the stale lines, or `yes` if there is none
 abbrev pub verdict_text : Style → Network → List Site → List Violation → List Stale → List ℕ
 verdict_text style net sites violations stale = if is_clean violations stale then codes "yes" ++ 10 ∷ [] else lines_text style net sites violations stale
 
--- ---- what the violations of a rule are
+-- ---- the paths that a rule forbids
 
 module _ (net : Network) (files : List File) (pieces : List (List ℕ)) (line : ℕ) where
   -- a path of imports that no line allows, which the rule of the line forbids: of one or more imports for `forbid`, of one for the other
   -- two kinds
   pub data IsForbiddenPath : List ℕ → Type 0 where
-    PathByForbid : (x y : List ℕ) (start next : ℕ) (more : List ℕ) (end : ℕ) → States pieces line (Forbid x y) → IsIn net files pieces x start → IsChain (Counts net pieces) start (next ∷ more) end → IsIn net files pieces y end
+    PathByForbid : (x y : List ℕ) (start next : ℕ) (more : List ℕ) (end : ℕ) → States pieces line (Forbid x y) → IsIn net files pieces x start → IsChain (IsUnallowedImport net pieces) start (next ∷ more) end → IsIn net files pieces y end
         → IsForbiddenPath (start ∷ next ∷ more)
-    PathByForbidImport : (x y : List ℕ) (m n : ℕ) → States pieces line (ForbidImport x y) → IsIn net files pieces x m → Counts net pieces m n → IsIn net files pieces y n → IsForbiddenPath (m ∷ n ∷ [])
-    PathByMay : (x : List ℕ) (m n : ℕ) → IsFirstMay pieces line x → IsIn net files pieces x m → Counts net pieces m n → (IsIn net files pieces x n → ⊥)
+    PathByForbidImport : (x y : List ℕ) (m n : ℕ) → States pieces line (ForbidImport x y) → IsIn net files pieces x m → IsUnallowedImport net pieces m n → IsIn net files pieces y n → IsForbiddenPath (m ∷ n ∷ [])
+    PathByMay : (x : List ℕ) (m n : ℕ) → IsFirstMay pieces line x → IsIn net files pieces x m → IsUnallowedImport net pieces m n → (IsIn net files pieces x n → ⊥)
         → ((other : ℕ) (y : List ℕ) → States pieces other (May x y) → IsIn net files pieces y n → ⊥) → IsForbiddenPath (m ∷ n ∷ [])
 
--- the import is one of the path's
+-- the modules of import k follow each other on the path
 pub record IsOnPath (net : Network) (path : List ℕ) (k : ℕ) : Type 0 where
   pub before : List ℕ
   pub after : List ℕ
   pub whole : path ≡ before ++ (import_at net k).from ∷ (import_at net k).to ∷ after
 
--- the import breaks the rule of the line
+-- the import of number k breaks the rule of the line, by some path
 abbrev pub BreaksRule : Network → List File → List (List ℕ) → ℕ → ℕ → Type 0
 BreaksRule net files pieces line k = (path : List ℕ) × Breaks net files pieces line k path

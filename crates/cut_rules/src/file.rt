@@ -3,8 +3,8 @@
 /// The file of a module.
 #[derive(Clone, Copy)]
 pub struct File<'a> {
-    /// Its path below the tree's folder, with `/` between the names.
+    /// The path of the file relative to the tree's folder, with `/` between the names.
     pub path: &'a str,
-    /// The number of its module in the network.
+    /// The number of the file's module in the network.
     pub module: u32,
 }

@@ -9,26 +9,26 @@ ghost use Rattle.cut_rules.specs.Verdicts.{import_at, AreViolations, BreaksRule,
 ghost use Rattle.cut_rules.specs.declared.reading.Rules.{Rules as TreeRules};
 
 /// The error of a text is unique: its line, its cause and its names.
-pub fn one_refusal()
-    // Two errors have an equal line, cause and names.
+pub fn error_is_unique()
+    // Two errors of one text have the same line, cause and names.
     ensures { (net : Network) (files : List TreeFile) (pieces : List (List ℕ)) (a b : Refusal) → IsRefusal net files pieces a → IsRefusal net files pieces b → cause_of a ≡ cause_of b }
 {}
 
-/// A text with rules has no error.
-pub fn rules_or_refusal()
-    // A text with rules and an error doesn't exist.
+/// A text that has rules for a tree has no error.
+pub fn rules_exclude_error()
+    // No text has both rules and an error, for the same tree.
     ensures { (net : Network) (files : List TreeFile) (pieces : List (List ℕ)) (rules : TreeRules) (fault : Refusal) → AreRulesOf net files pieces rules → IsRefusal net files pieces fault → ⊥ }
 {}
 
-/// A text has at most one list of violations.
-pub fn one_verdict()
-    // A text has at most one list of violations.
+/// A text has at most one list of violations of its rules.
+pub fn violations_are_unique()
+    // Two lists of the violations of a text's rules are equal.
     ensures { (net : Network) (files : List TreeFile) (pieces : List (List ℕ)) (a b : List Violation) → AreViolations net files pieces a → AreViolations net files pieces b → a ≡ b }
 {}
 
 /// Each path that a rule forbids has an import that breaks the rule; so without these imports no such path is left.
 pub fn violations_cover_paths()
-    // A forbidden path has an import that breaks the rule.
+    // On a path that the rule of a line forbids, not every import keeps this rule.
     ensures { (net : Network) (files : List TreeFile) (pieces : List (List ℕ)) (line : ℕ) (path : List ℕ) → IsForbiddenPath net files pieces line path
         → ((k : ℕ) → IsOnPath net path k → BreaksRule net files pieces line k → ⊥) → ⊥ }
 {}

@@ -5,7 +5,7 @@ ghost use Rattle.cut_rules.specs.LineReading.{is_comment, is_empty_or_comment, k
 ghost use Rattle.cut_rules.specs.RuleLines.{is_blank};
 
 use crate::rule::RuleKind;
-use texts::fields::{cut_at_byte, parse_field_name};
+use texts::fields::{parse_field_name, split_at_byte};
 
 /// Which modules a line adds to a set.
 #[derive(Clone, Copy)]
@@ -23,11 +23,11 @@ pub(crate) enum Selector<'a> {
 /// What a line states.
 #[derive(Clone, Copy)]
 pub(crate) enum Line<'a> {
-    /// The modules are in the set of this name.
+    /// The line adds the selected modules to the set of this name.
     Adds(&'a str, Selector<'a>),
-    /// A rule between two names.
+    /// The line is a rule of this kind between two names.
     Restricts(RuleKind, &'a str, &'a str),
-    /// The import of the second module by the first counts for no rule.
+    /// The line allows the import of the second module by the first, which then counts for no rule.
     Allow(&'a str, &'a str),
 }
 
@@ -50,7 +50,7 @@ fn is_comment(bytes: &[u8]) -> bool
     false
 }
 
-/// The index of the first space or tab.
+/// The index of the first space or tab, or `None` if the bytes have neither.
 fn blank_index(bytes: &[u8]) -> Option<usize>
     ensures { result ≡ position is_blank bytes.now }
 {
@@ -66,7 +66,7 @@ pub(crate) fn is_empty_or_comment(piece: &[u8]) -> bool
     piece.is_empty() || is_comment(piece)
 }
 
-/// The name that is all of the fields but for a comment after a blank.
+/// The name that the bytes begin with, if nothing follows it, or only a comment after a blank; otherwise `None`.
 fn last_name(fields: &[u8]) -> Option<&str>
     ensures { option_map (λ name. name.now) result ≡ last_name_of fields.now }
 {
@@ -78,7 +78,7 @@ fn last_name(fields: &[u8]) -> Option<&str>
     parse_field_name(name)
 }
 
-/// The kind of rule that a keyword begins.
+/// The kind of a rule that begins with this keyword, or `None` if no rule does.
 fn kind_of(word: &[u8]) -> Option<RuleKind>
     ensures { result ≡ kind_of word.now }
 {
@@ -94,7 +94,8 @@ fn kind_of(word: &[u8]) -> Option<RuleKind>
     None
 }
 
-/// The line of a keyword, a name and the last field, which is a path or a pattern after `folder` and `named`, and else a name.
+/// The line of a keyword, a name and the last field, or `None` if these are no valid line. The last field is a path after `folder`, a
+/// pattern after `named`, and otherwise a name.
 #[tactic(auto, unfolding(crate::specs::LineReading::line_after))]
 fn line_after<'a>(word: &[u8], first: &'a str, last: &'a [u8]) -> Option<Line<'a>>
     ensures { option_map line_content result ≡ line_after word.now first.now last.now }
@@ -116,7 +117,7 @@ fn line_after<'a>(word: &[u8], first: &'a str, last: &'a [u8]) -> Option<Line<'a
     Some(Line::Restricts(kind, first, second))
 }
 
-/// The bytes as text, or none if they aren't UTF-8.
+/// The bytes as a string, or `None` if they aren't UTF-8.
 fn utf8_text(bytes: &[u8]) -> Option<&str>
     ensures { option_map (λ text. text.now) result ≡ text_of bytes.now }
 {
@@ -126,7 +127,7 @@ fn utf8_text(bytes: &[u8]) -> Option<&str>
     }
 }
 
-/// The line of a keyword and its fields.
+/// The line of a keyword and the bytes after it, or `None` if these are no valid line.
 #[tactic(auto, unfolding(crate::specs::LineReading::line_of_fields))]
 fn line_of_fields<'a>(word: &[u8], fields: &'a [u8]) -> Option<Line<'a>>
     ensures { option_map line_content result ≡ line_of_fields word.now fields.now }
@@ -134,25 +135,25 @@ fn line_of_fields<'a>(word: &[u8], fields: &'a [u8]) -> Option<Line<'a>>
     if word == b"tree".as_slice() {
         return Some(Line::Adds(last_name(fields)?, Selector::Tree));
     }
-    let (first, last) = cut_at_byte(fields, b' ')?;
+    let (first, last) = split_at_byte(fields, b' ')?;
     line_after(word, parse_field_name(first)?, last)
 }
 
-/// What the bytes of a line state, or none if they have no form.
+/// What the bytes of a line state, or `None` if they aren't a valid line.
 #[tactic(auto, unfolding(crate::specs::LineReading::rule_line_of))]
 pub(crate) fn parse_line(piece: &[u8]) -> Option<Line<'_>>
     ensures { option_map line_content result ≡ rule_line_of piece.now }
 {
-    let (word, fields) = cut_at_byte(piece, b' ')?;
+    let (word, fields) = split_at_byte(piece, b' ')?;
     line_of_fields(word, fields)
 }
 
-/// The two names of the rule that the bytes of a line are. Most lines have another keyword, and aren't parsed.
+/// The two names of a line that is a rule, or `None` for any other line. A line without a rule's keyword isn't parsed further.
 #[tactic(auto, unfolding(crate::specs::LineReading::rule_of, crate::specs::LineReading::rule_line_of))]
 pub(crate) fn parse_rule_names(piece: &[u8]) -> Option<(&str, &str)>
     ensures { option_map (λ names. (names.0.now, names.1.now)) result ≡ rule_of piece.now }
 {
-    let (word, fields) = cut_at_byte(piece, b' ')?;
+    let (word, fields) = split_at_byte(piece, b' ')?;
     kind_of(word)?;
     match line_of_fields(word, fields)? {
         Line::Restricts(_, first, second) => Some((first, second)),
@@ -160,7 +161,7 @@ pub(crate) fn parse_rule_names(piece: &[u8]) -> Option<(&str, &str)>
     }
 }
 
-/// The set to which the bytes of a line add modules.
+/// The name of the set to which a line adds modules, or `None` if the bytes aren't such a line.
 #[tactic(auto, unfolding(crate::specs::LineReading::set_of))]
 pub(crate) fn parse_set_name(piece: &[u8]) -> Option<&str>
     ensures { option_map (λ name. name.now) result ≡ set_of piece.now }
@@ -171,11 +172,13 @@ pub(crate) fn parse_set_name(piece: &[u8]) -> Option<&str>
     }
 }
 
-/// The field in which a line that adds modules to a set has its name.
+/// The bytes of a line from its first space up to the next blank, without both; `None` if there is no space. In a line that adds modules to
+/// a set, these bytes are the set's name.
 pub(crate) fn set_field(piece: &[u8]) -> Option<&[u8]>
+    // If the line adds modules to a set, the result is the name of the set.
     ensures { (s : List ℕ) → set_of piece.now ≡ Some s → option_map (λ field. field.now) result ≡ Some s }
 {
-    let (_, fields) = cut_at_byte(piece, b' ')?;
+    let (_, fields) = split_at_byte(piece, b' ')?;
     let end = blank_index(fields).unwrap_or(fields.len());
     Some(&fields[..end])
 }

@@ -1,4 +1,5 @@
-//! The modules of a name: of a module itself, or of a set.
+//! The modules that a name of a rule denotes: the module of this name, or the modules of the set. The flags of a set have an index for each
+//! file, and after these an index for each module.
 ghost use Rattle.std.specs.Prelude.{◌≡◌, ◌↔◌, ◌⊎◌, ◌<◌, ◌≤◌, ℕ, AllPairs, Contains, IfOk, List, Some, length, true, vec_len};
 ghost use Rattle.digraph.specs.Marks.{marked};
 ghost use Rattle.cut_rules.specs.Builders.{HasFlaggedIndex, IsAtIndex, IsMember};
@@ -8,8 +9,10 @@ use crate::{File, Rules};
 use cut_net::Net;
 use std::alloc::{AllocError, Global};
 
-/// The module at an index among the files and, after these, all modules.
+/// The module that an index of a set's flags denotes. An index below the number of files denotes the module of the file; any other index
+/// denotes the module whose number is the index less the number of files.
 fn module_at(files: &[File<'_>], place: usize) -> usize
+    // The index is that of a file of the resulting module, or, after the indices of all files, the module's own.
     ensures { IsAtIndex files.now place result }
 {
     if place < files.len() {
@@ -19,9 +22,11 @@ fn module_at(files: &[File<'_>], place: usize) -> usize
     }
 }
 
-/// Sets the flag of a module, if there is one of this number.
-fn mark(flags: &mut [bool], node: usize)
+/// Sets the flag of the module with number `node`. Nothing happens if the flags end before that number.
+fn flag_module(flags: &mut [bool], node: usize)
+    // The number of flags is unchanged.
     ensures size { length flags.new ≡ length flags.old }
+    // After the call a module is flagged if and only if it was before, or has the number `node`.
     ensures flags { (m : ℕ) → m < length flags.old → (marked flags.new m ≡ true) ↔ ((marked flags.old m ≡ true) ⊎ (node ≡ m)) }
 {
     if node < flags.len() {
@@ -29,22 +34,28 @@ fn mark(flags: &mut [bool], node: usize)
     }
 }
 
-/// Sets the flags of the modules at the flagged indices among the files and, after these, all modules.
+/// Sets the flag of each module that a flagged index in `places` denotes. `places` has an index for each file, and after these one for each
+/// module.
 fn flag_modules(files: &[File<'_>], places: &[bool], flags: &mut [bool])
+    // The number of flags is unchanged.
     ensures size { length flags.new ≡ length flags.old }
+    // After the call a module is flagged if and only if it was before, or a flagged index denotes it.
     ensures flags { (m : ℕ) → m < length flags.old → (marked flags.new m ≡ true) ↔ ((marked flags.old m ≡ true) ⊎ HasFlaggedIndex files.now places.now m) }
 {
     for place in 0..places.len() {
         if places[place] {
-            mark(flags, module_at(files, place));
+            flag_module(flags, module_at(files, place));
         }
     }
 }
 
-/// The flagged nodes, in ascending order.
+/// The numbers whose flag is set, in ascending order.
 fn flagged_nodes(alloc: Global, flags: &[bool]) -> Result<Vec<u32>, AllocError>
+    // A network has at most 8,192 modules, so a number fits 32 bits.
     requires { length flags.now ≤ 8192 }
+    // With `Ok` a number is in the list if and only if its flag is set.
     ensures elements { IfOk result (λ nodes. (v : ℕ) → Contains nodes.items v ↔ (marked flags.now v ≡ true)) }
+    // With `Ok` the numbers are strictly ascending.
     ensures ascending { IfOk result (λ nodes. AllPairs (λ v w. v < w) nodes.items) }
 {
     let mut nodes = Vec::new(alloc);
@@ -57,9 +68,11 @@ fn flagged_nodes(alloc: Global, flags: &[bool]) -> Result<Vec<u32>, AllocError>
 }
 
 impl Rules<'_> {
-    /// Sets the flags of the modules in the set of this number, if there is one.
+    /// Sets the flags of the modules in the set that the name with number `name` denotes. Nothing happens if it denotes no set.
     fn flag_set_members(&self, flags: &mut [bool], name: usize)
+        // The number of flags is unchanged.
         ensures size { length flags.new ≡ length flags.old }
+        // After the call a module is flagged if and only if it was before, or is in the set.
         ensures flags { (m : ℕ) → m < length flags.old → (marked flags.new m ≡ true) ↔ ((marked flags.old m ≡ true) ⊎ IsMember self.now.files.now self.now.table name m) }
     {
         if name < self.table.modules {
@@ -72,12 +85,14 @@ impl Rules<'_> {
         flag_modules(self.files, self.table.sets[place].flags.as_slice(), flags);
     }
 
-    /// Sets the flags of the modules of the name with this number: the module itself, or those in the set.
-    fn flag_denoted(&self, flags: &mut [bool], name: usize)
+    /// Sets the flags of the modules that the name with this number denotes: the module itself, or those in the set.
+    fn flag_modules_of_name(&self, flags: &mut [bool], name: usize)
+        // The number of flags is unchanged.
         ensures size { length flags.new ≡ length flags.old }
+        // After the call a module is flagged if and only if it was before, or the name denotes it.
         ensures flags { (m : ℕ) → m < length flags.old → (marked flags.new m ≡ true) ↔ ((marked flags.old m ≡ true) ⊎ IsDenoted self.now name m) }
     {
-        mark(flags, name);
+        flag_module(flags, name);
         self.flag_set_members(flags, name);
     }
 
@@ -88,11 +103,13 @@ impl Rules<'_> {
         net: &Net,
         name: usize,
     ) -> Result<Vec<bool>, AllocError>
+        // With `Ok` there is a flag for each module of the network.
         ensures size { IfOk result (λ flags. vec_len flags ≡ length net.now.names) }
+        // With `Ok` a module is flagged if and only if the name denotes it.
         ensures elements { IfOk result (λ flags. (m : ℕ) → m < length net.now.names → (marked flags.items m ≡ true) ↔ IsDenoted self.now name m) }
     {
         let mut flags = vec![in alloc; false; net.nodes() as usize]?;
-        self.flag_denoted(flags.as_mut_slice(), name);
+        self.flag_modules_of_name(flags.as_mut_slice(), name);
         Ok(flags)
     }
 
@@ -103,8 +120,11 @@ impl Rules<'_> {
         net: &Net,
         name: usize,
     ) -> Result<Vec<u32>, AllocError>
+        // With `Ok` each number is that of a module of the network.
         ensures within { IfOk result (λ members. (m : ℕ) → Contains members.items m → m < length net.now.names) }
+        // With `Ok` a module is in the list if and only if the name denotes it.
         ensures elements { IfOk result (λ members. (m : ℕ) → m < length net.now.names → Contains members.items m ↔ IsDenoted self.now name m) }
+        // With `Ok` the numbers are strictly ascending.
         ensures ascending { IfOk result (λ members. AllPairs (λ v w. v < w) members.items) }
     {
         net.invariants();

@@ -12,7 +12,8 @@ use indexmap::IndexSet;
 use std::alloc::{AllocError, Global};
 use text_hash::{Name, Seed};
 
-/// The smallest number of bytes of a rule for each of its names, to estimate the number of keys.
+/// A rule with its LF has at least this many bytes for each of its two names. So the length of a text gives an estimate of the number of
+/// names in its rules, at most one too low, since the last line may lack its LF.
 const BYTES_A_NAME: usize = 4;
 
 /// The names of modules, and of the sets that rules name; lines about other sets are only parsed.
@@ -20,17 +21,20 @@ const BYTES_A_NAME: usize = 4;
 pub(crate) struct Names<'a> {
     /// The names of all modules, by their numbers.
     pub(crate) modules: IndexSet<Name<'a>, Seed>,
-    /// The names in rules that aren't modules', up to the first rule that exceeds the limit, in order of first occurrence.
+    /// The names in rules that aren't names of modules, in the order of first occurrence. Rules after the first one too many don't count.
     pub(crate) sets: IndexSet<Name<'a>, Seed>,
     /// For each name in `sets` whether a line adds modules to a set of this name.
     pub(crate) declared: Vec<bool>,
 }
 
 impl Names<'_> {
-    /// The index of a name, if a line adds modules to the set of this name.
+    /// The index in `sets` of the set with this name, if a line adds modules to it; otherwise `None`.
     pub(crate) fn declared_set_index(&self, name: &str) -> Option<usize>
+        // There is a flag for each name in `sets`.
         requires { length self.now.declared.items ≡ length self.now.sets.keys }
+        // With `Some` the index is that of the name, and its flag is set.
         ensures found { IfSome result (λ k. (index_among self.now.sets.keys name.now ≡ Some k) × (marked self.now.declared.items k ≡ true)) }
+        // With `None` the name isn't in `sets`, or its flag isn't set.
         ensures none { IfNone result ((k : ℕ) → index_among self.now.sets.keys name.now ≡ Some k → marked self.now.declared.items k ≡ false) }
     {
         let place = name_index(&self.sets, name.as_bytes())?;
@@ -41,9 +45,11 @@ impl Names<'_> {
     }
 }
 
-/// The index of a name.
+/// The index of a name in the set of names, or `None` if the set doesn't have it.
 pub(crate) fn name_index(names: &IndexSet<Name<'_>, Seed>, name: &[u8]) -> Option<usize>
+    // The result is the index of the name among the names of the set.
     ensures place { result ≡ index_among names.now.keys name.now }
+    // An index is smaller than the number of names.
     ensures within { IfSome result (λ k. k < length names.now.keys) }
 {
     names.get_index_of(&Name { bytes: name })
@@ -59,8 +65,9 @@ fn joined_names(alloc: Global, net: &Net) -> Result<Vec<u8>, AllocError> {
     Ok(text)
 }
 
-/// The names of the modules, by their numbers.
+/// The names of the modules, in the order of the modules' numbers.
 fn module_names<'a>(alloc: Global, net: &'a Net) -> Result<IndexSet<Name<'a>, Seed>, AllocError>
+    // With `Ok` the names are exactly those of the network, in its order.
     ensures { IfOk result (λ names. names_in names.keys ≡ net.now.names) }
 {
     net.invariants();
@@ -74,14 +81,17 @@ fn module_names<'a>(alloc: Global, net: &'a Net) -> Result<IndexSet<Name<'a>, Se
     Ok(names)
 }
 
-/// Adds a name, unless it is that of a module.
+/// Adds a name to `names`, unless it is that of a module.
 fn add_name<'a>(
     net: &Net,
     names: &mut IndexSet<Name<'a>, Seed>,
     name: &'a str,
 ) -> Result<(), AllocError>
+    // With `Ok` no name is removed.
     ensures retained { OnOk result ((x : List ℕ) → Contains (names_in names.old.keys) x → Contains (names_in names.new.keys) x) }
+    // With `Ok` the name is that of a module, or among `names`.
     ensures noted { OnOk result (IsKnownName net.now names.new.keys name.now) }
+    // With `Ok` no added name is that of a module.
     ensures apart { OnOk result ((x : List ℕ) → Contains (names_in names.new.keys) x → Contains (names_in names.old.keys) x ⊎ (Contains net.now.names x → ⊥)) }
 {
     if net.index_of(name).is_none() {
@@ -92,15 +102,19 @@ fn add_name<'a>(
     Ok(())
 }
 
-/// Adds the names of a rule after this many others, unless the limit is exceeded.
+/// Adds the two names of a rule to `names`, unless more than `MOST_LINES` rules come before this rule. `rules` is the number of the rules
+/// before it.
 fn add_names<'a>(
     net: &Net,
     names: &mut IndexSet<Name<'a>, Seed>,
     rules: usize,
     rule: (&'a str, &'a str),
 ) -> Result<(), AllocError>
+    // With `Ok` no name is removed.
     ensures retained { OnOk result ((x : List ℕ) → Contains (names_in names.old.keys) x → Contains (names_in names.new.keys) x) }
+    // With `Ok` and within the limit, each of the two names is that of a module, or among `names`.
     ensures noted { OnOk result (rules ≤ 4096 → IsKnownName net.now names.new.keys rule.entry.0.now × IsKnownName net.now names.new.keys rule.entry.1.now) }
+    // With `Ok` no added name is that of a module.
     ensures apart { OnOk result ((x : List ℕ) → Contains (names_in names.new.keys) x → Contains (names_in names.old.keys) x ⊎ (Contains net.now.names x → ⊥)) }
 {
     if rules > MOST_LINES {
@@ -112,12 +126,14 @@ fn add_names<'a>(
     Ok(())
 }
 
-/// The names in the rules of a text that aren't modules'. Rules after the first one too many have a fault whatever they name.
+/// The names in the rules of a text that aren't names of modules. Rules after the first one beyond the limit don't count, since they have a
+/// fault whatever they name.
 fn rule_names<'a>(
     alloc: Global,
     net: &Net,
     bytes: &'a [u8],
 ) -> Result<IndexSet<Name<'a>, Seed>, AllocError>
+    // With `Ok` each name in a rule, up to the first rule too many, is a module's or in the result. No name in the result is a module's.
     ensures { IfOk result (λ names. AreRuleNames net.now (pieces_of bytes.now) names.keys) }
 {
     let seed = Seed::for_keys(bytes, bytes.len() / BYTES_A_NAME);
@@ -132,15 +148,18 @@ fn rule_names<'a>(
     Ok(names)
 }
 
-/// The index of the set to which a line adds modules, if its name is unflagged. Most lines aren't parsed, since their name is flagged or
-/// isn't one of the sets.
+/// The index of the set to which a line adds modules, if the set is among `names` and its flag isn't set; otherwise `None`. Parses a line
+/// only if its field for a set has such a name, so most lines aren't parsed.
 fn newly_declared_set(
     names: &IndexSet<Name<'_>, Seed>,
     declared: &[bool],
     piece: &[u8],
 ) -> Option<usize>
+    // There is a flag for each name.
     requires { length declared.now ≡ length names.now.keys }
+    // With `Some` the line adds modules to the set whose name has this index.
     ensures found { IfSome result (λ k. (k < length names.now.keys) × (x : List ℕ) × (set_of piece.now ≡ Some x) × (index_among names.now.keys x ≡ Some k)) }
+    // With `None`, if the line adds modules to a set among `names`, the flag of that set is already set.
     ensures none { IfNone result ((x : List ℕ) (k : ℕ) → set_of piece.now ≡ Some x → index_among names.now.keys x ≡ Some k → marked declared.now k ≡ true) }
 {
     let place = name_index(names, set_field(piece)?)?;
@@ -153,6 +172,7 @@ fn newly_declared_set(
 
 /// Whether all flags are set.
 fn are_all_set(flags: &[bool]) -> bool
+    // With true each flag is set.
     ensures { result ≡ true → (k : ℕ) → k < length flags.now → marked flags.now k ≡ true }
 {
     for place in 0..flags.len() {
@@ -163,12 +183,13 @@ fn are_all_set(flags: &[bool]) -> bool
     true
 }
 
-/// For each name whether a line adds modules to the set of this name. Reads the text until all flags are set.
+/// For each name whether a line of the text adds modules to the set of this name. Stops reading the text once all flags are set.
 fn declared_sets(
     alloc: Global,
     names: &IndexSet<Name<'_>, Seed>,
     bytes: &[u8],
 ) -> Result<Vec<bool>, AllocError>
+    // With `Ok` the flag of a name is set if and only if a line adds modules to the set of this name.
     ensures { IfOk result (λ declared. AreDeclared (pieces_of bytes.now) names.now.keys declared.items) }
 {
     let mut declared = vec![in alloc; false; names.len()]?;
@@ -183,12 +204,13 @@ fn declared_sets(
     Ok(declared)
 }
 
-/// The names for which the lines of a text are read.
+/// The names that the lines of a text may refer to: those of the modules, and those of the sets that rules name.
 pub(crate) fn names_of<'a>(
     alloc: Global,
     net: &'a Net,
     bytes: &'a [u8],
 ) -> Result<Names<'a>, AllocError>
+    // With `Ok` the names include those of all modules and, up to the first rule too many, those in the rules of this text.
     ensures { IfOk result (AreNames net.now (pieces_of bytes.now)) }
 {
     let modules = module_names(alloc, net)?;

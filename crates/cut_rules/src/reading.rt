@@ -26,12 +26,13 @@ pub struct Rules<'a> {
     pub(crate) rules: Vec<Rule>,
     /// For each import of the network whether a line allows it.
     pub(crate) allowed: Vec<bool>,
-    /// The stale `allow` lines, in order.
+    /// The `allow` lines whose import the network doesn't have, in the order of the lines.
     pub(crate) stale: Vec<StaleAllow<'a>>,
 }
 
-/// The builder before the first line.
+/// The builder that no line has been added to: no set has a module, and there is no rule and no allowed import.
 fn empty<'a>(context: &LineContext<'_>) -> Result<RulesBuilder<'a>, AllocError>
+    // With `Ok` the builder is the one before the first line, for this tree and these names.
     ensures { IfOk result (IsEmptyFor context.now) }
 {
     let alloc = context.alloc;
@@ -50,14 +51,18 @@ fn empty<'a>(context: &LineContext<'_>) -> Result<RulesBuilder<'a>, AllocError>
     })
 }
 
-/// What all lines state, or the fault of the first line that has one.
+/// The builder with all lines of a text. Fails with the fault of the first line that has one, or with `Memory`.
 fn read_builder<'a>(
     context: &LineContext<'_>,
     bytes: &'a [u8],
 ) -> Result<RulesBuilder<'a>, RulesFault>
+    // The files are sorted by path.
     requires sorted { ArePathsInOrder context.now.files.now }
+    // The names are those of the network and of this text.
     requires names { AreNames context.now.net.now (pieces_of bytes.now) context.now.names.now }
+    // With `Ok` no line has a fault, and the builder has what all lines state.
     ensures built { IfOk result (HasLines context.now.net.now context.now.files.now (names_in context.now.names.now.sets.keys) (pieces_of bytes.now) (length (pieces_of bytes.now))) }
+    // An error is the first fault of the text, or `Memory`.
     ensures fault { IfErr result (λ fault. UnlessMemory fault (IsRefusal context.now.net.now context.now.files.now (pieces_of bytes.now) fault)) }
 {
     let mut builder = empty(context)?;
@@ -93,9 +98,9 @@ impl Rules<'_> {
     ) -> Result<Rules<'a>, RulesFault>
         // The files are sorted by their paths.
         requires { ArePathsInOrder files.now }
-        // The text has no fault, and the rules are its rules.
+        // With `Ok` the text has no fault, and the result has the rules of the text.
         ensures rules { IfOk result (AreRulesOf net.now files.now (pieces_of bytes.now)) }
-        // The fault is the text's first one.
+        // An error is the first fault of the text, or `Memory`.
         ensures fault { IfErr result (λ fault. UnlessMemory fault (IsRefusal net.now files.now (pieces_of bytes.now) fault)) }
     {
         let names = names_of(alloc, net, bytes)?;

@@ -18,7 +18,9 @@ pub struct Rule {
     /// The number of the line, from 1.
     pub line: u64,
     pub kind: RuleKind,
+    /// The number of the first name.
     pub first: usize,
+    /// The number of the second name.
     pub second: usize,
 }
 

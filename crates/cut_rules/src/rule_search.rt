@@ -1,8 +1,8 @@
-//! The imports that break one rule.
+//! The search for the imports that break one rule.
 ghost use Rattle.std.specs.Prelude.{◌≡◌, ◌↔◌, ◌<◌, ℕ, All, IfOk, IsTrue, List, length, vec_len, true};
 ghost use Rattle.digraph.specs.Graphs.{IsGraph};
 ghost use Rattle.digraph.specs.Marks.{marked};
-ghost use Rattle.cut_rules.specs.Judged.{IsBarredBy, IsFlagSet, IsMayOf, IsDenoted, IsOutsider, IsRepeated, IsRuleSearch, IsTarget};
+ghost use Rattle.cut_rules.specs.Judged.{IsBarredBy, IsFlagSet, IsMayOf, IsDenoted, IsForbiddenByMay, IsRepeated, IsRuleSearch, IsTarget};
 
 use crate::Rules;
 use crate::rule::{Rule, RuleKind};
@@ -10,18 +10,22 @@ use cut_net::Net;
 use digraph::{Graph, Search};
 use std::alloc::{AllocError, Global};
 
-/// The imports that break a rule: those of a target by a module that the search reaches.
+/// The result of the search for one rule. An import that no line allows breaks the rule if its importer is reached and its imported module
+/// is a target.
 #[derive(Drop)]
 pub(crate) struct RuleSearch {
     pub(crate) search: Search,
-    /// For each module whether the rule forbids to import it.
+    /// For each module whether it is a target: the rule forbids the modules of its first name to import it.
     pub(crate) targets: Vec<bool>,
 }
 
-/// Sets the flags of these nodes to this value.
+/// Sets the flags of the nodes in the list to `value`, and leaves the other flags unchanged.
 fn set_flags(flags: &mut Vec<bool>, nodes: &[u32], value: bool)
+    // Each node has a flag.
     requires { All (λ v. v < vec_len flags.old) nodes.now }
+    // The number of flags is unchanged.
     ensures size { vec_len flags.new ≡ vec_len flags.old }
+    // The flag of a node in the list is `value` after the call, and any other is unchanged.
     ensures flags { (v : ℕ) → IsFlagSet nodes.now value flags.old.items flags.new.items v }
 {
     for node in nodes {
@@ -29,7 +33,7 @@ fn set_flags(flags: &mut Vec<bool>, nodes: &[u32], value: bool)
     }
 }
 
-/// Whether the rule is a `may` of the name of this number.
+/// Whether the rule is a `may` rule whose first name has the number `first`.
 fn is_may_of(rule: Rule, first: usize) -> bool
     ensures { IsTrue result ↔ IsMayOf rule first }
 {
@@ -40,7 +44,8 @@ fn is_may_of(rule: Rule, first: usize) -> bool
 }
 
 impl Rules<'_> {
-    /// Whether the rule is a `may` whose first name an earlier `may` has.
+    /// Whether the rule is a `may` rule, and an earlier `may` rule has the same first name. All `may` rules with one first name are checked
+    /// together, at the first of them.
     pub(crate) fn is_repeated(&self, rule: Rule) -> bool
         ensures { IsTrue result ↔ IsRepeated self.now.rules.items rule }
     {
@@ -55,10 +60,13 @@ impl Rules<'_> {
         false
     }
 
-    /// For each module whether the `may` rules of the name with this number forbid to import it.
+    /// For each module whether the `may` rules whose first name has the number `first` forbid to import it. They do if neither this name
+    /// nor the second name of one of these rules denotes the module.
     fn may_targets(&self, alloc: Global, net: &Net, first: usize) -> Result<Vec<bool>, AllocError>
+        // With `Ok` there is a flag for each module of the network.
         ensures size { IfOk result (λ flags. vec_len flags ≡ length net.now.names) }
-        ensures elements { IfOk result (λ flags. (n : ℕ) → n < length net.now.names → (marked flags.items n ≡ true) ↔ IsOutsider self.now first n) }
+        // With `Ok` a module is flagged if and only if these rules forbid to import it.
+        ensures elements { IfOk result (λ flags. (n : ℕ) → n < length net.now.names → (marked flags.items n ≡ true) ↔ IsForbiddenByMay self.now first n) }
     {
         let own = self.members_of(alloc, net, first)?;
         let mut flags = vec![in alloc; true; net.nodes() as usize]?;
@@ -74,7 +82,9 @@ impl Rules<'_> {
 
     /// For each module whether the rule forbids to import it.
     fn targets(&self, alloc: Global, net: &Net, rule: Rule) -> Result<Vec<bool>, AllocError>
+        // With `Ok` there is a flag for each module of the network.
         ensures size { IfOk result (λ flags. vec_len flags ≡ length net.now.names) }
+        // With `Ok` a module is flagged if and only if the rule forbids to import it.
         ensures elements { IfOk result (λ flags. (n : ℕ) → n < length net.now.names → (marked flags.items n ≡ true) ↔ IsTarget self.now rule n) }
     {
         match rule.kind {
@@ -83,8 +93,10 @@ impl Rules<'_> {
         }
     }
 
-    /// For each module whether no path of the rule may enter it: true for all if the rule's paths have one import.
+    /// For each module whether the search must not enter it after its start. True for all modules for `may` and `forbid-import`, whose
+    /// paths have one import.
     fn barrier(&self, alloc: Global, net: &Net, rule: Rule) -> Result<Vec<bool>, AllocError>
+        // With `Ok` a module is flagged if and only if a path of the rule must not enter it after the start.
         ensures { IfOk result (λ flags. (n : ℕ) → n < length net.now.names → (marked flags.items n ≡ true) ↔ IsBarredBy self.now rule rule.kind n) }
     {
         match rule.kind {
@@ -93,7 +105,7 @@ impl Rules<'_> {
         }
     }
 
-    /// The search for the imports that break a rule, in the graph of the imports that no line allows.
+    /// Searches for the imports that break a rule. `graph` has the imports that no line allows as its edges.
     pub(crate) fn search(
         &self,
         alloc: Global,
@@ -101,8 +113,11 @@ impl Rules<'_> {
         graph: &Graph<'_>,
         rule: Rule,
     ) -> Result<RuleSearch, AllocError>
+        // The edges of the graph are strictly sorted, and the list of each node has the successors of the node.
         requires graph { IsGraph graph.now }
+        // The graph has a node for each module of the network.
         requires nodes { vec_len graph.now.after ≡ length net.now.names }
+        // With `Ok` the search starts at the modules of the rule's first name, and its targets and its barrier are those of the rule.
         ensures { IfOk result (IsRuleSearch self.now (length net.now.names) graph.now.edges.now rule) }
     {
         let starts = self.members_of(alloc, net, rule.first)?;

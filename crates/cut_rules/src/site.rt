@@ -3,7 +3,7 @@
 /// The location of an import in the file of its importer.
 #[derive(Clone, Copy)]
 pub struct Site<'a> {
-    /// The path of the file below the tree's folder, with `/` between names.
+    /// The path of the file relative to the tree's folder, with `/` between the names.
     pub path: &'a str,
     /// The line, from 0.
     pub line: u32,

@@ -12,7 +12,7 @@ use Rattle.cut_net.specs.WellFormed.{AreBetween}
 use Rattle.cut_net.proofs.Chains.{widened}
 use Rattle.cut_net.proofs.Members.{from_filter, from_map, in_map}
 use Rattle.cut_net.proofs.NearSide.{is_near, is_cheapest, weighs}
-use Rattle.cut_part.specs.CapacityReduction.{IsBarred}
+use Rattle.cut_part.specs.CapacityReduction.{IsUnreachable}
 use Rattle.cut_part.proofs.Greatest.{end_unreached}
 use Rattle.residual_graph.specs.declared.arc.Arc.{Arc}
 use Rattle.residual_graph.specs.Flows.{IsBalanced}
@@ -150,7 +150,7 @@ greatest_by net arcs a b value same up a_in is source_side are shut ends =
 
 -- where the residual imports of the flow don't lead to the end, it isn't flagged
 pub end_unmarked : (net : Network) (arcs : List Arc) (a b : ℕ) → imports_of arcs ≡ net.imports → IsAscending net.imports → a < length net.names →
-    IsBarred net (flow_on arcs) a b → (source_side : List Bool) → AreReached (record { nodes = length net.names; arcs = arcs }) a source_side → AreClosed arcs source_side → is_flagged source_side b ≡ false
+    IsUnreachable net (flow_on arcs) a b → (source_side : List Bool) → AreReached (record { nodes = length net.names; arcs = arcs }) a source_side → AreClosed arcs source_side → is_flagged source_side b ≡ false
 end_unmarked net arcs a b same up a_in barred source_side are shut =
     let here = subst IsAscending (sym same) up in
     end_unreached net a b (flow_on arcs) (is_flagged source_side) barred

@@ -58,9 +58,9 @@ module _ (imports : List Priced) (source_side : List Bool) where
       (closed : AreClosed (map (reversed_arc_of source_side) imports) sink_side) where
     to_chain : (m : ℕ) → is_flagged sink_side m ≡ true → Chain imports (Outside (leaves (is_flagged source_side))) m b
     to_chain m t =
-        let (in_m, (path, way)) = (reached.each m).0 t in
+        let (in_m, (path, direction)) = (reached.each m).0 t in
         along (λ v. Chain imports (Outside (leaves (is_flagged source_side))) v b) (map (reversed_arc_of source_side) imports) (λ s known left. goes b s.arc s.forward known left)
-        b path m way.is_path.leads way.is_path.known way.left ([], refl)
+        b path m direction.is_path.leads direction.is_path.known direction.left ([], refl)
 
     from_list : (m : ℕ) (more : List ℕ) → IsChain imports (Outside (leaves (is_flagged source_side))) m more b → is_flagged sink_side m ≡ true
     from_list m [] e =

@@ -13,7 +13,7 @@ use Rattle.cut_net.specs.Cuts as cuts
 use Rattle.cut_net.specs.Lines.{comes_before, IsAscending, flow_by, amount_in}
 use Rattle.cut_net.proofs.ListSums.{sum_by-same}
 use Rattle.residual_graph.specs.declared.arc.Arc.{Arc}
-use Rattle.residual_graph.specs.Flows.{emptied, entering, leaving, DifferInFlowOnly, IsBalanced}
+use Rattle.residual_graph.specs.Flows.{without_flow, entering, leaving, DifferInFlowOnly, IsBalanced}
 use Rattle.residual_graph.specs.Graphs.{no_arc, room, head, tail, is_flagged, AreClosed, AreReached}
 use Rattle.residual_graph.proofs.Walking.{along}
 use Rattle.cut_solve.specs.Lines.{arc_without_flow, has_flow, import_of_arc, flow_line}
@@ -26,7 +26,7 @@ imports_of arcs = map import_of_arc arcs
 abbrev pub net_of : List (List ℕ) → List Priced → List Arc → Network
 net_of names pins arcs = record { names = names; imports = imports_of arcs; pins = pins }
 
-imports_emptied : (arcs : List Arc) → imports_of (map emptied arcs) ≡ imports_of arcs
+imports_emptied : (arcs : List Arc) → imports_of (map without_flow arcs) ≡ imports_of arcs
 imports_emptied [] = refl
 imports_emptied (r ∷ more) = ap (λ v. import_of_arc r ∷ v) (imports_emptied more)
 
@@ -147,8 +147,8 @@ module _ (names : List (List ℕ)) (pins : List Priced) (arcs : List Arc) (up : 
   reached a reached_flags a_in are shut m =
       let len = length-map arcs import_of_arc in (
         λ t modules start closed.
-            let (in_m, (path, way)) = (are.each m).0 t in
-            along (λ v. modules v ≡ true) arcs (λ s known left. goes modules closed s.arc s.forward known left) a path m way.is_path.leads way.is_path.known way.left start,
+            let (in_m, (path, direction)) = (are.each m).0 t in
+            along (λ v. modules v ≡ true) arcs (λ s known left. goes modules closed s.arc s.forward known left) a path m direction.is_path.leads direction.is_path.known direction.left start,
         λ r. r (is_flagged reached_flags)
             ((are.each a).1 (
               a_in,

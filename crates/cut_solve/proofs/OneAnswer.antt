@@ -19,7 +19,7 @@ use Rattle.cut_net.specs.Pins.{ByPin, IsAnswerWithPins, IsCutAnswerWithPins, IsL
 use Rattle.cut_net.proofs.Ends.{apart, before_from, one_way, same_from, same_true}
 use Rattle.cut_net.proofs.PinChains.{found_one, one_found}
 use Rattle.cut_solve.specs.Solving.{AreEqualAnswers, AreEqualOutcomes, IsSolveOutcome, IsSolved, SolveError}
-use Rattle.cut_solve.proofs.Refusals.{one_refusal}
+use Rattle.cut_solve.proofs.Refusals.{error_is_unique}
 
 -- of lines in order the one with the import's ends is found
 found_is : (i : Priced) (lines : List Priced) (z : Priced) → IsAscending lines → Contains lines z → have_equal_ends i z ≡ true → find (have_equal_ends i) lines ≡ Some z
@@ -101,8 +101,8 @@ one_solved net from to claim other first second =
     one_said net first.a first.b claim other first.answer
     (subst (λ (m : ℕ). IsAnswerWithPins net m first.b other) a_is (subst (λ (m : ℕ). IsAnswerWithPins net second.a m other) b_is second.answer))
 
-pub one_outcome : (net : Network) (from to : List ℕ) (o p : Result AnswerClaim SolveError) → IsSolveOutcome net from to o → IsSolveOutcome net from to p → AreEqualOutcomes o p
-one_outcome net from to (Ok claim) (Ok other) first second = one_solved net from to claim other first second
-one_outcome net from to (Err refusal) (Ok other) first second = let e = one_refusal net from to refusal (Ok other) first second in absurd cc
-one_outcome net from to (Ok claim) (Err refusal) first second = let e = one_refusal net from to refusal (Ok claim) second first in absurd cc
-one_outcome net from to (Err refusal) (Err other) first second = let e = one_refusal net from to refusal (Err other) first second in cc
+pub outcome_is_unique_but_for_flow : (net : Network) (from to : List ℕ) (o p : Result AnswerClaim SolveError) → IsSolveOutcome net from to o → IsSolveOutcome net from to p → AreEqualOutcomes o p
+outcome_is_unique_but_for_flow net from to (Ok claim) (Ok other) first second = one_solved net from to claim other first second
+outcome_is_unique_but_for_flow net from to (Err refusal) (Ok other) first second = let e = error_is_unique net from to refusal (Ok other) first second in absurd cc
+outcome_is_unique_but_for_flow net from to (Ok claim) (Err refusal) first second = let e = error_is_unique net from to refusal (Ok claim) second first in absurd cc
+outcome_is_unique_but_for_flow net from to (Err refusal) (Err other) first second = let e = error_is_unique net from to refusal (Err other) first second in cc

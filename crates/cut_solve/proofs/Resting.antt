@@ -33,8 +33,8 @@ module _ (net : FlowNetwork) (is : IsFlowNetwork net) where
     | inr none ↦ inr (λ v. false_from_ne_true (is_active net s v) (λ t. both_ways (is_active net s v) (none v (active_from net s v t).low) t))
   ]
 
-  step_at : (s : State) → IsValidPreflow net s → HasActive s → (step : Step) × (applies net s step ≡ true)
-  step_at s kept (v, t) = elim (progress net s v kept (active_from net s v t)) [
+  residual_arc_at : (s : State) → IsValidPreflow net s → HasActive s → (step : Step) × (applies net s step ≡ true)
+  residual_arc_at s kept (v, t) = elim (progress net s v kept (active_from net s v t)) [
     | inl w ↦ (Push w.0, w.3)
     | inr w ↦ (Relabel v, ap (λ o. is_some o) w.1)
   ]
@@ -43,7 +43,7 @@ module _ (net : FlowNetwork) (is : IsFlowNetwork net) where
   Rests = (events : List Event) × IsQuiet net (run net (opening net) events)
 
   next_at : (history : List Event) → HasActive (run net (opening net) history) → (step : Step) × (applies net (run net (opening net) history) step ≡ true)
-  next_at history active = step_at (run net (opening net) history) (runs_keep net history is) active
+  next_at history active = residual_arc_at (run net (opening net) history) (runs_keep net history is) active
 
   rests_within : (fuel : ℕ) (history : List Event) → is_legal net (opening net) history ≡ true → max_steps net ≤ length history + fuel → Rests
   rests_within zero history legal enough = elim (active_or_quiet (run net (opening net) history)) [

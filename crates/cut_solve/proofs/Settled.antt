@@ -11,7 +11,7 @@ use Rattle.cut_net.specs.Lines.{flow_by, IsAscending}
 use Rattle.cut_net.specs.WellFormed.{IsNetwork}
 use Rattle.cut_net.proofs.ListSums.{sum_by-same}
 use Rattle.cut_part.specs.Apart.{flow_lines}
-use Rattle.cut_part.specs.CapacityReduction.{ends_of, import_in, IsBarred, DependsOnEndsOnly, IsMaxFlow}
+use Rattle.cut_part.specs.CapacityReduction.{ends_of, import_in, IsUnreachable, DependsOnEndsOnly, IsMaxFlow}
 use Rattle.cut_part.specs.Reversal.{reversed_flow, reversed, reversed_net}
 use Rattle.cut_part.proofs.Apart.{ascending_apart, flow_by_number}
 use Rattle.cut_part.proofs.CapacityReduction.{at_numbers, by_lines, greatest_back, renumbering, same_pair}
@@ -126,27 +126,27 @@ turned_lines (i ∷ more) [] = refl
 turned_lines (i ∷ more) (f ∷ flow) = ap (λ v. reversed (record { from = i.from; to = i.to; amount = f }) ∷ v) (turned_lines more flow)
 
 module _ (net : Network) (a b : ℕ) (is : IsNetwork net) (ends : AreEnds net a b) (imports : List Priced) (source sink : ℕ) (start : IsPreflowInput net a b imports source sink) (s : State) where
-  abbrev reduction : List Priced
-  reduction = start.reduction
+  abbrev reduced_imports : List Priced
+  reduced_imports = start.reduced_imports
 
   abbrev on_narrow : Priced → ℕ
-  on_narrow = flow_by (flow_lines reduction s.flow)
+  on_narrow = flow_by (flow_lines reduced_imports s.flow)
 
   -- a maximum flow of the narrowed network
-  narrow_greatest : (value : ℕ) → IsMaxFlow (with_imports net reduction) a b on_narrow value → IsMaxFlow net a b (flow_by (flow_lines net.imports s.flow)) value
+  narrow_greatest : (value : ℕ) → IsMaxFlow (with_imports net reduced_imports) a b on_narrow value → IsMaxFlow net a b (flow_by (flow_lines net.imports s.flow)) value
   narrow_greatest value greatest =
-      let size : length reduction ≡ length net.imports = sym (length-map reduction _) ∙ ap length start.reduced_capacities.ends ∙ length-map net.imports _ in
-      subst (λ lines. IsMaxFlow net a b (flow_by lines) value) (lines_by_ends reduction net.imports s.flow start.reduced_capacities.ends size)
-      (greatest_back net (with_imports net reduction) a b start.reduced_capacities on_narrow value (by_lines (flow_lines reduction s.flow)) greatest)
+      let size : length reduced_imports ≡ length net.imports = sym (length-map reduced_imports _) ∙ ap length start.reduced_capacities.ends ∙ length-map net.imports _ in
+      subst (λ lines. IsMaxFlow net a b (flow_by lines) value) (lines_by_ends reduced_imports net.imports s.flow start.reduced_capacities.ends size)
+      (greatest_back net (with_imports net reduced_imports) a b start.reduced_capacities on_narrow value (by_lines (flow_lines reduced_imports s.flow)) greatest)
 
   -- the same of it reversed
-  turned_greatest : (value : ℕ) → IsMaxFlow (reversed_net (with_imports net reduction)) b a (flow_by (flow_lines (map reversed reduction) s.flow)) value →
+  turned_greatest : (value : ℕ) → IsMaxFlow (reversed_net (with_imports net reduced_imports)) b a (flow_by (flow_lines (map reversed reduced_imports) s.flow)) value →
       IsMaxFlow net a b (flow_by (flow_lines net.imports s.flow)) value
   turned_greatest value greatest =
-      let flows : flow_by (flow_lines (map reversed reduction) s.flow) ≡ reversed_flow on_narrow =
-      (λ i v. ap (λ lines. flow_by lines v) (turned_lines reduction s.flow) i) ∙ (λ i v. lines_turned (flow_lines reduction s.flow) v i) in
-      narrow_greatest value (greatest_round_back (with_imports net reduction) a b on_narrow value (narrow_between net a b is imports source sink start) ends.to_in ends.apart
-      (subst (λ g. IsMaxFlow (reversed_net (with_imports net reduction)) b a g value) flows greatest))
+      let flows : flow_by (flow_lines (map reversed reduced_imports) s.flow) ≡ reversed_flow on_narrow =
+      (λ i v. ap (λ lines. flow_by lines v) (turned_lines reduced_imports s.flow) i) ∙ (λ i v. lines_turned (flow_lines reduced_imports s.flow) v i) in
+      narrow_greatest value (greatest_round_back (with_imports net reduced_imports) a b on_narrow value (narrow_between net a b is imports source sink start) ends.to_in ends.apart
+      (subst (λ g. IsMaxFlow (reversed_net (with_imports net reduced_imports)) b a g value) flows greatest))
 
   -- a flow of what the preflow started on, whose residual imports don't lead to the sink
   abbrev Settles : List Priced → ℕ → ℕ → Type 0
@@ -155,8 +155,8 @@ module _ (net : Network) (a b : ℕ) (is : IsNetwork net) (ends : AreEnds net a 
 
   pub settled_flow : Settles imports source sink
   settled_flow = either_way net a b imports source sink start Settles
-      (λ has shut. (_, narrow_greatest _ (record { is_flow = has (with_imports net reduction) refl; barred = shut (with_imports net reduction) refl })))
-      (λ has shut. (_, turned_greatest _ (record { is_flow = has (reversed_net (with_imports net reduction)) refl; barred = shut (reversed_net (with_imports net reduction)) refl })))
+      (λ has shut. (_, narrow_greatest _ (record { is_flow = has (with_imports net reduced_imports) refl; barred = shut (with_imports net reduced_imports) refl })))
+      (λ has shut. (_, turned_greatest _ (record { is_flow = has (reversed_net (with_imports net reduced_imports)) refl; barred = shut (reversed_net (with_imports net reduced_imports)) refl })))
 
 -- a flow of a network with lower weights is one of the network
 module _ (old new : Network) (a b : ℕ) (ends : ends_of new.imports ≡ ends_of old.imports) (reduced : (k : ℕ) → (import_in new.imports k).amount ≤ (import_in old.imports k).amount) where
@@ -202,7 +202,7 @@ module _ (net : Network) (a b : ℕ) (is : IsNetwork net) (ends : AreEnds net a 
       let on = flow_by (flow_lines imports s.flow) in
       let value = value_of (network_on (length net.names) imports source sink) s in
       let flow : IsFlow there source sink on value = has there refl in
-      elim below.way [
+      elim below.direction [
         | inl w ↦ (value, forth w.0 value (subst (λ (m : ℕ). IsFlow there m b on value) w.1 (subst (λ (k : ℕ). IsFlow there source k on value) w.2 flow)))
         | inr w ↦ (value, back w.0 value (subst (λ (m : ℕ). IsFlow there m a on value) w.1 (subst (λ (k : ℕ). IsFlow there source k on value) w.2 flow)))
       ]
@@ -240,7 +240,7 @@ module _ (net : Network) (a b : ℕ) (flow : List ℕ) (source_side : List Bool)
   settled_greatest value is missed = greatest_by net (arcs_with_flow net.imports flow) a b value (imports_are net flow searched.same up) up a_in
       (same_flow net a b (flow_by (flow_lines net.imports flow)) (flow_on (arcs_with_flow net.imports flow)) (agree net flow searched.same up) value is) source_side searched.reached searched.closed (searched.end ∙ missed)
 
-  pub settled_end : IsBarred net (flow_by (flow_lines net.imports flow)) a b → came ≡ false
+  pub settled_end : IsUnreachable net (flow_by (flow_lines net.imports flow)) a b → came ≡ false
   settled_end barred = sym searched.end ∙ end_unmarked net (arcs_with_flow net.imports flow) a b (imports_are net flow searched.same up) up a_in (
     barred.0,
     record {

@@ -17,7 +17,7 @@ use Rattle.cut_net.proofs.PinChains.{least_of_pins, same_pins}
 use Rattle.cut_net.proofs.Pinned.{answer_is, cheapest_said, no_cut}
 use Rattle.cut_net.proofs.Places.{index_takes}
 use Rattle.cut_part.specs.Apart.{flow_lines}
-use Rattle.cut_part.specs.CapacityReduction.{IsBarred}
+use Rattle.cut_part.specs.CapacityReduction.{IsUnreachable}
 use Rattle.cut_part.proofs.Greatest.{end_unreached}
 use Rattle.cut_preflow.specs.Preflow.{State, opening, run}
 use Rattle.cut_preflow.specs.Kept.{IsFlowNetwork, IsQuiet, IsValidPreflow}
@@ -55,7 +55,7 @@ module _ (net : Network) (a b : ℕ) (is : IsNetwork net) (ends : AreEnds net a 
         same_flow net a b (flow_by (flow_lines net.imports s.flow)) (flow_on arcs) (agree net s.flow kept.flows is.imports_ascend) (value_of (network_between net a b) s)
         (flowing.has_flow net a b s of kept.flows kept quiet)
 
-    barred : IsBarred net (flow_on arcs) a b
+    barred : IsUnreachable net (flow_on arcs) a b
     barred =
         let shut = flowing.shut_off net a b s of kept.flows kept quiet in (
           shut.0,
@@ -121,8 +121,8 @@ module _ (net : Network) (a b : ℕ) (is : IsNetwork net) (ends : AreEnds net a 
         (claim, answer_is net a b pins none claim answer least, cheapest_said net a b pins none claim answer least)
   ]
 
-pub some_outcome : (net : Network) (from to : List ℕ) → IsNetwork net → ArePins net → (o : Result AnswerClaim SolveError) × IsSolveOutcome net from to o
-some_outcome net from to is pins = go (index_of net from) (index_of net to) refl refl
+pub outcome_exists : (net : Network) (from to : List ℕ) → IsNetwork net → ArePins net → (o : Result AnswerClaim SolveError) × IsSolveOutcome net from to o
+outcome_exists net from to is pins = go (index_of net from) (index_of net to) refl refl
   where
     go : (first second : Option ℕ) → index_of net from ≡ first → index_of net to ≡ second → (o : Result AnswerClaim SolveError) × IsSolveOutcome net from to o
     go None second from_is to_is = (Err (NoSuchModule from), inl (from_is, refl))

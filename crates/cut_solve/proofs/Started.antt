@@ -27,10 +27,10 @@ use Rattle.cut_solve.specs.Starts.{HasReducedWeights, IsReducedFrom, IsPreflowIn
 
 -- a property of both directions holds of the input
 pub either_way : (net : Network) (a b : ℕ) (imports : List Priced) (source sink : ℕ) (start : IsPreflowInput net a b imports source sink) (P : List Priced → ℕ → ℕ → Type 0) →
-    P start.reduction a b → P (map reversed start.reduction) b a → P imports source sink
-either_way net a b imports source sink start P forth back = elim start.way [
-  | inl w ↦ subst (λ v. P v source sink) (sym w.0) (subst (λ m. P start.reduction m sink) (sym w.1) (subst (P start.reduction a) (sym w.2) forth))
-  | inr w ↦ subst (λ v. P v source sink) (sym w.0) (subst (λ m. P (map reversed start.reduction) m sink) (sym w.1) (subst (P (map reversed start.reduction) b) (sym w.2) back))
+    P start.reduced_imports a b → P (map reversed start.reduced_imports) b a → P imports source sink
+either_way net a b imports source sink start P forth back = elim start.direction [
+  | inl w ↦ subst (λ v. P v source sink) (sym w.0) (subst (λ m. P start.reduced_imports m sink) (sym w.1) (subst (P start.reduced_imports a) (sym w.2) forth))
+  | inr w ↦ subst (λ v. P v source sink) (sym w.0) (subst (λ m. P (map reversed start.reduced_imports) m sink) (sym w.1) (subst (P (map reversed start.reduced_imports) b) (sym w.2) back))
 ]
 
 same_length : (xs ys : List Priced) → ends_of xs ≡ ends_of ys → length xs ≡ length ys
@@ -63,8 +63,8 @@ flow_network n imports a b between are a_in b_in apart = record {
   apart_ends = are;
 }
 
-pub narrow_between : (net : Network) (a b : ℕ) → IsNetwork net → (imports : List Priced) (source sink : ℕ) (start : IsPreflowInput net a b imports source sink) → AreBetween start.reduction (length net.names)
-narrow_between net a b is imports source sink start = still_between start.reduction net.imports (length net.names) start.reduced_capacities.ends is.between
+pub narrow_between : (net : Network) (a b : ℕ) → IsNetwork net → (imports : List Priced) (source sink : ℕ) (start : IsPreflowInput net a b imports source sink) → AreBetween start.reduced_imports (length net.names)
+narrow_between net a b is imports source sink start = still_between start.reduced_imports net.imports (length net.names) start.reduced_capacities.ends is.between
 
 -- the ends of imports that were reversed
 swapped : Edge → Edge
@@ -83,15 +83,15 @@ turned_amount xs k = ap (λ (i : Priced). i.amount) (get_or-map_all reversed xs 
 
 -- what a preflow starts on has no weight higher
 pub start_below : (net : Network) (a b : ℕ) (imports : List Priced) (source sink : ℕ) → IsPreflowInput net a b imports source sink → HasReducedWeights net a b imports source sink
-start_below net a b imports source sink start = elim start.way [
+start_below net a b imports source sink start = elim start.direction [
   | inl w ↦ record {
     reduced = λ k. subst (λ v. (import_in v k).amount ≤ (import_in net.imports k).amount) (sym w.0) (start.reduced_capacities.reduced k);
-    way = inl (ap ends_of w.0 ∙ start.reduced_capacities.ends, w.1, w.2);
+    direction = inl (ap ends_of w.0 ∙ start.reduced_capacities.ends, w.1, w.2);
   }
   | inr w ↦ record {
     reduced = λ k. subst (λ v. (import_in v k).amount ≤ (import_in net.imports k).amount) (sym w.0)
-        (subst (λ n. n ≤ (import_in net.imports k).amount) (sym (turned_amount start.reduction k)) (start.reduced_capacities.reduced k));
-    way = inr (ap ends_of w.0 ∙ turned_ends start.reduction net.imports start.reduced_capacities.ends, w.1, w.2);
+        (subst (λ n. n ≤ (import_in net.imports k).amount) (sym (turned_amount start.reduced_imports k)) (start.reduced_capacities.reduced k));
+    direction = inr (ap ends_of w.0 ∙ turned_ends start.reduced_imports net.imports start.reduced_capacities.ends, w.1, w.2);
   }
 ]
 
@@ -99,11 +99,11 @@ start_below net a b imports source sink start = elim start.way [
 pub lowered_below : (net : Network) (a b : ℕ) (old new : List Priced) (source sink : ℕ) → HasReducedWeights net a b old source sink → IsReducedFrom old new → HasReducedWeights net a b new source sink
 lowered_below net a b old new source sink below low = record {
   reduced = λ k. let one = low.reduced k in let two = below.reduced k in omega arith;
-  way = elim below.way [ inl w ↦ inl (low.ends ∙ w.0, w.1, w.2) | inr w ↦ inr (low.ends ∙ w.0, w.1, w.2) ];
+  direction = elim below.direction [ inl w ↦ inl (low.ends ∙ w.0, w.1, w.2) | inr w ↦ inr (low.ends ∙ w.0, w.1, w.2) ];
 }
 
 pub below_between : (net : Network) (a b : ℕ) → IsNetwork net → (imports : List Priced) (source sink : ℕ) → HasReducedWeights net a b imports source sink → AreBetween imports (length net.names)
-below_between net a b is imports source sink below = elim below.way [
+below_between net a b is imports source sink below = elim below.direction [
   | inl w ↦ still_between imports net.imports (length net.names) w.0 is.between
   | inr w ↦ still_between imports (map reversed net.imports) (length net.names) w.0 (between_turned net.imports (length net.names) is.between)
 ]
@@ -115,7 +115,7 @@ module _ (net : Network) (a b : ℕ) (is : IsNetwork net) (ends : AreEnds net a 
       let reversed_imports = map reversed net.imports in
       let up = ascending_apart net.imports is.imports_ascend in
       let between = below_between net a b is imports source sink below in
-      elim below.way [
+      elim below.direction [
         | inl w ↦ subst (λ m. IsFlowNetwork (network_on n imports m sink)) (sym w.1) (subst (λ k. IsFlowNetwork (network_on n imports a k)) (sym w.2)
             (flow_network n imports a b between (apart_by_ends imports net.imports w.0 up) ends.from_in ends.to_in ends.apart))
         | inr w ↦ subst (λ m. IsFlowNetwork (network_on n imports m sink)) (sym w.1) (subst (λ k. IsFlowNetwork (network_on n imports b k)) (sym w.2)
@@ -124,7 +124,7 @@ module _ (net : Network) (a b : ℕ) (is : IsNetwork net) (ends : AreEnds net a 
       ]
 
   pub below_size : length imports ≡ length net.imports
-  below_size = elim below.way [
+  below_size = elim below.direction [
     | inl w ↦ same_length imports net.imports w.0
     | inr w ↦ same_length imports (map reversed net.imports) w.0 ∙ length-map net.imports reversed
   ]

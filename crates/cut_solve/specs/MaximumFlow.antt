@@ -1,4 +1,4 @@
--- A maximum flow, by what the source reaches in its residual graph (Goldberg and Tarjan 1988, section 2).
+-- A maximum flow, defined by what the source reaches in the flow's residual graph (Goldberg and Tarjan 1988, section 2).
 use Rattle.std.specs.Prelude.{◌≡◌, ℕ, ◌<◌, Bool, false, List, length, All}
 use Rattle.cut_net.specs.declared.priced.Priced.{Priced}
 use Rattle.cut_net.specs.Network.{Network}
@@ -6,7 +6,8 @@ use Rattle.cut_net.specs.Cuts.{IsSetOf, IsFlow, Reached}
 use Rattle.cut_net.specs.Lines.{flow_by, AreImportsInOrder}
 use Rattle.residual_graph.specs.Graphs.{is_flagged}
 
--- the lines are a flow from a to b, and the flags are those of the modules that a reaches in the residual graph, which b isn't
+-- `flow` is a flow from a to b. `source_side` flags exactly the modules that a reaches in the flow's residual graph, and b isn't one of
+-- them
 pub record IsMaximumFlow (net : Network) (a b : ℕ) (source_side : List Bool) (flow : List Priced) : Type 0 where
   pub size : length source_side ≡ length net.names
   pub reached : IsSetOf (is_flagged source_side) (Reached net (flow_by flow) a)

@@ -3,7 +3,7 @@ use Rattle.std.specs.Prelude.{ℕ, List, [], ◌∷◌}
 use Rattle.cut_net.specs.declared.priced.Priced.{Priced}
 use Rattle.residual_graph.specs.declared.arc.Arc.{Arc}
 
--- the imports as arcs, each with the flow of its number
+-- the imports as arcs, with the weights as capacities; the k-th arc has the k-th flow of the list
 abbrev pub arcs_with_flow : List Priced → List ℕ → List Arc
 arcs_with_flow [] flow = []
 arcs_with_flow (i ∷ more) [] = []

@@ -10,8 +10,8 @@ use Rattle.cut_net.specs.Pins.{IsAnswerWithPins, IsCheapestAnswerWithPins}
 use Rattle.cut_solve.specs.declared.fault.SolveFault.{SolveFault}
 use Rattle.cut_solve.specs.declared.fault.SolveFault.TheVariants as faults
 
--- a and b are two modules, and the answer is a cheapest cut between them, of unpinned imports, with its weight and a flow of that value;
--- or it is the shortest path of pinned imports, exactly if one leads from a to b, and then no cut exists
+-- the names denote two different modules a and b. If no path of pinned imports leads from a to b, the claim is a cheapest cut of unpinned
+-- imports, with its weight and a flow of that value. Otherwise it is the shortest path of pinned imports, and no cut exists
 pub record IsSolved (net : Network) (from to : List ℕ) (claim : AnswerClaim) : Type 0 where
   pub a : ℕ
   pub b : ℕ
@@ -21,13 +21,14 @@ pub record IsSolved (net : Network) (from to : List ℕ) (claim : AnswerClaim) :
   pub answer : IsAnswerWithPins net a b claim
   pub cheapest : IsCheapestAnswerWithPins net a b claim
 
--- each reported import is needed: without the others a path still leads from a to b; an answer with a path of pinned imports reports none
+-- each reported import is needed: if only the other reported imports are removed, a path still leads from a to b. An answer with a path of
+-- pinned imports reports no import
 abbrev pub IsEachNeeded : Network → ℕ → ℕ → AnswerClaim → Type 0
 IsEachNeeded net a b (CutOf total printed flow) =
     (i : Priced) → Contains net.imports i → removed_by printed i ≡ true → Chain net.imports (Outside (without (removed_by printed) i)) a b
 IsEachNeeded net a b (BlockedBy chain) = Unit {0}
 
--- each import of the answer is needed for the modules of the two names
+-- each import that the answer reports is needed, for the two modules that the names denote
 abbrev pub AreNeeded : Network → List ℕ → List ℕ → AnswerClaim → Type 0
 AreNeeded net from to claim = (a b : ℕ) → index_of net from ≡ Some a → index_of net to ≡ Some b → IsEachNeeded net a b claim
 
@@ -37,17 +38,17 @@ pub record IsSameModule (net : Network) (from to : List ℕ) : Type 0 where
   pub from_is : index_of net from ≡ Some a
   pub to_is : index_of net to ≡ Some a
 
--- the name is the first of the two that no module has
+-- `name` is the first of the names `from` and `to` that no module has
 abbrev pub IsFirstUnknown : Network → List ℕ → List ℕ → List ℕ → Type 0
 IsFirstUnknown net from to name =
     ((index_of net from ≡ None) × (name ≡ from)) ⊎ (((a : ℕ) × (index_of net from ≡ Some a)) × (index_of net to ≡ None) × (name ≡ to))
 
--- the error in the two names, which holds a name as a list of bytes
+-- an error in the two names: both denote one module, or no module has this name (a list of bytes)
 pub data SolveError : Type 0 where
   SameModule : SolveError
   NoSuchModule : List ℕ → SolveError
 
--- the outcome holds for the names: a cut, a path of pinned imports, or the error in the names
+-- this is an outcome for the two names: the right answer (a cut or a path of pinned imports), or the error in the names
 abbrev pub IsSolveOutcome : Network → List ℕ → List ℕ → Result AnswerClaim SolveError → Type 0
 IsSolveOutcome net from to (Ok claim) = IsSolved net from to claim
 IsSolveOutcome net from to (Err SameModule) = IsSameModule net from to
@@ -60,16 +61,16 @@ AreEqualAnswers (BlockedBy chain) (BlockedBy other) = chain ≡ other
 AreEqualAnswers (CutOf total printed flow) (BlockedBy chain) = ⊥
 AreEqualAnswers (BlockedBy chain) (CutOf total printed flow) = ⊥
 
--- the outcomes are equal answers but for the flow, or equal errors
+-- the outcomes are answers with equal cuts and weights or equal paths, or they are equal errors
 abbrev pub AreEqualOutcomes : Result AnswerClaim SolveError → Result AnswerClaim SolveError → Type 0
 AreEqualOutcomes (Ok claim) (Ok other) = AreEqualAnswers claim other
 AreEqualOutcomes (Err refusal) (Err other) = refusal ≡ other
 AreEqualOutcomes (Ok claim) (Err refusal) = ⊥
 AreEqualOutcomes (Err refusal) (Ok claim) = ⊥
 
--- the number of the module of this name, or that there is none
-abbrev pub IsModuleOr : Network → List ℕ → Result ℕ SolveFault → Type 0
-IsModuleOr net name (Ok module_) = index_of net name ≡ Some module_
-IsModuleOr net name (Err faults.SameModule) = ⊥
-IsModuleOr net name (Err (faults.NoSuchModule unknown)) = (index_of net name ≡ None) × (string_bytes unknown ≡ name)
-IsModuleOr net name (Err faults.Memory) = Unit {0}
+-- the result is the number of the module with this name; or `NoSuchModule`, and no module has it; or `Memory`
+abbrev pub IsModuleLookup : Network → List ℕ → Result ℕ SolveFault → Type 0
+IsModuleLookup net name (Ok module_) = index_of net name ≡ Some module_
+IsModuleLookup net name (Err faults.SameModule) = ⊥
+IsModuleLookup net name (Err (faults.NoSuchModule unknown)) = (index_of net name ≡ None) × (string_bytes unknown ≡ name)
+IsModuleLookup net name (Err faults.Memory) = Unit {0}

@@ -7,7 +7,8 @@ use Rattle.cut_preflow.specs.Preflow.{applies}
 use Rattle.cut_preflow.specs.Trace.{state_of, step_outcome, history_after}
 use Rattle.cut_preflow.specs.Shares.{Shared, count_after}
 
--- the event was tried, with one of its outcomes: if it applied, the history has it, and the book and the worker's count are higher by one
+-- `new` is the preflow after the event was tried. If the event's step was applied, the event is appended to the history, and the ledger's
+-- total and the worker's count (`before`, `after`) are higher by one
 pub record IsTried (event : Event) (old new : Shared) (before after : ℕ) : Type 0 where
   pub outcome : Outcome
   pub is : outcome ≢ Refused → outcome ≡ step_outcome old.trace.net (state_of old.trace) event.step
@@ -15,7 +16,7 @@ pub record IsTried (event : Event) (old new : Shared) (before after : ℕ) : Typ
   pub left : new ≡ record old { trace = record old.trace { history = history_after old.trace.history event outcome }; counted = count_after old.counted outcome }
   pub counted : after ≡ count_after before outcome
 
--- the event is this worker's, and applies to the state
+-- the event is this worker's, and its step can be applied in the preflow's current state
 pub record CanTry (shared : Shared) (worker : ℕ) (event : Event) : Type 0 where
   pub own : event.worker ≡ worker
   pub applies_now : applies shared.trace.net (state_of shared.trace) event.step ≡ true

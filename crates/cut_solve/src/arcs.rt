@@ -1,4 +1,4 @@
-//! Conversions between imports and the arcs of a residual graph.
+//! Conversions between the imports of a network and the arcs of a residual graph.
 ghost use Rattle.std.specs.Prelude.{◌≡◌, IfOk, filter, length, map};
 ghost use Rattle.cut_solve.specs.Lines.{arc_without_flow, has_flow, flow_line};
 
@@ -6,7 +6,7 @@ use cut_net::{Net, Priced};
 use residual_graph::{Arc, ResidualGraph};
 use std::alloc::{AllocError, Global};
 
-/// For each import an arc without flow, whose capacity is the import's weight.
+/// For each import, in order, an arc without flow, whose capacity is the import's weight.
 pub(crate) fn arcs_of(alloc: Global, imports: &[Priced]) -> Result<Vec<Arc>, AllocError>
     ensures { IfOk result (λ arcs. arcs.items ≡ map arc_without_flow imports.now) }
 {
@@ -25,7 +25,7 @@ pub(crate) fn arcs_of(alloc: Global, imports: &[Priced]) -> Result<Vec<Arc>, All
 /// The residual graph of a network without flow: for each import an arc whose capacity is the import's weight. Fails if an allocation
 /// fails.
 pub fn graph_of(alloc: Global, net: &Net) -> Result<ResidualGraph, AllocError>
-    // The nodes are the modules, and the arcs the imports in their order.
+    // With `Ok` the graph's nodes are the modules, and its arcs are the imports in their order, without flow.
     ensures { IfOk result (λ graph. graph ≡ record { nodes = length net.now.names; arcs = map arc_without_flow net.now.imports }) }
 {
     net.invariants();
@@ -33,7 +33,7 @@ pub fn graph_of(alloc: Global, net: &Net) -> Result<ResidualGraph, AllocError>
     ResidualGraph::new(alloc, arcs, net.nodes())
 }
 
-/// For each arc an import whose amount is the arc's flow.
+/// For each arc, in order, an import between the same modules whose amount is the arc's flow.
 pub(crate) fn flow_per_arc(alloc: Global, arcs: &[Arc]) -> Result<Vec<Priced>, AllocError>
     ensures { IfOk result (λ imports. imports.items ≡ map flow_line arcs.now) }
 {
@@ -48,9 +48,9 @@ pub(crate) fn flow_per_arc(alloc: Global, arcs: &[Arc]) -> Result<Vec<Priced>, A
     Ok(imports)
 }
 
-/// The arcs with flow, as imports whose amount is the flow. Fails if an allocation fails.
+/// The arcs with a flow above 0, as imports whose amount is the flow. Fails if an allocation fails.
 pub fn nonzero_flow(alloc: Global, arcs: &[Arc]) -> Result<Vec<Priced>, AllocError>
-    // They are exactly the arcs with flow above 0, in their order.
+    // With `Ok` the result has exactly the arcs with a flow above 0, in their order.
     ensures { IfOk result (λ flow. flow.items ≡ filter has_flow (map flow_line arcs.now)) }
 {
     let mut flow = Vec::new(alloc);

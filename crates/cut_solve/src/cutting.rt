@@ -8,8 +8,8 @@ use crate::reporting::{reported_imports, sink_side_of, weight_of};
 use cut_net::{Cut, Net, Priced};
 use std::alloc::{AllocError, Global};
 
-/// The reported cut for a maximum flow between two modules: the imports with their weights, the sum of the weights, and the flow.
-/// `source_side` has a flag for each module that `from` reaches in the residual graph. Fails if an allocation fails.
+/// The cut to report for a maximum flow between two modules: its imports with their weights, the sum of the weights, and the flow.
+/// `source_side` has a flag for each module, whether `from` reaches it in the residual graph. Fails if an allocation fails.
 pub fn minimum_cut(
     alloc: Global,
     net: &Net,
@@ -22,11 +22,11 @@ pub fn minimum_cut(
     requires from { from < length net.now.names }
     // `to` is a module.
     requires to { to < length net.now.names }
-    // The flow is maximum, and `source_side` has the modules that `from` reaches in its residual graph.
+    // The flow is maximum, and `source_side` flags exactly the modules that `from` reaches in the flow's residual graph.
     requires greatest { IsMaximumFlow net.now from to source_side.now flow.items }
-    // The cut is the reported one by its definition, with its weight and the flow.
+    // With `Ok` the cut has exactly the imports to report, their weight and the flow.
     ensures answer { IfOk result (λ cut. IsAnswer net.now from to (cut_claim cut)) }
-    // No set of imports that is a cut weighs less.
+    // With `Ok` no set of imports that is a cut weighs less.
     ensures cheapest { IfOk result (λ cut. IsCheapestAnswer net.now from to (cut_claim cut)) }
 {
     net.invariants();

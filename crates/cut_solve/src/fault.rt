@@ -1,9 +1,9 @@
-//! Why the solver returns no answer.
+//! The errors of the solver.
 
 use std::alloc::AllocError;
 use thiserror::Error;
 
-/// An error in the two names, or a failed allocation.
+/// An error of the solver: an error in the two names of modules, or a failed allocation.
 #[derive(Debug, Drop, Error)]
 pub enum SolveFault {
     /// Both names denote one module.

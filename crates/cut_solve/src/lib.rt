@@ -1,8 +1,8 @@
-//! Cheapest cuts: the imports to remove, and a flow that proves that no cut is cheaper, or the path of pinned imports because of which
-//! there is none. The algorithm is push-relabel (Goldberg and Tarjan 1988) by many threads on one locked preflow. Depends on `cut_part`
-//! for smaller networks, `initial_flow` for an initial flow, `cut_preflow` for steps, `residual_graph` for the final search. The main call
-//! is
-//! `solve`. It promises the reported cut by its definition, its weight and a flow of that value, for every schedule.
+//! Cheapest cuts: the imports to remove, with a flow that proves that no cut is cheaper; or a path of pinned imports, because of which no
+//! cut exists. The algorithm is push-relabel (Goldberg and Tarjan 1988) by many threads on one locked preflow.
+//! Depends on `cut_part` for smaller networks, `initial_flow` for an initial flow, `cut_preflow` for steps, and `residual_graph` for the
+//! final search. The main call is `solve`. For every schedule of its threads it returns the one canonical minimum cut, its weight and a
+//! flow of that value.
 #![tactic(auto)]
 
 mod arcs;

@@ -1,7 +1,7 @@
 //! A gate that does nothing.
 use crate::Gate;
 
-/// A gate that returns at once, for every worker.
+/// A gate that returns at once, so that no worker is delayed between two critical sections.
 #[derive(Drop)]
 pub struct OpenGate;
 

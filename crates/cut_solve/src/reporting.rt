@@ -1,4 +1,4 @@
-//! The reported imports: those that leave the minimal source side, if the imported module reaches the sink outside of it.
+//! The reported imports: the imports that leave the minimal source side and whose imported module reaches the sink outside of that side.
 ghost use Rattle.std.specs.Prelude.{ℕ, ◌≡◌, ◌<◌, ◌^◌, ◌↔◌, true, IfOk, filter, length, map, sum_by};
 ghost use Rattle.cut_net.specs.Cuts.{leaves, Chain, Outside};
 ghost use Rattle.cut_net.specs.WellFormed.{AreBetween};
@@ -9,7 +9,7 @@ use cut_net::Priced;
 use residual_graph::{Arc, flag_reachable};
 use std::alloc::{AllocError, Global};
 
-/// Whether the import leaves the minimal source side.
+/// Whether the import leads from a module in `source_side`, the minimal source side, to a module outside of it.
 fn leaves(i: Priced, source_side: &[bool]) -> bool
     requires from { i.from < length source_side.now }
     requires to { i.to < length source_side.now }
@@ -18,7 +18,7 @@ fn leaves(i: Priced, source_side: &[bool]) -> bool
     source_side[i.from as usize] && !source_side[i.to as usize]
 }
 
-/// For each import the reversed arc, with capacity exactly if the import doesn't leave the minimal source side.
+/// For each import, in order, the reversed arc, with capacity 0 if the import leaves the minimal source side, otherwise 1.
 fn reversed_arcs(
     alloc: Global,
     imports: &[Priced],
@@ -40,7 +40,7 @@ fn reversed_arcs(
     Ok(arcs)
 }
 
-/// Flags the modules that reach the sink by imports that don't leave the minimal source side.
+/// For each module a flag, whether it reaches the sink `to` by imports that don't leave the minimal source side.
 pub(crate) fn sink_side_of(
     alloc: Global,
     imports: &[Priced],
@@ -52,6 +52,7 @@ pub(crate) fn sink_side_of(
     requires source_side { length source_side.now ≡ nodes }
     requires to { to < nodes }
     ensures size { IfOk result (λ sink_side. length sink_side.items ≡ nodes) }
+    // With `Ok` exactly the modules from which a path of such imports leads to `to` are flagged.
     ensures sink_side { IfOk result (λ sink_side. (m : ℕ) → (is_flagged sink_side.items m ≡ true) ↔ Chain imports.now (Outside (leaves (is_flagged source_side.now))) m to) }
 {
     let arcs = reversed_arcs(alloc, imports, source_side)?;
@@ -59,7 +60,7 @@ pub(crate) fn sink_side_of(
     Ok(sink_side)
 }
 
-/// Whether the import is reported: it leaves the minimal source side, and the imported module reaches the sink outside of it.
+/// Whether the import is reported: it leaves the minimal source side, and the imported module reaches the sink outside of that side.
 fn is_reported_import(i: Priced, source_side: &[bool], sink_side: &[bool]) -> bool
     requires from { i.from < length source_side.now }
     requires to { i.to < length source_side.now }
@@ -69,7 +70,8 @@ fn is_reported_import(i: Priced, source_side: &[bool], sink_side: &[bool]) -> bo
     leaves(i, source_side) && sink_side[i.to as usize]
 }
 
-/// The reported imports, in their order.
+/// The reported imports among `imports`, in their order. `source_side` flags the minimal source side, `sink_side` the modules that reach
+/// the sink by imports that don't leave it.
 pub(crate) fn reported_imports(
     alloc: Global,
     imports: &[Priced],
@@ -89,7 +91,7 @@ pub(crate) fn reported_imports(
     Ok(printed)
 }
 
-/// The sum of the weights.
+/// The sum of the weights of the imports.
 pub(crate) fn weight_of(imports: &[Priced]) -> u64
     requires { sum_by (λ i. i.amount) imports.now < 2 ^ 64 }
     ensures { result ≡ sum_by (λ i. i.amount) imports.now }

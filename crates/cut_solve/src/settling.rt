@@ -1,4 +1,7 @@
-//! The last step of the solver: the calling thread completes the preflow, and its flow gives the cut.
+//! The last step of the solver: the calling thread completes the preflow, and a search in the flow's residual graph gives the cut.
+//! Clauses: `start` states that the preflow's capacities are at most the network's weights. `answer` and `cheapest`: with a cut, it is the
+//! one to report, and no cut weighs less. `found`: if the preflow's capacities allow each flow from `from` to `to`, the result isn't
+//! `None`.
 ghost use Rattle.std.specs.Prelude.{◌≡◌, ◌≤◌, IfOk, IfSome, IsSome, length};
 ghost use Rattle.cut_net.specs.Answers.{cut_claim};
 ghost use Rattle.cut_net.specs.Lines.{IsAnswer, IsCheapestAnswer};
@@ -16,7 +19,7 @@ use cut_preflow::{NetworkLedger, Preflow};
 use residual_graph::{Arc, flag_reachable};
 use std::alloc::{AllocError, Global};
 
-/// The imports as arcs, each with the flow of the preflow on the import of its number.
+/// For each import, in order, an arc with the import's weight as capacity and the preflow's flow on this import as flow.
 fn arcs_with_flow<L: NetworkLedger>(
     alloc: Global,
     imports: &[Priced],
@@ -40,9 +43,9 @@ fn arcs_with_flow<L: NetworkLedger>(
     Ok(arcs)
 }
 
-/// The cheapest cut between two modules that the flow of a preflow without active modules gives, or none.
-/// If a search with the weights as capacities doesn't reach the second module from the first, the flow is maximum, and the search finds
-/// the minimal source side. If the capacities of the preflow allow a maximum flow, the search doesn't reach the second module.
+/// The cheapest cut between `from` and `to`, from the flow of a preflow without active modules. `None` if the flow isn't maximum in the
+/// network: if a search in its residual graph, with the network's weights as capacities, reaches `to` from `from`. If not, this search
+/// finds the minimal source side.
 fn cut_of_quiet_preflow<L: NetworkLedger>(
     alloc: Global,
     net: &Net,
@@ -70,9 +73,9 @@ fn cut_of_quiet_preflow<L: NetworkLedger>(
     Ok(Some(cut))
 }
 
-/// The cheapest cut between two modules, with a flow that proves it, after the calling thread has taken the pushes and relabels that are
-/// left (Goldberg and Tarjan 1988). None if the capacities of the preflow don't allow a maximum flow.
-pub(crate) fn settle_and_cut<L: NetworkLedger>(
+/// Completes the preflow by pushes and relabels of the calling thread (Goldberg and Tarjan 1988). Returns the cheapest cut between `from`
+/// and `to`, with a flow that proves it; `None` if the preflow's capacities don't allow a maximum flow of the network.
+pub(crate) fn complete_and_cut<L: NetworkLedger>(
     alloc: Global,
     net: &Net,
     preflow: &mut Preflow<L>,

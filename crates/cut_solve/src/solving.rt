@@ -1,4 +1,6 @@
 //! The solver with many workers: pushes and relabels on one locked preflow, completed by the calling thread.
+//! Clauses: `ends` are two different modules. `start` states that capacities are at most the network's weights. `answer` and `cheapest`: a
+//! returned cut is the one to report, and no cut weighs less. `found`: if the capacities allow all flows, the result isn't `None`.
 ghost use Rattle.std.specs.Prelude.{◌≡◌, ◌≤◌, Err, IfOk, IfSome, IsSome, length};
 ghost use Rattle.cut_net.specs.Answers.{answer_claim, cut_claim};
 ghost use Rattle.cut_net.specs.Lines.{IsAnswer, IsCheapestAnswer};
@@ -9,11 +11,11 @@ ghost use Rattle.cut_solve.specs.Solving.{AreNeeded, IsSolveOutcome, SolveError}
 ghost use Rattle.cut_solve.specs.Starts.{HasReducedWeights, IsPreflowInput};
 
 use crate::blocking::{answer_of_cut, find_blocked_answer};
-use crate::initial_capacities::reduced;
+use crate::initial_capacities::reduce_to_initial_flow;
 use crate::names::module_number;
-use crate::settling::settle_and_cut;
+use crate::settling::complete_and_cut;
 use crate::start::{PreflowInput, preflow_input};
-use crate::whole::cut_in_net;
+use crate::whole::renumbered_cut;
 use crate::workers::worker;
 use crate::{Gate, Locked, SolveFault};
 use cut_net::{Answer, Cut, Net};
@@ -26,7 +28,7 @@ use std::sync::{Mutex, Wait};
 use std::thread;
 use std::thread::{JoinHandle, Threads};
 
-/// Runs a worker with a share of its own, if one is left.
+/// Runs a worker with a share of its own, and returns the share. If all 64 shares are in use, runs no worker and returns `None`.
 fn run_worker<L: NetworkLedger, R: Wait, G: Gate>(
     rt: &R,
     locked: &Locked<L>,
@@ -37,7 +39,7 @@ fn run_worker<L: NetworkLedger, R: Wait, G: Gate>(
     Some(worker(rt, locked, number, share, gate))
 }
 
-/// Joins the threads, and returns their shares to the preflow.
+/// Waits for the end of the threads, and gives their shares back to the preflow.
 fn join_all<L: NetworkLedger, R: Threads + Wait>(
     rt: &R,
     locked: &Locked<L>,
@@ -50,8 +52,8 @@ fn join_all<L: NetworkLedger, R: Threads + Wait>(
     }
 }
 
-/// Starts the workers, each in a thread, joins them, and returns their shares to the preflow. Goes on without a thread that can't be
-/// started.
+/// Starts the workers, each in a thread, waits for their end, and gives their shares back to the preflow. Leaves out a worker whose thread
+/// can't be started.
 fn run_threads<L: NetworkLedger + Send + Sync, R: Threads + Wait + Sync, G: Gate + Sync>(
     rt: &R,
     alloc: Global,
@@ -74,7 +76,7 @@ fn run_threads<L: NetworkLedger + Send + Sync, R: Threads + Wait + Sync, G: Gate
     })
 }
 
-/// The preflow after the steps of this number of workers.
+/// The preflow after `workers` threads have pushed and relabelled on it.
 fn run_workers<L: NetworkLedger + Send + Sync, R: Threads + Wait + Sync, G: Gate + Sync>(
     rt: &R,
     alloc: Global,
@@ -87,8 +89,8 @@ fn run_workers<L: NetworkLedger + Send + Sync, R: Threads + Wait + Sync, G: Gate
     Ok(locked.into_inner())
 }
 
-/// A cheapest cut between two modules, with a flow that proves it, by this number of workers on one preflow, whose ledger is that of
-/// `blank`. None if the capacities of `start` don't allow a maximum flow.
+/// A cheapest cut between the two modules `ends`, with a flow that proves it, computed by this number of workers on one preflow, whose
+/// ledger is made from `blank`. `None` if the capacities of `start` don't allow a maximum flow of the network.
 fn solve_with_ledger<L: NetworkLedger + Send + Sync, R: Threads + Wait + Sync, G: Gate + Sync>(
     rt: &R,
     alloc: Global,
@@ -118,10 +120,11 @@ fn solve_with_ledger<L: NetworkLedger + Send + Sync, R: Threads + Wait + Sync, G
     let preflow = Preflow::<L>::start_on(alloc, blank, net.nodes(), imports, source, sink)?;
     let mut preflow = run_workers(rt, alloc, preflow, workers, gate)?;
     preflow.invariants();
-    settle_and_cut(alloc, net, &mut preflow, from, to)
+    complete_and_cut(alloc, net, &mut preflow, from, to)
 }
 
-/// A cheapest cut between two modules, as `solve_with_ledger` finds it, with a new ledger.
+/// A cheapest cut between the two modules `ends`, computed by this number of workers with a new ledger. `None` if the capacities of `start`
+/// don't allow a maximum flow of the network.
 fn solve_with_new_ledger<R: Threads + Wait + Sync, G: Gate + Sync>(
     rt: &R,
     alloc: Global,
@@ -149,8 +152,8 @@ fn solve_with_new_ledger<R: Threads + Wait + Sync, G: Gate + Sync>(
     )
 }
 
-/// A cheapest cut between two modules: with capacities reduced to an initial flow, and if these don't allow a maximum flow, without the
-/// reduction.
+/// A cheapest cut between the two modules `ends`. First tries capacities reduced to an initial flow. If these don't allow a maximum flow,
+/// solves again with capacities that allow all flows.
 fn solve_reduced<R: Threads + Wait + Sync, G: Gate + Sync>(
     rt: &R,
     alloc: Global,
@@ -165,7 +168,7 @@ fn solve_reduced<R: Threads + Wait + Sync, G: Gate + Sync>(
 {
     net.invariants();
     let start = preflow_input(alloc, net, ends.0, ends.1)?;
-    let lower = reduced(alloc, net.nodes(), &start)?;
+    let lower = reduce_to_initial_flow(alloc, net.nodes(), &start)?;
     if let Some(cut) = solve_with_new_ledger(rt, alloc, lower, net, ends, workers, gate)? {
         return Ok(cut);
     }
@@ -175,7 +178,7 @@ fn solve_reduced<R: Threads + Wait + Sync, G: Gate + Sync>(
     }
 }
 
-/// A cheapest cut between two modules, found in the subnetwork of the modules on paths between them.
+/// A cheapest cut between the two modules `ends`, computed in the subnetwork of the modules on paths from the first to the second one.
 fn solve_subnetwork<R: Threads + Wait + Sync, G: Gate + Sync>(
     rt: &R,
     alloc: Global,
@@ -195,11 +198,11 @@ fn solve_subnetwork<R: Threads + Wait + Sync, G: Gate + Sync>(
         part.new_numbers[to as usize],
     );
     let cut = solve_reduced(rt, alloc, &part.net, here, workers, gate)?;
-    let whole = cut_in_net(alloc, &cut, &part.numbers)?;
+    let whole = renumbered_cut(alloc, &cut, &part.numbers)?;
     Ok(whole)
 }
 
-/// The answer for two modules: a cheapest cut, or the shortest path of pinned imports.
+/// The answer for the two modules `ends`: a cheapest cut, or the shortest path of pinned imports, because of which no cut exists.
 fn answer_between<R: Threads + Wait + Sync, G: Gate + Sync>(
     rt: &R,
     alloc: Global,
@@ -222,10 +225,10 @@ fn answer_between<R: Threads + Wait + Sync, G: Gate + Sync>(
 
 /// A cheapest cut between the modules of two names, or the shortest path of pinned imports, because of which no cut exists.
 /// 1 to 64 threads push and relabel on one locked preflow (Goldberg and Tarjan 1988) and call `gate` between two critical sections.
-/// The imports and the weight are the same for every schedule; the flow may differ. A worker ends if an allocation fails for it.
-/// A thread that can't be started is left out. The calling thread takes the steps that are left; the bound on steps always suffices.
-/// Fails with `NoSuchModule` for the first unknown name, `from` before `to`, with `SameModule` if both are the same module's, and with
-/// `Memory`. It may wait for the lock and for its threads.
+/// The imports and the weight are equal for every schedule; the flow may differ. A worker ends if an allocation fails for it.
+/// A thread that can't be started is left out. The calling thread takes the remaining steps; the bound on steps always suffices.
+/// Fails with `NoSuchModule` for the first unknown name (`from` before `to`), with `SameModule` if both names denote one module, and with
+/// `Memory` if an allocation fails. May wait for the lock and for its threads.
 pub fn solve<R: Threads + Wait + Sync, G: Gate + Sync>(
     rt: &R,
     alloc: Global,
@@ -239,9 +242,10 @@ pub fn solve<R: Threads + Wait + Sync, G: Gate + Sync>(
     requires workers { (1 ≤ workers) × (workers ≤ 64) }
     // The result is a cheapest cut with a flow that proves it, a path of pinned imports, or the error in the names.
     ensures exact { HasOutcome answer_claim result (IsSolveOutcome net.now from.now to.now) }
-    // An error in the names is returned, unless an allocation fails.
+    // If an error in the names is an outcome, it is the result, unless an allocation fails.
     ensures refused { (refusal : SolveError) → IsSolveOutcome net.now from.now to.now (Err refusal) → HasOutcome answer_claim result (λ o. o ≡ Err refusal) }
-    // Each import of a cut is needed: if only the others are removed, a path still leads from the one module to the other.
+    // With `Ok` each import of a cut is needed: if all its other imports are removed, a path still leads from the module `from` to the
+    // module `to`.
     ensures needed { IfOk result (λ answer. AreNeeded net.now from.now to.now (answer_claim answer)) }
 {
     net.invariants();

@@ -1,4 +1,4 @@
-//! A worker: in each critical section it tries the event that it found before, and finds the next one.
+//! A worker: in each critical section it tries the event that it found in the previous one, and finds the next event.
 ghost use Rattle.std.specs.Prelude.{◌≡◌, ◌≤◌, ◌↔◌, true, false, IsNone, IfSome};
 ghost use Rattle.cut_preflow.specs.declared.event.Event.{Event as EventValue};
 ghost use Rattle.cut_preflow.specs.Kept.{IsQuiet};
@@ -10,7 +10,7 @@ use cut_preflow::{Event, NetworkLedger, Outcome, Preflow, Share};
 use std::sync::{MutexGuard, Wait};
 use std::thread;
 
-/// The largest number of times that a worker yields before it tries the lock again.
+/// The largest number of times that a worker yields to other threads before it tries the lock again.
 const MOST_RESTS: u32 = 4096;
 
 /// Yields to other threads this number of times.
@@ -20,8 +20,8 @@ fn yield_times(times: u32) {
     }
 }
 
-/// Takes the lock. A worker that finds it taken yields, twice as often each time. It doesn't queue: a queue wakes a thread for each step,
-/// which takes longer than the step.
+/// Takes the lock. While another worker holds it, yields to other threads, each time twice as often as before, up to `MOST_RESTS` times. A
+/// queue of waiting threads would have to wake a thread for each step, which takes longer than the step.
 fn lock_with_backoff<'a, L: NetworkLedger, R: Wait>(
     rt: &R,
     locked: &'a Locked<L>,
@@ -37,11 +37,11 @@ fn lock_with_backoff<'a, L: NetworkLedger, R: Wait>(
     unreachable!()
 }
 
-/// An event of the worker that applies to this preflow, or that no module but the source and the sink has excess.
+/// An event of this worker whose step can be applied to the preflow; `Quiet` if no module other than the source and the sink has excess.
 pub fn look<L: NetworkLedger>(preflow: &Preflow<L>, worker: u32) -> Look
     // The result is `Quiet` exactly if no module but the source and the sink has excess.
     ensures quiet { (result ≡ Look.Quiet) ↔ IsQuiet preflow.now.trace.net (state_of preflow.now.trace) }
-    // The event is the worker's, and applies.
+    // If the result has an event, it is this worker's, and its step can be applied to the preflow.
     ensures event { (event : EventValue) → result ≡ Look.Try event → CanTry preflow.now worker event }
 {
     match preflow.next_step() {
@@ -52,7 +52,7 @@ pub fn look<L: NetworkLedger>(preflow: &Preflow<L>, worker: u32) -> Look
     }
 }
 
-/// The event that the worker is to try. Without one, flags its share.
+/// An event for the worker to try next; if no module is active, marks the worker's share and returns `None`.
 fn find_event_or_flag<L: NetworkLedger>(
     preflow: &Preflow<L>,
     number: u32,
@@ -71,8 +71,9 @@ fn find_event_or_flag<L: NetworkLedger>(
     }
 }
 
-/// Tries an event, and finds the next one. Without one, flags the share.
-fn next<L: NetworkLedger>(
+/// Tries an event, and returns an event for the worker to try next. If no module is active or an allocation failed, the share is marked and
+/// the result is `None`.
+fn try_and_find_next<L: NetworkLedger>(
     preflow: &mut Preflow<L>,
     event: Event,
     number: u32,
@@ -88,9 +89,9 @@ fn next<L: NetworkLedger>(
     find_event_or_flag(preflow, number, share)
 }
 
-/// Runs the worker of this number until no module is active or an allocation fails in a step; then the share is marked.
-/// Each critical section tries the event that the previous one found, and finds the next one. If other workers have changed the preflow in
-/// between, an event that no longer applies changes nothing. `gate` is called between the two sections. It may wait for the lock.
+/// Runs the worker with this number until no module is active or an allocation fails in a step; then its share is marked and returned.
+/// Each critical section tries the event that the previous one found, and finds the next one. An event that no longer applies, since other
+/// workers have changed the preflow in between, changes nothing. Calls `gate` between two sections. May wait for the lock.
 pub fn worker<L: NetworkLedger, R: Wait, G: Gate>(
     rt: &R,
     locked: &Locked<L>,
@@ -98,11 +99,11 @@ pub fn worker<L: NetworkLedger, R: Wait, G: Gate>(
     mut share: Share<L>,
     gate: &G,
 ) -> Share<L>
-    // The share isn't marked.
+    // The share isn't marked yet.
     requires unmarked { share.marked ≡ false }
     // The returned share is marked.
     ensures marked { result.marked ≡ true }
-    // The share counts at least the steps that it counted before.
+    // The returned share counts at least as many steps as the passed one.
     ensures counted { share.count ≤ result.count }
 {
     let Some(mut event) = find_event_or_flag(&*lock_with_backoff(rt, locked), number, &mut share)
@@ -113,7 +114,7 @@ pub fn worker<L: NetworkLedger, R: Wait, G: Gate>(
     for _ in rt.forever() {
         gate.at(number, turn);
         turn = turn.saturating_add(1);
-        let Some(found) = next(
+        let Some(found) = try_and_find_next(
             &mut *lock_with_backoff(rt, locked),
             event,
             number,

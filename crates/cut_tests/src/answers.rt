@@ -2,7 +2,7 @@
 ghost use Rattle.std.specs.Prelude.{◌<◌, ◌≤◌, length};
 
 use crate::description::expect;
-use crate::preflows::{Scenario, try_on};
+use crate::preflows::{Scenario, run_scenario};
 use crate::worked::{
     A_WAY_BACK, DIAMOND, THREE_IMPORTS, TWO_IMPORTS, TWO_WAYS, describe_answer, describe_removals,
     net_of,
@@ -198,7 +198,7 @@ const ROWS: &[(&[u8], &[u8], (&str, &str), &str)] = &[
 ];
 
 /// Whether exactly these imports lead out of the set of modules.
-fn leave(imports: &[Priced], side: &[bool]) -> bool {
+fn are_leaving_imports(imports: &[Priced], side: &[bool]) -> bool {
     for import in imports {
         if side.get(import.from as usize) != Some(&true)
             || side.get(import.to as usize) != Some(&false)
@@ -211,7 +211,7 @@ fn leave(imports: &[Priced], side: &[bool]) -> bool {
 
 /// Whether the imports of a cut are exactly those that leave the minimal source side, once a preflow has run to completion without other
 /// workers. The cut has its flow then.
-fn is_settled(
+fn is_minimal_cut(
     alloc: Global,
     net: &Net,
     ends: (u32, u32),
@@ -220,15 +220,15 @@ fn is_settled(
     match answer {
         Answer::Blocked { .. } => Ok(true),
         Answer::Cut(cut) => {
-            let settled = try_on(alloc, net, ends, Scenario::Steps(&[]))?;
+            let settled = run_scenario(alloc, net, ends, Scenario::Steps(&[]))?;
             cut.flow = settled.flow;
-            Ok(leave(&cut.imports, &settled.side))
+            Ok(are_leaving_imports(&cut.imports, &settled.side))
         }
     }
 }
 
 /// Whether the checker accepts a result, also with the flow of a preflow, and the preflow gives an equal cut.
-fn stands(
+fn is_accepted_by_checker(
     alloc: Global,
     net: &Net,
     ends: (u32, u32),
@@ -238,7 +238,7 @@ fn stands(
     requires to { ends.1 < length net.now.names }
 {
     let found = check(alloc, net, ends.0, ends.1, &answer)?;
-    let settled = is_settled(alloc, net, ends, &mut answer)?;
+    let settled = is_minimal_cut(alloc, net, ends, &mut answer)?;
     let again = check(alloc, net, ends.0, ends.1, &answer)?;
     Ok(settled && matches!((found, again), (Verdict::Yes, Verdict::Yes)))
 }
@@ -262,7 +262,7 @@ fn describe_solution(
     } else {
         describe_removals(alloc, &answer)?
     };
-    if !stands(alloc, net, (from, to), answer)? {
+    if !is_accepted_by_checker(alloc, net, (from, to), answer)? {
         description.push_str(", which doesn't stand")?;
     }
     Ok(description)

@@ -17,7 +17,7 @@ struct Distances {
 }
 
 /// The reverse of a residual arc.
-fn opposite(step: ResidualArc) -> ResidualArc
+fn reverse_arc(step: ResidualArc) -> ResidualArc
     ensures { result ≡ record { arc = step.arc; forward = not step.forward } }
 {
     ResidualArc {
@@ -27,7 +27,7 @@ fn opposite(step: ResidualArc) -> ResidualArc
 }
 
 /// Labels the unlabelled nodes that have a residual arc to this node, and appends them to the reached ones.
-fn spread(
+fn label_predecessors(
     graph: &ResidualGraph,
     node: u32,
     labels: &mut Vec<u32>,
@@ -43,7 +43,7 @@ fn spread(
     let label = labels[node as usize].saturating_add(1);
     for out in graph.residual_arcs(node) {
         let before = out.head;
-        if labels[before as usize] == none && graph.residual(opposite(out.step)) > 0 {
+        if labels[before as usize] == none && graph.residual(reverse_arc(out.step)) > 0 {
             labels[before as usize] = label;
             reached.push(before)?;
         }
@@ -67,7 +67,7 @@ fn distances_to(alloc: Global, graph: &ResidualGraph, end: u32) -> Result<Distan
             return Ok(Distances { labels, reached });
         }
         let node = reached[place];
-        spread(graph, node, &mut labels, &mut reached)?;
+        label_predecessors(graph, node, &mut labels, &mut reached)?;
     }
     Ok(Distances { labels, reached })
 }
@@ -93,7 +93,7 @@ impl Model for Scenario {
 }
 
 /// The active nodes without the sink; the last one is discharged first.
-fn with_excess(
+fn active_nodes(
     alloc: Global,
     nodes: &[u32],
     excesses: &[u64],
@@ -114,7 +114,7 @@ fn with_excess(
 
 impl Scenario {
     /// The residual arc at this index among those that leave a node, if there is one.
-    fn out_at(&self, node: u32, place: usize) -> Option<OutArc>
+    fn leaving_arc(&self, node: u32, place: usize) -> Option<OutArc>
         requires { node < self.now.nodes }
         ensures { IfSome result (IsOutOf self.now node) }
     {
@@ -127,7 +127,7 @@ impl Scenario {
     }
 
     /// Pushes at most this amount over a residual arc, up to its residual capacity. A node without excess before becomes active.
-    fn send(&mut self, node: u32, out: OutArc, most: u64) -> Result<(), AllocError>
+    fn push_at_most(&mut self, node: u32, out: OutArc, most: u64) -> Result<(), AllocError>
         requires node { node < self.old.nodes }
         requires out { IsOutOf self.old node out }
         ensures { OnOk result (self.new.nodes ≡ self.old.nodes) }
@@ -157,7 +157,7 @@ impl Scenario {
         let label = self.labels[out.head as usize];
         let excess = self.excesses[node as usize];
         if excess > 0 && label.saturating_add(1) == self.labels[node as usize] {
-            self.send(node, out, excess)?;
+            self.push_at_most(node, out, excess)?;
             if excess >= out.residual {
                 return Ok(u32::MAX);
             }
@@ -167,13 +167,13 @@ impl Scenario {
 
     /// Pushes the excess of a node to nodes whose label is lower by one. If excess is left, returns the lowest label of a head of a
     /// residual arc.
-    fn push_all(&mut self, node: u32) -> Result<u32, AllocError>
+    fn push_admissible(&mut self, node: u32) -> Result<u32, AllocError>
         requires { node < self.old.nodes }
         ensures { OnOk result (self.new.nodes ≡ self.old.nodes) }
     {
         let mut least = u32::MAX;
         for place in 0..self.graph.residual_arcs(node).len() {
-            let Some(out) = self.out_at(node, place) else {
+            let Some(out) = self.leaving_arc(node, place) else {
                 return Ok(least);
             };
             if self.excesses[node as usize] == 0 {
@@ -191,7 +191,7 @@ impl Scenario {
         requires { node < self.old.nodes }
         ensures { OnOk result (self.new.nodes ≡ self.old.nodes) }
     {
-        let label = self.push_all(node)?.saturating_add(1);
+        let label = self.push_admissible(node)?.saturating_add(1);
         if self.excesses[node as usize] == 0 {
             return Ok(false);
         }
@@ -225,34 +225,34 @@ impl Scenario {
         ensures { OnOk result (self.new ≡ self.old) }
     {
         let distances = distances_to(alloc, &self.graph, end)?;
-        self.waiting = with_excess(alloc, &distances.reached, &self.excesses, end)?;
+        self.waiting = active_nodes(alloc, &distances.reached, &self.excesses, end)?;
         self.labels = distances.labels;
         Ok(!self.waiting.is_empty())
     }
 
     /// Saturates the arcs that leave the source.
-    fn open(&mut self, start: u32) -> Result<(), AllocError>
+    fn saturate_source(&mut self, start: u32) -> Result<(), AllocError>
         requires { start < self.old.nodes }
         ensures { OnOk result (self.new.nodes ≡ self.old.nodes) }
     {
         for place in 0..self.graph.residual_arcs(start).len() {
-            let Some(out) = self.out_at(start, place) else {
+            let Some(out) = self.leaving_arc(start, place) else {
                 return Ok(());
             };
             if out.step.forward {
-                self.send(start, out, u64::MAX)?;
+                self.push_at_most(start, out, u64::MAX)?;
             }
         }
         Ok(())
     }
 
     /// Pushes the excess of a node back over its incoming arcs.
-    fn take_back(&mut self, node: u32) -> Result<(), AllocError>
+    fn return_excess(&mut self, node: u32) -> Result<(), AllocError>
         requires { node < self.old.nodes }
         ensures { OnOk result (self.new.nodes ≡ self.old.nodes) }
     {
         for place in 0..self.graph.residual_arcs(node).len() {
-            let Some(out) = self.out_at(node, place) else {
+            let Some(out) = self.leaving_arc(node, place) else {
                 return Ok(());
             };
             let excess = self.excesses[node as usize];
@@ -260,7 +260,7 @@ impl Scenario {
                 return Ok(());
             }
             if !out.step.forward {
-                self.send(node, out, excess)?;
+                self.push_at_most(node, out, excess)?;
             }
         }
         Ok(())
@@ -274,7 +274,7 @@ impl Scenario {
         for back in 0..order.len() {
             let node = order[order.len() - 1 - back];
             if node != end {
-                self.take_back(node)?;
+                self.return_excess(node)?;
             }
         }
         Ok(())
@@ -307,7 +307,7 @@ impl Scenario {
         requires end { end < self.old.nodes }
         ensures { OnOk result (self.new.nodes ≡ self.old.nodes) }
     {
-        self.open(start)?;
+        self.saturate_source(start)?;
         self.run(alloc, end)?;
         self.return_all(order, end)
     }

@@ -4,7 +4,7 @@ ghost use Rattle.cut_net.specs.Pins.{PinChain};
 ghost use Rattle.cut_preflow.specs.Flows.{AreEnds, network_between};
 
 use crate::description::expect;
-use crate::preflows::is_free;
+use crate::preflows::has_no_pinned_path;
 use crate::worked::{THREE_IMPORTS, describe_answer, net_of};
 use cut_net::Net;
 use cut_preflow::{LEDGER_PARTS, NetworkLedger, Preflow, Share};
@@ -31,7 +31,7 @@ struct Holds<'a, R> {
     by_first: AtomicU64,
     by_second: AtomicU64,
     /// The number of the three holds that were released in time.
-    let_go: AtomicU64,
+    ended_waits: AtomicU64,
 }
 
 impl<'a, R: Clock> Holds<'a, R> {
@@ -40,22 +40,22 @@ impl<'a, R: Clock> Holds<'a, R> {
             clock,
             by_first: AtomicU64::new(0),
             by_second: AtomicU64::new(0),
-            let_go: AtomicU64::new(0),
+            ended_waits: AtomicU64::new(0),
         }
     }
 
     fn wait(&self, turns: &AtomicU64, least: u64) {
         for _ in 0..MOST_WAITS {
             if turns.load(Ordering::SeqCst) >= least {
-                self.let_go.fetch_add(1, Ordering::SeqCst);
+                self.ended_waits.fetch_add(1, Ordering::SeqCst);
                 return;
             }
             thread::sleep(self.clock, Duration::from_millis(1));
         }
     }
 
-    fn were_passed(&self) -> bool {
-        self.let_go.load(Ordering::SeqCst) == 3
+    fn were_all_waits_ended(&self) -> bool {
+        self.ended_waits.load(Ordering::SeqCst) == 3
     }
 }
 
@@ -138,7 +138,7 @@ fn join<R: Threads + Wait + Sync, L: NetworkLedger + Send + Sync, G: Gate + Sync
 }
 
 /// Two workers run from the initial preflow with a gate.
-fn by_two<R: Threads + Wait + Sync, L: NetworkLedger + Send + Sync, G: Gate + Sync>(
+fn run_two_workers<R: Threads + Wait + Sync, L: NetworkLedger + Send + Sync, G: Gate + Sync>(
     rt: &R,
     alloc: Global,
     mut preflow: Preflow<L>,
@@ -153,7 +153,7 @@ fn by_two<R: Threads + Wait + Sync, L: NetworkLedger + Send + Sync, G: Gate + Sy
 }
 
 /// One worker runs from the initial preflow.
-fn by_one<R: Wait, L: NetworkLedger>(
+fn run_one_worker<R: Wait, L: NetworkLedger>(
     rt: &R,
     alloc: Global,
     mut preflow: Preflow<L>,
@@ -182,8 +182,8 @@ fn describe_run<L: NetworkLedger + Send + Sync, R: Threads + Wait + Sync, G: Gat
 {
     let preflow = Preflow::<L>::start(alloc, blank, net, 0, 1)?;
     match gate {
-        Some(gate) => by_two(rt, alloc, preflow, gate),
-        None => by_one(rt, alloc, preflow),
+        Some(gate) => run_two_workers(rt, alloc, preflow, gate),
+        None => run_one_worker(rt, alloc, preflow),
     }
 }
 
@@ -194,7 +194,7 @@ fn describe_line_run<R: Threads + Wait + Sync, G: Gate + Sync>(
     gate: Option<&G>,
 ) -> Result<String, AllocError> {
     let net = net_of(alloc, THREE_IMPORTS, b"")?;
-    if net.nodes() < 2 || !is_free(alloc, &net, 0, 1)? {
+    if net.nodes() < 2 || !has_no_pinned_path(alloc, &net, 0, 1)? {
         return Err(AllocError);
     }
     describe_run::<Brand, R, G>(rt, alloc, Blank::new(LEDGER_PARTS), &net, gate)
@@ -218,10 +218,10 @@ fn describe_cut<R: Threads + Wait + Sync, G: Gate + Sync>(
 
 // If the allocation of a worker's history fails, the other waits at the gate in vain, and this test or the next fails.
 #[test]
-fn two_workers_take_turns(rt: HostRuntime) -> Result<(), Fail> {
+fn two_workers_alternate(rt: HostRuntime) -> Result<(), Fail> {
     let gate = Holds::new(&rt);
     let found = describe_line_run(&rt, rt.alloc(), Some(&gate))?;
-    assert!(rt; gate.were_passed());
+    assert!(rt; gate.were_all_waits_ended());
     expect(
         &rt,
         found.as_str(),
@@ -232,10 +232,10 @@ fn two_workers_take_turns(rt: HostRuntime) -> Result<(), Fail> {
 }
 
 #[test]
-fn the_solver_takes_turns(rt: HostRuntime) -> Result<(), Fail> {
+fn workers_of_the_solver_alternate(rt: HostRuntime) -> Result<(), Fail> {
     let gate = Holds::new(&rt);
     let cut = describe_cut(&rt, rt.alloc(), 2, &gate)?;
-    assert!(rt; gate.were_passed());
+    assert!(rt; gate.were_all_waits_ended());
     expect(
         &rt,
         cut.as_str(),
@@ -246,7 +246,7 @@ fn the_solver_takes_turns(rt: HostRuntime) -> Result<(), Fail> {
 
 // If the allocation of one worker's history fails, the other goes on.
 #[test]
-fn each_worker_ends_marked(rt: HostRuntime) -> Result<(), Fail> {
+fn each_worker_returns_a_marked_share(rt: HostRuntime) -> Result<(), Fail> {
     let found = describe_line_run(&rt, rt.alloc(), Some(&OpenGate))?;
     assert!(rt;
         found

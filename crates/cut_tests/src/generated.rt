@@ -142,7 +142,7 @@ fn append_network(
 }
 
 /// Checks that the checker accepts the result of the sequential solver, and that the solver's is equal except for the flow.
-fn is_answered<R: Abort + Threads + Wait + AllocGlobal + Sync>(
+fn check_answers<R: Abort + Threads + Wait + AllocGlobal + Sync>(
     rt: &R,
     text: &str,
     prices: &str,
@@ -156,7 +156,7 @@ fn is_answered<R: Abort + Threads + Wait + AllocGlobal + Sync>(
     is_solved(rt, &net, names, 2, want.as_str())
 }
 
-fn try_shape<R: Abort + Threads + Wait + AllocGlobal + Sync>(
+fn check_shape<R: Abort + Threads + Wait + AllocGlobal + Sync>(
     rt: &R,
     seed: &mut Seed,
     shape: &Shape,
@@ -165,7 +165,7 @@ fn try_shape<R: Abort + Threads + Wait + AllocGlobal + Sync>(
         let mut text = String::new(rt.alloc());
         let mut prices = String::new(rt.alloc());
         append_network(&mut text, &mut prices, seed, shape)?;
-        is_answered(rt, text.as_str(), prices.as_str())?;
+        check_answers(rt, text.as_str(), prices.as_str())?;
     }
     Ok(())
 }
@@ -174,7 +174,7 @@ fn try_shape<R: Abort + Threads + Wait + AllocGlobal + Sync>(
 fn generated_networks_have_one_answer(rt: HostRuntime) -> Result<(), Fail> {
     let mut seed = Seed { state: 1 };
     for shape in SHAPES {
-        try_shape(&rt, &mut seed, shape)?;
+        check_shape(&rt, &mut seed, shape)?;
     }
     Ok(())
 }

@@ -49,7 +49,7 @@ const ROWS: &[(&[Row], u32, u32, &str)] = &[
     ),
 ];
 
-fn is_good(arc: &Arc, nodes: u32) -> bool
+fn is_valid_arc(arc: &Arc, nodes: u32) -> bool
     ensures { IsTrue result → (arc.now.flow ≤ arc.now.capacity) × (arc.now.from < nodes) × (arc.now.to < nodes) }
 {
     arc.flow <= arc.capacity && arc.from < nodes && arc.to < nodes
@@ -65,7 +65,7 @@ fn graph_of(alloc: Global, rows: &[Row], nodes: u32) -> Result<ResidualGraph, Al
             flow: *flow,
         })?;
     }
-    if arcs.iter().any(|arc| !is_good(arc, nodes)) {
+    if arcs.iter().any(|arc| !is_valid_arc(arc, nodes)) {
         return Err(AllocError);
     }
     ResidualGraph::new(alloc, arcs, nodes)

@@ -275,7 +275,7 @@ fn append_imports(text: &mut String, net: &Net) -> Result<(), AllocError> {
     Ok(())
 }
 
-fn append_part(
+fn append_subnetwork(
     text: &mut String,
     alloc: Global,
     net: &Net,
@@ -303,7 +303,7 @@ fn is_number(number: u32, imports: usize) -> bool
     (number as usize) < imports
 }
 
-fn append_reduced(
+fn append_reduced_capacities(
     text: &mut String,
     alloc: Global,
     net: &Net,
@@ -318,7 +318,7 @@ fn append_reduced(
     append_lines(text, "import", &less)
 }
 
-fn append_start(text: &mut String, alloc: Global, net: &Net) -> Result<(), AllocError> {
+fn append_preflow_input(text: &mut String, alloc: Global, net: &Net) -> Result<(), AllocError> {
     if net.nodes() < 2 {
         return Err(AllocError);
     }
@@ -327,13 +327,18 @@ fn append_start(text: &mut String, alloc: Global, net: &Net) -> Result<(), Alloc
     append_lines(text, "import", &start.imports)
 }
 
-fn append_all(text: &mut String, alloc: Global, net: &Net, asked: Asked) -> Result<(), AllocError> {
+fn append_result(
+    text: &mut String,
+    alloc: Global,
+    net: &Net,
+    asked: Asked,
+) -> Result<(), AllocError> {
     match asked {
         Asked::Whole => append_imports(text, net),
-        Asked::Between(from, to) => append_part(text, alloc, net, from, to),
-        Asked::Narrowed(order) => append_reduced(text, alloc, net, order),
+        Asked::Between(from, to) => append_subnetwork(text, alloc, net, from, to),
+        Asked::Narrowed(order) => append_reduced_capacities(text, alloc, net, order),
         Asked::Turned => append_lines(text, "import", &reversed_imports(alloc, net.imports())?),
-        Asked::Start => append_start(text, alloc, net),
+        Asked::Start => append_preflow_input(text, alloc, net),
     }
 }
 
@@ -346,7 +351,7 @@ fn description(
 ) -> Result<String, AllocError> {
     let mut text = String::new(alloc);
     match net.price(prices) {
-        Ok(net) => append_all(&mut text, alloc, &net, asked)?,
+        Ok(net) => append_result(&mut text, alloc, &net, asked)?,
         Err(PriceFault::Memory) => return Err(AllocError),
         Err(fault) => write!(text, "{fault:?}")?,
     }

@@ -7,7 +7,7 @@ use cut_net::Net;
 use std::alloc::{AllocError, Global};
 use std::process::Abort;
 use std::test::Fail;
-use test_doubles::ByOne;
+use test_doubles::FailingSink;
 
 /// Three paths from A to D, one with weight 0, and E, which imports A. The modules are A, B, C, D, E and Z.
 const NETWORK: &[u8] =
@@ -50,7 +50,12 @@ const WRONG_PATH_BY_FLOW: &str = "digraph cut {\n  rankdir=LR;\n  \
     \"A\" -> \"B\" [label=\"0/1\"];\n}\n";
 
 /// Writes the picture by flow of a report.
-fn draw_report(alloc: Global, net: &Net, report: &[u8], sink: &mut ByOne) -> Result<(), SinkFault> {
+fn draw_report(
+    alloc: Global,
+    net: &Net,
+    report: &[u8],
+    sink: &mut FailingSink,
+) -> Result<(), SinkFault> {
     let Ok(report) = cut_report::read(alloc, report, net) else {
         return Err(SinkFault::Memory);
     };
@@ -66,7 +71,7 @@ fn check_prefix(
     writes: u64,
     text: &str,
 ) -> Result<(), AllocError> {
-    let mut sink = ByOne::new(alloc, writes);
+    let mut sink = FailingSink::new(alloc, writes);
     let is_complete = writes == text.len() as u64;
     match draw_report(alloc, net, report, &mut sink) {
         Ok(()) => assert!(rt; is_complete),
@@ -80,7 +85,7 @@ fn check_prefix(
 }
 
 /// Checks the picture, and that a sink that fails at each write in turn has a prefix of it.
-fn is_drawn(
+fn check_picture(
     rt: &impl Abort,
     alloc: Global,
     net: &Net,
@@ -94,22 +99,22 @@ fn is_drawn(
 }
 
 #[test]
-fn a_cut_by_flow(rt: HostRuntime) -> Result<(), Fail> {
+fn a_cut_is_drawn_with_its_flow(rt: HostRuntime) -> Result<(), Fail> {
     let net = net_of(rt.alloc(), NETWORK, b"")?;
-    is_drawn(&rt, rt.alloc(), &net, CUT, CUT_BY_FLOW)?;
+    check_picture(&rt, rt.alloc(), &net, CUT, CUT_BY_FLOW)?;
     Ok(())
 }
 
 #[test]
-fn a_path_of_pins_by_flow(rt: HostRuntime) -> Result<(), Fail> {
+fn a_path_of_pins_is_drawn(rt: HostRuntime) -> Result<(), Fail> {
     let net = net_of(rt.alloc(), NETWORK, PINS)?;
-    is_drawn(&rt, rt.alloc(), &net, BLOCKED, BLOCKED_BY_FLOW)?;
+    check_picture(&rt, rt.alloc(), &net, BLOCKED, BLOCKED_BY_FLOW)?;
     Ok(())
 }
 
 #[test]
-fn a_path_that_is_none_by_flow(rt: HostRuntime) -> Result<(), Fail> {
+fn a_list_of_modules_that_is_no_path_is_drawn(rt: HostRuntime) -> Result<(), Fail> {
     let net = net_of(rt.alloc(), NETWORK, b"")?;
-    is_drawn(&rt, rt.alloc(), &net, WRONG_PATH, WRONG_PATH_BY_FLOW)?;
+    check_picture(&rt, rt.alloc(), &net, WRONG_PATH, WRONG_PATH_BY_FLOW)?;
     Ok(())
 }

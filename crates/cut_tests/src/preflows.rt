@@ -37,7 +37,12 @@ pub(crate) struct Settled {
 }
 
 /// Whether no path of pinned imports leads from one module to the other.
-pub(crate) fn is_free(alloc: Global, net: &Net, from: u32, to: u32) -> Result<bool, AllocError>
+pub(crate) fn has_no_pinned_path(
+    alloc: Global,
+    net: &Net,
+    from: u32,
+    to: u32,
+) -> Result<bool, AllocError>
     requires from { from < length net.now.names }
     requires to { to < length net.now.names }
     ensures { IfOk result (λ yes. IsTrue yes → PinChain net.now from to → ⊥) }
@@ -49,7 +54,7 @@ pub(crate) fn is_free(alloc: Global, net: &Net, from: u32, to: u32) -> Result<bo
 }
 
 /// The imports with flow, each with its flow.
-fn flow_of<L: NetworkLedger>(
+fn imports_with_flow<L: NetworkLedger>(
     alloc: Global,
     net: &Net,
     _ends: (u32, u32),
@@ -86,7 +91,7 @@ fn append_modules<L: NetworkLedger>(
 }
 
 /// The next step, the number of steps, and the minimal source side.
-fn append_next<L: NetworkLedger>(
+fn append_next_step<L: NetworkLedger>(
     text: &mut String,
     preflow: &Preflow<L>,
 ) -> Result<(), AllocError> {
@@ -114,13 +119,13 @@ fn append_state<L: NetworkLedger>(
     requires { preflow.now.trace.net ≡ network_between net.now ends.0 ends.1 }
 {
     append_modules(text, net, ends, preflow)?;
-    append_lines(text, "flow", &flow_of(alloc, net, ends, preflow)?)?;
+    append_lines(text, "flow", &imports_with_flow(alloc, net, ends, preflow)?)?;
     text.push_str("; ")?;
-    append_next(text, preflow)
+    append_next_step(text, preflow)
 }
 
 /// Applies an event, again after a failed allocation. Appends it if it changed something.
-fn try_again<L: NetworkLedger>(
+fn apply_with_retry<L: NetworkLedger>(
     text: &mut String,
     preflow: &mut Preflow<L>,
     event: Event,
@@ -151,14 +156,14 @@ fn append_steps<L: NetworkLedger>(
             worker: 4294967295,
             step: *step,
         };
-        let outcome = try_again(text, preflow, event)?;
+        let outcome = apply_with_retry(text, preflow, event)?;
         write!(text, "{outcome:?} {:?}; ", preflow.active())?;
     }
     Ok(())
 }
 
 /// The step with this number: the pushes over all arcs, then the relabels of all nodes.
-fn step_of(number: u32, arcs: u32) -> Step {
+fn step_by_number(number: u32, arcs: u32) -> Step {
     if number < arcs {
         Step::Push { arc: number }
     } else {
@@ -169,7 +174,7 @@ fn step_of(number: u32, arcs: u32) -> Step {
 }
 
 /// Applies all steps repeatedly, ten thousand in all.
-fn try_all<L: NetworkLedger>(preflow: &mut Preflow<L>, net: &Net, by: u32)
+fn apply_all_steps<L: NetworkLedger>(preflow: &mut Preflow<L>, net: &Net, by: u32)
     ensures { preflow.new.trace.net ≡ preflow.old.trace.net }
 {
     net.invariants();
@@ -178,7 +183,7 @@ fn try_all<L: NetworkLedger>(preflow: &mut Preflow<L>, net: &Net, by: u32)
     for turn in 0..10_000u32 {
         let _ = preflow.apply(Event {
             worker: 4294967295,
-            step: step_of(turn.wrapping_mul(by) % steps, arcs),
+            step: step_by_number(turn.wrapping_mul(by) % steps, arcs),
         });
     }
 }
@@ -311,7 +316,7 @@ fn append_scenario<L: NetworkLedger>(
             append_state(text, alloc, net, ends, preflow)
         }
         Scenario::All(by) => {
-            try_all(preflow, net, by);
+            apply_all_steps(preflow, net, by);
             write!(
                 text,
                 "quiet {} after {}; ",
@@ -326,7 +331,7 @@ fn append_scenario<L: NetworkLedger>(
 }
 
 /// Appends the result of a scenario, runs to completion, and appends the result of that.
-fn tried<L: NetworkLedger>(
+fn run_scenario_on<L: NetworkLedger>(
     alloc: Global,
     net: &Net,
     ends: (u32, u32),
@@ -338,15 +343,15 @@ fn tried<L: NetworkLedger>(
     let mut description = String::new(alloc);
     append_scenario(&mut description, alloc, net, ends, preflow, trial)?;
     preflow.settle()?;
-    append_next(&mut description, preflow)?;
+    append_next_step(&mut description, preflow)?;
     Ok(Settled {
         description,
         side: preflow.side()?,
-        flow: flow_of(alloc, net, ends, preflow)?,
+        flow: imports_with_flow(alloc, net, ends, preflow)?,
     })
 }
 
-fn tried_in<L: NetworkLedger>(
+fn start_and_run<L: NetworkLedger>(
     alloc: Global,
     blank: Blank,
     net: &Net,
@@ -360,11 +365,11 @@ fn tried_in<L: NetworkLedger>(
     requires parts { (blank.parts ≡ 65) × (L.parts ≡ 65) }
 {
     let mut preflow = Preflow::<L>::start(alloc, blank, net, ends.0, ends.1)?;
-    tried(alloc, net, ends, &mut preflow, trial)
+    run_scenario_on(alloc, net, ends, &mut preflow, trial)
 }
 
 /// Runs a scenario on the initial preflow between two modules that no path of pinned imports joins.
-pub(crate) fn try_on(
+pub(crate) fn run_scenario(
     alloc: Global,
     net: &Net,
     ends: (u32, u32),
@@ -373,10 +378,10 @@ pub(crate) fn try_on(
     if ends.0 == ends.1 || ends.0 >= net.nodes() || ends.1 >= net.nodes() {
         return Err(AllocError);
     }
-    if !is_free(alloc, net, ends.0, ends.1)? {
+    if !has_no_pinned_path(alloc, net, ends.0, ends.1)? {
         return Err(AllocError);
     }
-    tried_in::<Brand>(alloc, Blank::new(LEDGER_PARTS), net, ends, trial)
+    start_and_run::<Brand>(alloc, Blank::new(LEDGER_PARTS), net, ends, trial)
 }
 
 /// A network, the scenario between its first two modules, and its expected result.
@@ -519,11 +524,11 @@ const ROWS: &[(&[u8], Scenario, &str)] = &[
 
 fn description(alloc: Global, net: &[u8], trial: Scenario) -> Result<String, AllocError> {
     let net = net_of(alloc, net, b"")?;
-    Ok(try_on(alloc, &net, (0, 1), trial)?.description)
+    Ok(run_scenario(alloc, &net, (0, 1), trial)?.description)
 }
 
 #[test]
-fn what_is_tried_is_answered(rt: HostRuntime) -> Result<(), Fail> {
+fn scenarios_have_their_outcomes(rt: HostRuntime) -> Result<(), Fail> {
     for (net, trial, want) in ROWS {
         let description = description(rt.alloc(), net, *trial)?;
         expect(&rt, description.as_str(), want);

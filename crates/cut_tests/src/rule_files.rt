@@ -134,7 +134,7 @@ fn fault_of(alloc: Global, rules: &[u8]) -> Result<String, AllocError> {
 }
 
 /// 4,096 rules and 4,096 patterns, followed by these lines.
-fn after_most(alloc: Global, end: &[u8]) -> Result<Vec<u8>, AllocError> {
+fn text_at_limits(alloc: Global, end: &[u8]) -> Result<Vec<u8>, AllocError> {
     let mut text = Vec::new(alloc);
     for _ in 0..4096u32 {
         text.extend_from_slice(b"forbid Heap Net\nnamed A *e*\n")?;
@@ -154,7 +154,7 @@ fn texts_have_their_first_faults(rt: HostRuntime) -> Result<(), Fail> {
 #[test]
 fn rules_and_patterns_are_limited(rt: HostRuntime) -> Result<(), Fail> {
     for (end, want) in AFTER_MOST {
-        let rules = after_most(rt.alloc(), end)?;
+        let rules = text_at_limits(rt.alloc(), end)?;
         expect(&rt, fault_of(rt.alloc(), rules.as_slice())?.as_str(), want);
     }
     Ok(())

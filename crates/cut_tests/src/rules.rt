@@ -11,7 +11,7 @@ use cut_rules::{File, Rules, Site, write_verdict};
 use std::alloc::{AllocError, Global};
 use std::process::Abort;
 use std::test::Fail;
-use test_doubles::ByOne;
+use test_doubles::FailingSink;
 use texts::LocationStyle;
 
 /// Rules that the tree satisfies.
@@ -205,11 +205,11 @@ struct RuledNet<'a> {
 }
 
 /// The result of rules for a network, with the output in the sink.
-fn ended<'a>(
+fn verdict_result<'a>(
     alloc: Global,
     tree: &RuledNet<'a>,
     rules: &'a [u8],
-    sink: &mut ByOne,
+    sink: &mut FailingSink,
 ) -> Result<String, AllocError>
     requires files { ArePathsInOrder tree.now.files.now }
     requires sites { length tree.now.sites.now ≡ length tree.now.net.now.imports }
@@ -229,7 +229,7 @@ fn description(
     alloc: Global,
     net: &[u8],
     rules: &[u8],
-    sink: &mut ByOne,
+    sink: &mut FailingSink,
 ) -> Result<String, AllocError> {
     let net = net_of(alloc, net, b"")?;
     let files = files_of(alloc, &net)?;
@@ -239,15 +239,15 @@ fn description(
         files: files.as_slice(),
         sites: sites.as_slice(),
     };
-    ended(alloc, &tree, rules, sink)
+    verdict_result(alloc, &tree, rules, sink)
 }
 
 /// The result and the output to a sink that takes one byte at a time.
 fn describe_bytewise(alloc: Global, net: &[u8], rules: &[u8]) -> Result<String, AllocError> {
-    let mut sink = ByOne::new(alloc, 1000);
-    let ended = description(alloc, net, rules, &mut sink)?;
+    let mut sink = FailingSink::new(alloc, 1000);
+    let verdict_result = description(alloc, net, rules, &mut sink)?;
     match str::from_utf8(sink.taken.as_slice()) {
-        Ok(put) => format!(in alloc; "{ended} {put}"),
+        Ok(put) => format!(in alloc; "{verdict_result} {put}"),
         Err(_) => String::from_str(alloc, "no text"),
     }
 }
@@ -261,10 +261,10 @@ fn describe_prefix(
     text: &[u8],
     writes: u64,
 ) -> Result<String, AllocError> {
-    let mut sink = ByOne::new(alloc, writes);
-    let ended = description(alloc, net, rules, &mut sink)?;
+    let mut sink = FailingSink::new(alloc, writes);
+    let verdict_result = description(alloc, net, rules, &mut sink)?;
     format!(in alloc;
-        "{ended} {} {} {} {}",
+        "{verdict_result} {} {} {} {}",
         text.starts_with(sink.taken.as_slice()),
         sink.taken.len(),
         sink.failures,
@@ -273,7 +273,7 @@ fn describe_prefix(
 }
 
 /// A name of 66,000 letters between these words.
-fn around_a_name(alloc: Global, front: &[u8], behind: &[u8]) -> Result<Vec<u8>, AllocError> {
+fn around_long_name(alloc: Global, front: &[u8], behind: &[u8]) -> Result<Vec<u8>, AllocError> {
     let mut text = Vec::from_slice(alloc, front)?;
     for _ in 0..66000u32 {
         text.push(b'L')?;
@@ -284,9 +284,9 @@ fn around_a_name(alloc: Global, front: &[u8], behind: &[u8]) -> Result<Vec<u8>, 
 
 /// The result of a rule for that module with a sink that takes this many bytes.
 fn describe_long_name(alloc: Global, writes: u64) -> Result<String, AllocError> {
-    let net = around_a_name(alloc, b"import ", b" B 1\n")?;
-    let rules = around_a_name(alloc, b"forbid ", b" B\n")?;
-    let text = around_a_name(alloc, b"M.Mod:1:0: no 1 ", b" B\n")?;
+    let net = around_long_name(alloc, b"import ", b" B 1\n")?;
+    let rules = around_long_name(alloc, b"forbid ", b" B\n")?;
+    let text = around_long_name(alloc, b"M.Mod:1:0: no 1 ", b" B\n")?;
     describe_prefix(
         alloc,
         net.as_slice(),
@@ -297,7 +297,7 @@ fn describe_long_name(alloc: Global, writes: u64) -> Result<String, AllocError> 
 }
 
 /// Checks that a sink that takes this many bytes has that prefix of the output for the tree.
-fn stops<R: Abort + AllocGlobal>(
+fn check_prefix_at<R: Abort + AllocGlobal>(
     rt: &R,
     rules: &[u8],
     text: &[u8],
@@ -335,8 +335,8 @@ fn broken_rules_are_reported_by_import(rt: HostRuntime) -> Result<(), Fail> {
 
 #[test]
 fn a_verdict_stops_at_each_write(rt: HostRuntime) -> Result<(), Fail> {
-    stops(&rt, b"forbid Heap Net", b"yes\n", 4)?;
-    stops(
+    check_prefix_at(&rt, b"forbid Heap Net", b"yes\n", 4)?;
+    check_prefix_at(
         &rt,
         b"forbid Sync Heap",
         b"M.Mod:2:1: no 1 Sync Net Heap\n",

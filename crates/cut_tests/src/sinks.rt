@@ -5,7 +5,7 @@ use byte_sink::{Sink, SinkFault, ToWrite, write_fully};
 use std::alloc::{AllocError, Global};
 use std::io;
 use std::test::Fail;
-use test_doubles::ByOne;
+use test_doubles::FailingSink;
 
 /// A writer that takes three bytes at a time, and none from a certain call on.
 #[derive(Drop)]
@@ -70,7 +70,7 @@ fn describe_writes(alloc: Global) -> Result<String, AllocError> {
 /// The state of a sink that fails after this many writes: whether it has a prefix of the text, its length, the number of failures, and of
 /// empty writes.
 fn append_prefix(description: &mut String, alloc: Global, writes: u64) -> Result<(), AllocError> {
-    let mut sink = ByOne::new(alloc, writes);
+    let mut sink = FailingSink::new(alloc, writes);
     append_write(description, &mut sink, b"report")?;
     write!(
         description,

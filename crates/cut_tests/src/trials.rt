@@ -25,7 +25,7 @@ fn describe_flow(alloc: Global, graph: &ResidualGraph) -> Result<String, AllocEr
 }
 
 /// Checks that the initial flows from the first node to the last are equal.
-fn is_as_before<R: Abort + AllocGlobal>(rt: &R, drawn: Drawn) -> Result<(), AllocError>
+fn check_initial_flows<R: Abort + AllocGlobal>(rt: &R, drawn: Drawn) -> Result<(), AllocError>
     requires nodes { 2 ≤ drawn.nodes }
     requires within { All (λ r. r.flow ≤ r.capacity) drawn.arcs.items }
     requires between { All (λ r. (r.from < drawn.nodes) × (r.to < drawn.nodes)) drawn.arcs.items }
@@ -47,7 +47,7 @@ fn the_initial_flow_is_the_recorded_one(rt: HostRuntime) -> Result<(), Fail> {
     let mut seed = Seed { state: 2 };
     for k in 0..GRAPHS {
         let drawn = draw(rt.alloc(), &mut seed, k % 2 == 0, k % 8 == 7)?;
-        is_as_before(&rt, drawn)?;
+        check_initial_flows(&rt, drawn)?;
     }
     Ok(())
 }

@@ -92,7 +92,7 @@ fn lines_of(alloc: Global, rows: &[Line]) -> Result<Vec<Priced>, AllocError> {
     Ok(lines)
 }
 
-fn answer_of(alloc: Global, claim: Claim) -> Result<Answer, AllocError> {
+fn make_answer(alloc: Global, claim: Claim) -> Result<Answer, AllocError> {
     match claim {
         Claim::Cut(imports, weight, flow) => {
             let imports = lines_of(alloc, imports)?;
@@ -110,19 +110,19 @@ fn answer_of(alloc: Global, claim: Claim) -> Result<Answer, AllocError> {
     }
 }
 
-fn judged(alloc: Global, net: &Net, to: u32, claim: Claim) -> Result<String, AllocError> {
+fn describe_check(alloc: Global, net: &Net, to: u32, claim: Claim) -> Result<String, AllocError> {
     if to >= net.nodes() {
         return Err(AllocError);
     }
-    let verdict = check(alloc, net, 0, to, &answer_of(alloc, claim)?)?;
+    let verdict = check(alloc, net, 0, to, &make_answer(alloc, claim)?)?;
     format!(in alloc; "{verdict:?}")
 }
 
 #[test]
-fn what_no_report_says_is_judged(rt: HostRuntime) -> Result<(), Fail> {
+fn answers_that_no_report_states_are_checked(rt: HostRuntime) -> Result<(), Fail> {
     for (net, prices, to, claim, want) in ROWS {
         let net = net_of(rt.alloc(), net, prices)?;
-        let description = judged(rt.alloc(), &net, *to, *claim)?;
+        let description = describe_check(rt.alloc(), &net, *to, *claim)?;
         expect(&rt, description.as_str(), want);
     }
     Ok(())

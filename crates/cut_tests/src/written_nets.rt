@@ -8,7 +8,7 @@ use cut_net::Net;
 use cut_report::{shortest_import_path, write_chain, write_net};
 use std::alloc::{AllocError, Global};
 use std::test::Fail;
-use test_doubles::ByOne;
+use test_doubles::FailingSink;
 
 /// Lists is imported by Main only, Out by both without a line of its own, and Alone has only its own line.
 const WITH_ALONE: &[u8] =
@@ -96,12 +96,12 @@ fn write_path<S: Sink>(
 /// The output of a network to a sink that takes one byte at a time.
 fn describe_net(alloc: Global, text: &[u8]) -> Result<String, AllocError> {
     let net = net_of(alloc, text, b"")?;
-    let mut sink = ByOne::new(alloc, 1000);
+    let mut sink = FailingSink::new(alloc, 1000);
     let whole = write_if_unpinned(alloc, &net, &mut sink)?;
     describe_taken(alloc, whole, &sink)
 }
 
-fn describe_taken(alloc: Global, whole: bool, sink: &ByOne) -> Result<String, AllocError> {
+fn describe_taken(alloc: Global, whole: bool, sink: &FailingSink) -> Result<String, AllocError> {
     match str::from_utf8(sink.taken.as_slice()) {
         Ok(text) if whole => String::from_str(alloc, text),
         _ => String::from_str(alloc, "failed"),
@@ -110,7 +110,7 @@ fn describe_taken(alloc: Global, whole: bool, sink: &ByOne) -> Result<String, Al
 
 fn describe_chain(alloc: Global, text: &[u8], from: u32, to: u32) -> Result<String, AllocError> {
     let net = net_of(alloc, text, b"")?;
-    let mut sink = ByOne::new(alloc, 1000);
+    let mut sink = FailingSink::new(alloc, 1000);
     match write_path(alloc, &net, from, to, &mut sink)? {
         Some(whole) => describe_taken(alloc, whole, &sink),
         None => String::from_str(alloc, "none"),
@@ -121,7 +121,7 @@ fn describe_chain(alloc: Global, text: &[u8], from: u32, to: u32) -> Result<Stri
 fn append_prefix(
     description: &mut String,
     whole: bool,
-    sink: &ByOne,
+    sink: &FailingSink,
     text: &str,
 ) -> Result<(), AllocError> {
     write!(
@@ -136,7 +136,7 @@ fn append_prefix(
 /// Appends the state of a sink that fails after this many bytes, for a network of two modules and for its path.
 fn append_failed(description: &mut String, alloc: Global, writes: u64) -> Result<(), AllocError> {
     let net = net_of(alloc, b"import A B 1", b"")?;
-    let mut sink = ByOne::new(alloc, writes);
+    let mut sink = FailingSink::new(alloc, writes);
     let whole = write_if_unpinned(alloc, &net, &mut sink)?;
     append_prefix(
         description,
@@ -144,7 +144,7 @@ fn append_failed(description: &mut String, alloc: Global, writes: u64) -> Result
         &sink,
         "module A\nmodule B\nimport A B 1\n",
     )?;
-    let mut sink = ByOne::new(alloc, writes);
+    let mut sink = FailingSink::new(alloc, writes);
     let whole = write_path(alloc, &net, 0, 1, &mut sink)? == Some(true);
     append_prefix(description, whole, &sink, "import A B 1\n")
 }
@@ -166,7 +166,7 @@ fn a_network_is_written_as_its_lines(rt: HostRuntime) -> Result<(), Fail> {
 }
 
 #[test]
-fn what_is_written_is_read_back(rt: HostRuntime) -> Result<(), Fail> {
+fn a_written_network_is_read_back(rt: HostRuntime) -> Result<(), Fail> {
     for (_, text) in PUT {
         expect(
             &rt,

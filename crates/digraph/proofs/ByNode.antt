@@ -8,7 +8,7 @@ use Rattle.std.proofs.Math.Seq.{take-suc}
 use Rattle.digraph.specs.declared.edge.Edge.{Edge}
 use Rattle.digraph.specs.Edges.{successors, predecessors}
 use Rattle.digraph.specs.Marks.{edge_at, missing_item, list_at}
-use Rattle.digraph.specs.Edges.{transposed}
+use Rattle.digraph.specs.Edges.{transpose}
 use Rattle.digraph.specs.Edges.{AreBetween}
 use Rattle.digraph.proofs.Members.{from_map}
 
@@ -38,15 +38,15 @@ rows_more edges rows new k l within old is v =
     ]
 
 -- the converse
-pub predecessors_flipped : (edges : List Edge) (v : ℕ) → predecessors (map transposed edges) v ≡ successors edges v
+pub predecessors_flipped : (edges : List Edge) (v : ℕ) → predecessors (map transpose edges) v ≡ successors edges v
 predecessors_flipped [] v = refl
 predecessors_flipped (p ∷ ps) v = elim (cases_Bool (p.from == v)) [
   | inl t ↦ rw t (ap (λ (r : List ℕ). p.to ∷ r) (predecessors_flipped ps v))
   | inr f ↦ rw f (predecessors_flipped ps v)
 ]
 
-pub flipped_between : (edges : List Edge) (count : ℕ) → AreBetween edges count → AreBetween (map transposed edges) count
+pub flipped_between : (edges : List Edge) (count : ℕ) → AreBetween edges count → AreBetween (map transpose edges) count
 flipped_between edges count between p h =
-    let q = from_map transposed edges p h in
+    let q = from_map transpose edges p h in
     let b = between q.0 q.1 in
     subst (λ (r : Edge). (r.from < count) × (r.to < count)) q.2 (b.1, b.0)

@@ -9,15 +9,15 @@ use Rattle.std.proofs.lemmas.List.Elements.{All-append, All-from_get_or}
 use Rattle.std.proofs.lemmas.Map.Keys.{apart_from_distinct, IsDistinct-from_apart}
 use Rattle.std.proofs.Math.Seq.{drop-append_seam, take-append_seam}
 use Rattle.digraph.specs.Chains.{Chain, IsAcyclic}
-use Rattle.digraph.specs.Cycle.{ClosesAt, IsCycleCore, IsLeast, IsNext, IsRotated, IsWalk, IsCanonicalCycle}
+use Rattle.digraph.specs.Cycle.{ClosesAt, IsCycleCore, IsLeast, IsSmallestSuccessor, IsRotated, IsWalk, IsCanonicalCycle}
 use Rattle.digraph.proofs.Walks.{All-prefix, All-back}
 
 -- two cycle cores have the same members
 abbrev AreSame : (ℕ → Bool) → (ℕ → Bool) → Type 0
 AreSame s t = (v : ℕ) → s v ≡ t v
 
-transposed : (s t : ℕ → Bool) → AreSame s t → AreSame t s
-transposed s t e v = sym (e v)
+transpose : (s t : ℕ → Bool) → AreSame s t → AreSame t s
+transpose s t e v = sym (e v)
 
 same_endlesss : (G : ℕ → ℕ → Type 0) (s t : ℕ → Bool) → IsCycleCore G s → IsCycleCore G t → AreSame s t
 same_endlesss G s t a b v = elim (cases_Bool (s v)) [
@@ -31,7 +31,7 @@ same_least s t e v w a b =
     let down : w ≤ v = b.least v (sym (e v) ∙ a.member) in
     omega arith
 
-same_next : (G : ℕ → ℕ → Type 0) (s t : ℕ → Bool) → AreSame s t → (v w x y : ℕ) → v ≡ x → IsNext G s v w → IsNext G t x y → w ≡ y
+same_next : (G : ℕ → ℕ → Type 0) (s t : ℕ → Bool) → AreSame s t → (v w x y : ℕ) → v ≡ x → IsSmallestSuccessor G s v w → IsSmallestSuccessor G t x y → w ≡ y
 same_next G s t e v w x y same a b =
     let up : w ≤ y = a.least y (subst (λ (u : ℕ). G u y) (sym same) b.leads) (e y ∙ b.member) in
     let down : y ≤ w = b.least w (subst (λ (u : ℕ). G u w) same a.leads) (sym (e w) ∙ a.member) in
@@ -77,7 +77,7 @@ same_length G s t e xs ys p q a b = elim (cases_order (length xs) (length ys)) [
   | inl same ↦ same
   | inr differs ↦ elim differs [
     | inl lt ↦ absurd (not_shorter G s t e xs ys p a b.walked lt)
-    | inr gt ↦ absurd (not_shorter G t s (transposed s t e) ys xs q b a.walked gt)
+    | inr gt ↦ absurd (not_shorter G t s (transpose s t e) ys xs q b a.walked gt)
   ]
 ]
 
@@ -151,8 +151,8 @@ rest_distinct xs p once = IsDistinct-from_apart nat_eq (drop p xs) (λ i j d lt 
     rw (get_or-drop p xs i d, get_or-drop p xs j d) (apart_from_distinct nat_eq xs (p + i) (p + j) d once (omega arith) inside))
 
 -- the canonical cycle is unique
-pub one_cycle : (G : ℕ → ℕ → Type 0) (a b : List ℕ) → IsCanonicalCycle G a → IsCanonicalCycle G b → a ≡ b
-one_cycle G a b s t =
+pub cycle_is_unique : (G : ℕ → ℕ → Type 0) (a b : List ℕ) → IsCanonicalCycle G a → IsCanonicalCycle G b → a ≡ b
+cycle_is_unique G a b s t =
     let e : AreSame s.core_nodes t.core_nodes = same_endlesss G s.core_nodes t.core_nodes s.is_core t.is_core in
     let walks : s.walk ≡ t.walk = same_walks G s.core_nodes t.core_nodes e s.walk t.walk s.place t.place s.closes_at t.closes_at in
     let places : s.place ≡ t.place = same_places G s.core_nodes t.core_nodes e s.walk t.walk s.place t.place s.closes_at t.closes_at in

@@ -2,7 +2,7 @@
 use Rattle.std.proofs.Common.{ℕ, List, [], ◌∷◌, Bool}
 use Rattle.std.specs.Prelude.{◌↔◌}
 use Rattle.digraph.specs.Chains.{IsAcyclic, IsChain}
-use Rattle.digraph.specs.Cycle.{ClosesAt, EachLeadsToMember, IsCycleCore, IsNext, IsWalk, IsCanonicalCycle}
+use Rattle.digraph.specs.Cycle.{ClosesAt, EachLeadsToMember, IsCycleCore, IsSmallestSuccessor, IsWalk, IsCanonicalCycle}
 
 abbrev pub AreSame : (ℕ → ℕ → Type 0) → (ℕ → ℕ → Type 0) → Type 0
 AreSame G H = (m n : ℕ) → G m n ↔ H m n
@@ -17,7 +17,7 @@ module _ (G H : ℕ → ℕ → Type 0) (same : AreSame G H) where
     greatest = λ t each. k.greatest t (each_as H G (λ m n. (same m n).1) t each);
   }
 
-  next_as : (s : ℕ → Bool) (v w : ℕ) → IsNext G s v w → IsNext H s v w
+  next_as : (s : ℕ → Bool) (v w : ℕ) → IsSmallestSuccessor G s v w → IsSmallestSuccessor H s v w
   next_as s v w n = record {
     leads = (same v w).0 n.leads;
     member = n.member;

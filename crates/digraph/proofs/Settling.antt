@@ -6,7 +6,7 @@ use Rattle.std.proofs.lemmas.Bool.Decides.{nat_tests}
 use Rattle.std.proofs.lemmas.List.{get_or_default, get_or-set_same, get_or-set_other, get_or-replicate, length-set}
 use Rattle.std.proofs.lemmas.List.Elements.{Contains-get_or, Contains-append_left, Contains-append_right, Contains-push_cases}
 use Rattle.digraph.specs.declared.edge.Edge.{Edge}
-use Rattle.digraph.specs.Cycle.{EachLeadsToMember, IsNext}
+use Rattle.digraph.specs.Cycle.{EachLeadsToMember, IsSmallestSuccessor}
 use Rattle.digraph.specs.Marks.{missing_item, edge_at, marked, mark_count, index_at, work_left, StartsFrom, ArePassed, LeadsToMarked, AreStarts, IsPruning}
 use Rattle.digraph.specs.Incoming.{AreDependents}
 use Rattle.digraph.specs.Edges.{AreBetween, IsAscending, Leads, comes_before}
@@ -233,7 +233,7 @@ settled_leads edges nodes marks places s v h = elim (s.waits v h) [
 ]
 
 pub settled_next : (edges : List Edge) (nodes : ℕ) (marks : List Bool) (places : List ℕ) → IsAscending edges → IsPruning edges nodes marks places [] → (v : ℕ) → marked marks v ≡ true
-    → IsNext (Leads edges) (marked marks) v (edge_at edges (index_at places v)).to
+    → IsSmallestSuccessor (Leads edges) (marked marks) v (edge_at edges (index_at places v)).to
 settled_next edges nodes marks places up s v h =
     let l = settled_leads edges nodes marks places s v h in
     let p = index_at places v in

@@ -10,7 +10,7 @@ use Rattle.std.proofs.lemmas.Map.Steps.{length-le_from_distinct_below}
 use Rattle.std.proofs.lemmas.Map.Views.{exact_unsigned_eq, Contains-from_any}
 use Rattle.std.proofs.lemmas.Cmp.{nat_eq_equiv}
 use Rattle.std.proofs.Math.Seq.{get_or-append_seam}
-use Rattle.digraph.specs.Cycle.{ClosesAt, IsLeast, IsNext, IsRotated, IsWalk}
+use Rattle.digraph.specs.Cycle.{ClosesAt, IsLeast, IsSmallestSuccessor, IsRotated, IsWalk}
 use Rattle.digraph.specs.Marks.{marked}
 use Rattle.digraph.proofs.Settling.{marked_below}
 
@@ -23,7 +23,7 @@ pub record Walking (Leads : ℕ → ℕ → Type 0) (s : ℕ → Bool) (walk : L
   pub walked : IsWalk Leads s walk
   pub members : (k : ℕ) → k < length walk → s (slice_index walk k) ≡ true
   pub first : length walk ≡ 0 → IsLeast s at
-  pub next : (n : ℕ) → n + 1 ≡ length walk → IsNext Leads s (slice_index walk n) at
+  pub next : (n : ℕ) → n + 1 ≡ length walk → IsSmallestSuccessor Leads s (slice_index walk n) at
   pub member : s at ≡ true
   pub placed : (k : ℕ) → k < length walk → index_in table (slice_index walk k) ≡ Some k
   pub known : (v k : ℕ) → index_in table v ≡ Some k → (k < length walk) × (slice_index walk k ≡ v)
@@ -130,14 +130,14 @@ module _ (Leads : ℕ → ℕ → Type 0) (s : ℕ → Bool) (walk : List ℕ) (
             (omega arith, old k l ∙ p.1)
       ]
 
-  pub last_leads : (y n : ℕ) → IsNext Leads s at y → n + 1 ≡ length (walk ++ at ∷ []) → IsNext Leads s (slice_index (walk ++ at ∷ []) n) y
+  pub last_leads : (y n : ℕ) → IsSmallestSuccessor Leads s at y → n + 1 ≡ length (walk ++ at ∷ []) → IsSmallestSuccessor Leads s (slice_index (walk ++ at ∷ []) n) y
   last_leads y n next e =
       let long : length (walk ++ at ∷ []) ≡ length walk + 1 = length-append walk (at ∷ []) in
       let last : n ≡ length walk = omega arith in
       rw (end n last) next
 
   -- the walk continues
-  pub walking_more : (y : ℕ) → at < length table → IsNext Leads s at y → index_in (slice_set table at (Some (length walk))) y ≡ None
+  pub walking_more : (y : ℕ) → at < length table → IsSmallestSuccessor Leads s at y → index_in (slice_set table at (Some (length walk))) y ≡ None
       → Walking Leads s (walk ++ at ∷ []) (slice_set table at (Some (length walk))) y
   walking_more y here next unmet =
       let long : length (walk ++ at ∷ []) ≡ length walk + 1 = length-append walk (at ∷ []) in
@@ -153,7 +153,7 @@ module _ (Leads : ℕ → ℕ → Type 0) (s : ℕ → Bool) (walk : List ℕ) (
       }
 
   -- the walk closes a cycle
-  pub walking_back : (y k : ℕ) → at < length table → IsNext Leads s at y → index_in (slice_set table at (Some (length walk))) y ≡ Some k → ClosesAt Leads s (walk ++ at ∷ []) k
+  pub walking_back : (y k : ℕ) → at < length table → IsSmallestSuccessor Leads s at y → index_in (slice_set table at (Some (length walk))) y ≡ Some k → ClosesAt Leads s (walk ++ at ∷ []) k
   walking_back y k here next met =
       let p = all_known here y k met in
       record {
@@ -178,7 +178,7 @@ table_read table v o is l = get_or_default table v None o l ∙ sym is
 
 module _ (Leads : ℕ → ℕ → Type 0) (s : ℕ → Bool) (walk : List ℕ) (table : List (Option ℕ)) (at : ℕ) (w : Walking Leads s walk table at) where
   -- the state after a step that pushes the current node and finds no index for the next one
-  pub step_more : (new : List ℕ) (n y : ℕ) (r : Option ℕ) → new ≡ walk ++ at ∷ [] → n ≡ length walk → at < length table → y < length table → IsNext Leads s at y
+  pub step_more : (new : List ℕ) (n y : ℕ) (r : Option ℕ) → new ≡ walk ++ at ∷ [] → n ≡ length walk → at < length table → y < length table → IsSmallestSuccessor Leads s at y
       → r ≡ slice_index_or (slice_set table at (Some n)) y r → r ≡ None → Walking Leads s new (slice_set table at (Some n)) y
   step_more new n y r pushed counted here there next read is =
       let in_table : y < length (slice_set table at (Some n)) = (let e = length-set table at (Some n) in omega arith) in
@@ -187,7 +187,7 @@ module _ (Leads : ℕ → ℕ → Type 0) (s : ℕ → Bool) (walk : List ℕ) (
       (subst (λ (m : ℕ). Walking Leads s (walk ++ at ∷ []) (slice_set table at (Some m)) y) (sym counted)
       (walking_more Leads s walk table at w y here next (subst (λ (m : ℕ). index_in (slice_set table at (Some m)) y ≡ None) counted unmet)))
 
-  pub step_back : (new : List ℕ) (n y k : ℕ) (r : Option ℕ) → new ≡ walk ++ at ∷ [] → n ≡ length walk → at < length table → y < length table → IsNext Leads s at y
+  pub step_back : (new : List ℕ) (n y k : ℕ) (r : Option ℕ) → new ≡ walk ++ at ∷ [] → n ≡ length walk → at < length table → y < length table → IsSmallestSuccessor Leads s at y
       → r ≡ slice_index_or (slice_set table at (Some n)) y r → r ≡ Some k → ClosesAt Leads s new k
   step_back new n y k r pushed counted here there next read is =
       let in_table : y < length (slice_set table at (Some n)) = (let e = length-set table at (Some n) in omega arith) in

@@ -14,7 +14,7 @@ module _ (Leads : ℕ → ℕ → Type 0) where
     pub greatest : (t : ℕ → Bool) → EachLeadsToMember t → (v : ℕ) → t v ≡ true → s v ≡ true
 
   -- w is the smallest member that v has an edge to
-  pub record IsNext (s : ℕ → Bool) (v w : ℕ) : Type 0 where
+  pub record IsSmallestSuccessor (s : ℕ → Bool) (v w : ℕ) : Type 0 where
     pub leads : Leads v w
     pub member : s w ≡ true
     pub least : (u : ℕ) → Leads v u → s u ≡ true → w ≤ u
@@ -27,14 +27,14 @@ pub record IsLeast (s : ℕ → Bool) (v : ℕ) : Type 0 where
 -- a walk through the set: from its smallest member, on to the smallest successor in the set, without a repeated node
 pub record IsWalk (Leads : ℕ → ℕ → Type 0) (s : ℕ → Bool) (walk : List ℕ) : Type 0 where
   pub begins : 0 < length walk → IsLeast s (slice_index walk 0)
-  pub goes_on : (k : ℕ) → k + 1 < length walk → IsNext Leads s (slice_index walk k) (slice_index walk (k + 1))
+  pub goes_on : (k : ℕ) → k + 1 < length walk → IsSmallestSuccessor Leads s (slice_index walk k) (slice_index walk (k + 1))
   pub once : IsDistinct nat_eq walk
 
--- after the walk the next node is the one at index k of the walk
+-- the walk closes: the smallest successor of its last node in the set is the walk's node at index k
 pub record ClosesAt (Leads : ℕ → ℕ → Type 0) (s : ℕ → Bool) (walk : List ℕ) (k : ℕ) : Type 0 where
   pub walked : IsWalk Leads s walk
   pub place : k < length walk
-  pub back : (n : ℕ) → n + 1 ≡ length walk → IsNext Leads s (slice_index walk n) (slice_index walk k)
+  pub back : (n : ℕ) → n + 1 ≡ length walk → IsSmallestSuccessor Leads s (slice_index walk n) (slice_index walk k)
 
 -- a rotation of the list that begins with its smallest number
 pub record IsRotated (loop rotated : List ℕ) : Type 0 where

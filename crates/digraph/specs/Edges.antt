@@ -26,5 +26,5 @@ abbrev pub predecessors : List Edge → ℕ → List ℕ
 predecessors edges v = map (λ p. p.from) (filter (λ p. p.to == v) edges)
 
 -- the reversed edge
-abbrev pub transposed : Edge → Edge
-transposed p = record { from = p.to; to = p.from }
+abbrev pub transpose : Edge → Edge
+transpose p = record { from = p.to; to = p.from }

@@ -17,7 +17,7 @@ pub record AreDependents (edges : List Edge) (places : List ℕ) (v : ℕ) (row 
   pub all : (k : ℕ) → k < length edges → (edge_at edges k).to ≡ v → index_at places (edge_at edges k).from ≡ k → Contains row (edge_at edges k).from
   pub few : length row ≤ length edges
 
--- the list has each node whose current edge leads to v and has an index of at least next
+-- the list has the source of each current edge that leads to v and whose index is at least `next`
 pub record AreDependentsFrom (edges : List Edge) (places : List ℕ) (v : ℕ) (row : List ℕ) (next : ℕ) : Type 0 where
   pub all : (k : ℕ) → next ≤ k → k < length edges → (edge_at edges k).to ≡ v → index_at places (edge_at edges k).from ≡ k → Contains row (edge_at edges k).from
   pub few : length row + next ≤ length edges

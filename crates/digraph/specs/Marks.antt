@@ -10,6 +10,7 @@ use Rattle.digraph.specs.Edges.{Leads}
 abbrev pub missing_item : Edge
 missing_item = record { from = 0; to = 0 }
 
+-- the edge at this index; `missing_item` past the end
 abbrev pub edge_at : List Edge → ℕ → Edge
 edge_at edges k = slice_index_or edges k missing_item
 
@@ -23,7 +24,7 @@ mark_count [] = 0
 mark_count (true ∷ marks) = mark_count marks + 1
 mark_count (false ∷ marks) = mark_count marks
 
--- from this index on no edge belongs to a node before v
+-- no edge from index `place` on has a source below v
 abbrev pub StartsFrom : List Edge → ℕ → ℕ → Type 0
 StartsFrom edges v place = (k : ℕ) → place ≤ k → k < length edges → v ≤ (edge_at edges k).from
 
@@ -52,6 +53,7 @@ pub record AreStarts (edges : List Edge) (nodes : ℕ) (places : List ℕ) : Typ
 abbrev pub lists : List (Vec ℕ Global) → List (List ℕ)
 lists rows = map (λ r. r.items) rows
 
+-- the list at this index; empty past the end
 abbrev pub list_at : List (List ℕ) → ℕ → List ℕ
 list_at rows v = slice_index_or rows v []
 

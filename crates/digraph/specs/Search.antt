@@ -6,7 +6,7 @@ use Rattle.digraph.specs.Edges.{Leads}
 use Rattle.digraph.specs.Marks.{marked}
 use Rattle.digraph.specs.ShortestPaths.{IsPathAround, IsShortestPath}
 
--- the node before this one on its shortest path, or a start itself; none for a node that no path leads to
+-- the parent of the node in the breadth-first tree; none past the end, and for a node that was not discovered
 abbrev pub parent_of : List (Option ℕ) → ℕ → Option ℕ
 parent_of parents v = slice_index_or parents v None
 
@@ -28,7 +28,8 @@ pub record IsSearch (edges : List Edge) (starts : List ℕ) (barrier : List Bool
   pub parent : (v u : ℕ) → parent_of search.parents.items v ≡ Some u → (w : ℕ) × (parent_of search.parents.items u ≡ Some w)
   pub step : (v u : ℕ) (path : List ℕ) → parent_of search.parents.items v ≡ Some u → v ≢ u → IsShortestPath (Leads edges) starts barrier u path → IsShortestPath (Leads edges) starts barrier v (path ++ v ∷ [])
 
--- those of the nodes that had no parent and that the barrier doesn't flag now have the given parent, and `found` lists them, sorted
+-- each of `nodes` that had no parent and that the barrier doesn't flag now has the parent that `given` maps it to; `found` lists these
+-- nodes, sorted
 pub record AreDiscovered (nodes : List ℕ) (barrier : List Bool) (given : ℕ → ℕ) (old new : List (Option ℕ)) (found : List ℕ) : Type 0 where
   pub size : length new ≡ length old
   pub unchanged : (v u : ℕ) → parent_of old v ≡ Some u → parent_of new v ≡ Some u

@@ -1,4 +1,4 @@
--- The worklist of a reachability search: steps are numbered, and each leads from a node of its own to another node.
+-- The worklist of a reachability search. Its steps are numbered; each step leads from one node to another.
 use Rattle.std.specs.Prelude.{◌≡◌, ◌⊎◌, ℕ, ◌+◌, ◌<◌, not, Bool, true, List, length, count_by, Contains}
 use Rattle.digraph.specs.Marks.{marked}
 
@@ -7,7 +7,7 @@ pub record IsSpread (leaves : ℕ → ℕ → Type 0) (to : ℕ → ℕ) (count 
   pub waits : (v : ℕ) → Contains waiting v → marked marks v ≡ true
   pub followed : (k v : ℕ) → k < count → leaves v k → marked marks v ≡ true → (marked marks (to k) ≡ true) ⊎ Contains waiting v
 
--- as `IsSpread`, while the steps of one node are followed in descending order: those with a number below next are left
+-- `IsSpread` while the steps of the node `one` are followed in descending order: its steps with a number below `next` are left
 pub record IsSpreadBut (leaves : ℕ → ℕ → Type 0) (to : ℕ → ℕ) (count : ℕ) (marks : List Bool) (waiting : List ℕ) (one next : ℕ) : Type 0 where
   pub waits : (v : ℕ) → Contains waiting v → marked marks v ≡ true
   pub own : marked marks one ≡ true

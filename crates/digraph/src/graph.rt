@@ -5,7 +5,7 @@ ghost use Rattle.digraph.specs.Graphs.{IsGraph};
 ghost use Rattle.digraph.specs.Marks.{lists, list_at};
 
 use crate::Edge;
-use crate::rows::{predecessor_lists, transposed};
+use crate::adjacency::{predecessor_lists, transpose};
 use std::alloc::{AllocError, Global};
 
 /// A graph with its adjacency lists, so that it can be searched more than once.
@@ -13,7 +13,7 @@ use std::alloc::{AllocError, Global};
 pub struct Graph<'a> {
     /// The edges, strictly sorted by source and then by target.
     pub edges: &'a [Edge],
-    /// For each node its successors.
+    /// For each node its successors, in ascending order.
     pub after: Vec<Vec<u32>>,
 }
 
@@ -24,7 +24,7 @@ fn successor_lists(alloc: Global, edges: &[Edge], nodes: usize) -> Result<Vec<Ve
     ensures size { IfOk result (λ rows. vec_len rows ≡ nodes) }
     ensures rows { IfOk result (λ rows. (v : ℕ) → list_at (lists rows.items) v ≡ successors edges.now v) }
 {
-    let rotated = transposed(alloc, edges)?;
+    let rotated = transpose(alloc, edges)?;
     let rows = predecessor_lists(alloc, rotated.as_slice(), nodes)?;
     Ok(rows)
 }
@@ -39,9 +39,9 @@ pub fn graph_of(alloc: Global, edges: &[Edge], nodes: usize) -> Result<Graph<'_>
     requires few_nodes { nodes ≤ 8192 }
     // The graph has the successors of each node, and can be searched.
     ensures graph { IfOk result IsGraph }
-    // Its edges are the given ones.
+    // The edges of the graph are the given edges.
     ensures edges { IfOk result (λ graph. graph.edges.now ≡ edges.now) }
-    // It has `nodes` nodes.
+    // The graph has `nodes` nodes.
     ensures nodes { IfOk result (λ graph. vec_len graph.after ≡ nodes) }
 {
     let after = successor_lists(alloc, edges, nodes)?;

@@ -6,7 +6,7 @@ ghost use Rattle.digraph.specs.Cycle.{IsCanonicalCycle};
 ghost use Rattle.digraph.specs.Edges.{Leads};
 
 /// The canonical cycle is unique.
-pub fn one_cycle()
+pub fn cycle_is_unique()
     // Two canonical cycles are equal.
     ensures { (edges : List GraphEdge) (a b : List ℕ) → IsCanonicalCycle (Leads edges) a → IsCanonicalCycle (Leads edges) b → a ≡ b }
 {}

@@ -9,9 +9,9 @@ use std::alloc::{AllocError, Global};
 /// one; 0 ends a list. Costs one number for each key and one for each item, and needs no sorting.
 #[derive(Drop)]
 pub struct LinkedLists {
-    /// For each key its last item.
+    /// For each key the index plus one of its last item; 0 if no item has the key.
     pub last: Vec<u32>,
-    /// For each item the previous item with an equal key.
+    /// For each item the index plus one of the previous item with an equal key; 0 if there is none.
     pub before: Vec<u32>,
 }
 

@@ -18,13 +18,13 @@ pub fn sort_and_dedup(edges: &mut Vec<Edge>)
     edges.dedup();
 }
 
-/// The inverse of an order: for each node its index in it. Fails if an allocation fails.
+/// The inverse of an order of the nodes: for each node its index in the order. Fails if an allocation fails.
 pub fn ranks_of(alloc: Global, order: &[u32]) -> Result<Vec<u32>, AllocError>
     // There are at most 8,192 nodes.
     requires few { length order.now ≤ 8192 }
     // Each node is a number below the length.
     requires within { All (λ v. v < length order.now) order.now }
-    // It is the inverse of the order.
+    // The result is the inverse of the order.
     ensures { IfOk result (λ ranks. AreRanks order.now ranks.items) }
 {
     let mut ranks = vec![in alloc; 0; order.len()]?;
@@ -40,7 +40,7 @@ pub fn renumber_edges(alloc: Global, edges: &[Edge], ranks: &[u32]) -> Result<Ve
     requires between { AreBetween edges.now (length ranks.now) }
     // They are strictly sorted.
     ensures ascending { IfOk result (λ others. IsAscending others.items) }
-    // They are exactly the edges with each node replaced by its rank.
+    // The result has exactly the given edges with each node replaced by its rank.
     ensures same { IfOk result (λ others. (p : GraphEdge) → Contains others.items p ↔ Contains (map (by_ranks ranks.now) edges.now) p) }
 {
     let mut others = Vec::new(alloc);

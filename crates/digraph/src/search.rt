@@ -17,7 +17,7 @@ pub struct Search {
     pub(crate) parents: Vec<Option<u32>>,
 }
 
-/// The parent of the node; past the end there is none.
+/// The parent of the node; none past the end.
 fn parent_at(parents: &[Option<u32>], node: u32) -> Option<u32>
     ensures { result ≡ parent_of parents.now node }
 {
@@ -27,8 +27,8 @@ fn parent_at(parents: &[Option<u32>], node: u32) -> Option<u32>
     }
 }
 
-/// Gives each of the nodes that has no parent and isn't flagged the parent `parent`, or itself if `parent` is `None`, and appends it to
-/// the queue.
+/// Discovers each of `nodes` that has no parent and that the barrier doesn't flag: sets its parent to `parent`, or to the node itself if
+/// `parent` is `None`, and appends the node to the queue.
 fn discover_nodes(
     parents: &mut Vec<Option<u32>>,
     queue: &mut Vec<u32>,
@@ -38,6 +38,7 @@ fn discover_nodes(
 ) -> Result<(), AllocError>
     requires within { All (λ v. v < vec_len parents.old) nodes.now }
     requires ascending { AllPairs (λ v w. v < w) nodes.now }
+    // Exactly the nodes without parent and without flag are appended to the queue, and now have a parent.
     ensures { OnOk result ((found : List ℕ) × (queue.new.items ≡ queue.old.items ++ found) × AreDiscovered nodes.now barrier.now (λ v. unwrap_or parent v) parents.old.items parents.new.items found) }
 {
     for node in nodes {
@@ -106,7 +107,7 @@ impl Search {
     pub fn path_to(&self, alloc: Global, node: u32) -> Result<Option<Vec<u32>>, AllocError>
         // This value is the result of a search.
         requires search { (edges : List GraphEdge) × (starts : List ℕ) × (barrier : List Bool) × IsSearch edges starts barrier self.now }
-        // The path is the shortest one.
+        // The path is the shortest one, of several the lexicographically smallest.
         ensures found { IfOk result (λ answer. IfSome answer (λ path. (edges : List GraphEdge) (starts : List ℕ) (barrier : List Bool) → IsSearch edges starts barrier self.now →
             IsShortestPath (Leads edges) starts barrier node path.items)) }
         // Without a result no path leads to the node.

@@ -1,6 +1,6 @@
 //! The walk that finds the canonical cycle.
 ghost use Rattle.std.specs.Prelude.{ℕ, ◌≡◌, ◌<◌, ◌≤◌, ◌+◌, length, true, false, vec_len, IfOk, IfSome, IfNone, All, slice_index};
-ghost use Rattle.digraph.specs.Cycle.{ClosesAt, IsLeast, IsNext};
+ghost use Rattle.digraph.specs.Cycle.{ClosesAt, IsLeast, IsSmallestSuccessor};
 ghost use Rattle.digraph.specs.Marks.{edge_at, marked, index_at};
 ghost use Rattle.digraph.specs.Edges.{Leads};
 
@@ -31,11 +31,16 @@ pub(crate) fn walk(
     first: u32,
 ) -> Result<(Vec<u32>, usize), AllocError>
     requires sizes { vec_len core_nodes.now.places ≡ vec_len core_nodes.now.marks }
+    // Each member has a current edge.
     requires within { (v : ℕ) → marked core_nodes.now.marks.items v ≡ true → index_at core_nodes.now.places.items v < length edges.now }
+    // The current edge of each member leads to its smallest successor in the set.
     requires next { (v : ℕ) → marked core_nodes.now.marks.items v ≡ true →
-        IsNext (Leads edges.now) (marked core_nodes.now.marks.items) v (edge_at edges.now (index_at core_nodes.now.places.items v)).to }
+        IsSmallestSuccessor (Leads edges.now) (marked core_nodes.now.marks.items) v (edge_at edges.now (index_at core_nodes.now.places.items v)).to }
+    // `first` is the smallest member of the set.
     requires first { IsLeast (marked core_nodes.now.marks.items) first }
+    // The walk closes at the returned index.
     ensures back { IfOk result (λ found. ClosesAt (Leads edges.now) (marked core_nodes.now.marks.items) found.0.items found.1) }
+    // All nodes of the list are members of the set.
     ensures members { IfOk result (λ found. All (λ m. marked core_nodes.now.marks.items m ≡ true) found.0.items) }
 {
     let mut walk = Vec::new(alloc);

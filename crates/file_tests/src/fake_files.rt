@@ -41,7 +41,7 @@ pub struct FakeFiles {
 
 impl FakeFiles {
     /// Counts an operation, and fails if it is the one that is to fail.
-    fn step(&self) -> Result<(), FileFault> {
+    fn count_operation(&self) -> Result<(), FileFault> {
         if self.steps.fetch_add(1, Ordering::SeqCst) == self.refused {
             Err(FileFault::System)
         } else {
@@ -109,7 +109,7 @@ impl FileSystem for FakeFiles {
     ghost is_like = { λ s path file. file.is_like ≡ true };
 
     fn kind(&self, path: &str) -> Result<FileKind, FileFault> {
-        self.step()?;
+        self.count_operation()?;
         if path == OUT && self.is_link {
             return Ok(FileKind::Link);
         }
@@ -123,7 +123,7 @@ impl FileSystem for FakeFiles {
     }
 
     fn target(&self, alloc: Global, link: &str) -> Result<String, FileFault> {
-        self.step()?;
+        self.count_operation()?;
         if link == OUT && self.is_link {
             String::from_str(alloc, TARGET).map_err(|_| FileFault::Memory)
         } else {
@@ -132,7 +132,7 @@ impl FileSystem for FakeFiles {
     }
 
     fn is_writable(&self, path: &str) -> bool {
-        self.step().is_ok() && path == TARGET
+        self.count_operation().is_ok() && path == TARGET
     }
 
     fn open_or_create_locked(
@@ -140,7 +140,7 @@ impl FileSystem for FakeFiles {
         path: &str,
         _is_private: bool,
     ) -> Result<FakeFile, FileFault> {
-        self.step()?;
+        self.count_operation()?;
         if path != PARTIAL {
             return Err(FileFault::System);
         }
@@ -156,30 +156,37 @@ impl FileSystem for FakeFiles {
         })
     }
 
-    fn names(&self, path: &str, _file: &FakeFile) -> bool {
-        self.step().is_ok() && path == PARTIAL && self.steps.load(Ordering::SeqCst) <= self.stolen
+    fn has_path(&self, path: &str, _file: &FakeFile) -> bool {
+        self.count_operation().is_ok()
+            && path == PARTIAL
+            && self.steps.load(Ordering::SeqCst) <= self.stolen
     }
 
-    fn empty(&self, _path: &str, file: &mut FakeFile, _is_private: bool) -> Result<(), FileFault> {
-        self.step()?;
+    fn truncate(
+        &self,
+        _path: &str,
+        file: &mut FakeFile,
+        _is_private: bool,
+    ) -> Result<(), FileFault> {
+        self.count_operation()?;
         file.bytes.clear();
         Ok(())
     }
 
     fn sync(&self, file: &mut FakeFile) -> Result<(), FileFault> {
-        self.step()?;
+        self.count_operation()?;
         file.is_synced = true;
         Ok(())
     }
 
     fn copy_attributes(&self, _path: &str, file: &mut FakeFile) -> Result<(), FileFault> {
-        self.step()?;
+        self.count_operation()?;
         file.is_like = true;
         Ok(())
     }
 
     fn rename(&mut self, from: &str, file: &FakeFile, to: &str) -> Result<(), FileFault> {
-        self.step()?;
+        self.count_operation()?;
         if from != PARTIAL || to != TARGET {
             return Err(FileFault::System);
         }
@@ -194,7 +201,7 @@ impl FileSystem for FakeFiles {
     }
 
     fn remove(&mut self, path: &str, _file: &FakeFile) {
-        if path == PARTIAL && self.step().is_ok() {
+        if path == PARTIAL && self.count_operation().is_ok() {
             self.partial = None;
         }
     }

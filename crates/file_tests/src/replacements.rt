@@ -59,7 +59,7 @@ fn files_of(
     })
 }
 
-fn is_content(content: &Option<Vec<u8>>, wanted: Option<&[u8]>) -> bool {
+fn has_content(content: &Option<Vec<u8>>, wanted: Option<&[u8]>) -> bool {
     match (content, wanted) {
         (Some(content), Some(wanted)) => content.as_slice() == wanted,
         (None, None) => true,
@@ -86,25 +86,25 @@ fn replace(files: &mut FakeFiles, fails: bool) -> &'static str {
 }
 
 /// The result of the next run, without a failure: it writes the whole content and leaves no new file.
-fn replace_again(files: &mut FakeFiles) -> &'static str {
+fn replace_without_failure(files: &mut FakeFiles) -> &'static str {
     files.refused = NEVER;
     files.writes = NEVER;
     match replace(files, false) {
-        "written" if !is_content(&files.target, Some(WHOLE)) => "not whole",
+        "written" if !has_content(&files.target, Some(WHOLE)) => "not whole",
         "written" if files.partial.is_some() => "left",
         ended => ended,
     }
 }
 
 /// Whether the file has the whole content after this result, and otherwise the content before.
-fn is_new_or_old(files: &FakeFiles, old: Option<&[u8]>, ended: &str) -> bool {
+fn is_whole_or_unchanged(files: &FakeFiles, old: Option<&[u8]>, ended: &str) -> bool {
     let wanted = if ended == "written" { Some(WHOLE) } else { old };
-    is_content(&files.target, wanted)
+    has_content(&files.target, wanted)
 }
 
 /// Each operation fails in turn. The run succeeds if and only if it didn't use the operation.
 #[test]
-fn refused_steps(rt: HostRuntime) -> Result<(), Fail> {
+fn each_operation_fails_in_turn(rt: HostRuntime) -> Result<(), Fail> {
     for state in STATES {
         for refused in 0..15 {
             let mut files = files_of(rt.alloc(), state)?;
@@ -113,9 +113,9 @@ fn refused_steps(rt: HostRuntime) -> Result<(), Fail> {
             let is_refused = files.steps.load(Ordering::SeqCst) > refused;
             let is_right = (ended == "written") != is_refused;
             assert!(rt; is_right, "step {refused}: {ended}");
-            let is_right = is_new_or_old(&files, state.1, ended);
+            let is_right = is_whole_or_unchanged(&files, state.1, ended);
             assert!(rt; is_right, "step {refused}: {ended}");
-            assert_eq!(rt; replace_again(&mut files), "written");
+            assert_eq!(rt; replace_without_failure(&mut files), "written");
         }
     }
     Ok(())
@@ -123,15 +123,15 @@ fn refused_steps(rt: HostRuntime) -> Result<(), Fail> {
 
 /// A content that fails, and a device that takes nothing, leave no new file.
 #[test]
-fn failed_contents(rt: HostRuntime) -> Result<(), Fail> {
+fn failing_contents_leave_no_file(rt: HostRuntime) -> Result<(), Fail> {
     for state in STATES {
         for (fails, writes, wanted) in [(true, NEVER, "content"), (false, 0, "partial")] {
             let mut files = files_of(rt.alloc(), state)?;
             files.writes = writes;
             let ended = replace(&mut files, fails);
             assert!(rt; ended == wanted && files.partial.is_none(), "{ended}");
-            assert!(rt; is_new_or_old(&files, state.1, ended), "{ended}");
-            assert_eq!(rt; replace_again(&mut files), "written");
+            assert!(rt; is_whole_or_unchanged(&files, state.1, ended), "{ended}");
+            assert_eq!(rt; replace_without_failure(&mut files), "written");
         }
     }
     Ok(())
@@ -139,15 +139,15 @@ fn failed_contents(rt: HostRuntime) -> Result<(), Fail> {
 
 /// Another process's file is left alone, and the file is unchanged, unless that process took the path after the last check.
 #[test]
-fn stolen_path(rt: HostRuntime) -> Result<(), Fail> {
+fn files_of_another_process_are_kept(rt: HostRuntime) -> Result<(), Fail> {
     for state in STATES {
         for stolen in 0..15 {
             let mut files = files_of(rt.alloc(), state)?;
             files.stolen = stolen;
             let ended = replace(&mut files, false);
             let is_right = match ended {
-                "written" => !files.renames_stolen && is_content(&files.target, Some(WHOLE)),
-                "partial" => files.partial.is_some() && is_content(&files.target, state.1),
+                "written" => !files.renames_stolen && has_content(&files.target, Some(WHOLE)),
+                "partial" => files.partial.is_some() && has_content(&files.target, state.1),
                 _ => false,
             };
             assert!(rt; is_right, "step {stolen}: {ended}");
@@ -158,7 +158,7 @@ fn stolen_path(rt: HostRuntime) -> Result<(), Fail> {
 
 /// A folder, a link to one, and a dangling link: nothing is created.
 #[test]
-fn unreplaced(rt: HostRuntime) -> Result<(), Fail> {
+fn folders_and_links_are_not_replaced(rt: HostRuntime) -> Result<(), Fail> {
     for (is_link, is_folder) in [(false, true), (true, true), (true, false)] {
         let mut files = files_of(rt.alloc(), (is_link, None, None))?;
         files.is_folder = is_folder;

@@ -1,3 +1,3 @@
-mod Floating
+mod PiecesAfterStar
 mod Patterns
 mod Excluding

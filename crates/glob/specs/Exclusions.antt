@@ -10,7 +10,7 @@ use Rattle.glob.specs.declared.exclusion.PathGlob.TheVariants.{Name, Path}
 abbrev pub names_of : List ℕ → List (List ℕ)
 names_of path = slice_split (λ c. c == 47) path
 
--- there are as many names as patterns, and each matches the pattern of its index
+-- there are as many names as patterns, and each name matches the pattern at its index
 abbrev pub MatchEach : List (List ℕ) → List (List ℕ) → Type 0
 MatchEach [] [] = Unit {0}
 MatchEach [] (name ∷ names) = ⊥
@@ -25,8 +25,8 @@ HasSlash pattern = Contains pattern 47
 abbrev pub MatchesLast : List ℕ → List (List ℕ) → Type 0
 MatchesLast pattern names = (before : List (List ℕ)) × (name : List ℕ) × (names ≡ before ++ name ∷ []) × Matches pattern name
 
--- the pattern matches the file or folder with these names: with a slash name by name, so that `*` matches no slash, and without one its
--- last name
+-- the pattern matches the file or folder whose path has these names. If it has a slash, it is matched name by name, so that `*` matches no
+-- slash; otherwise it is matched with the last name
 abbrev pub MatchesPath : List ℕ → List (List ℕ) → Type 0
 MatchesPath pattern names = (HasSlash pattern × MatchEach (names_of pattern) names) ⊎ ((HasSlash pattern → ⊥) × MatchesLast pattern names)
 

@@ -1,10 +1,10 @@
 -- Patterns of names. A name is a list of bytes.
 use Rattle.std.specs.Prelude.{◌≡◌, ℕ, ◌==◌, Bool, List, [], ◌∷◌, ◌++◌, map, Option, Some, None}
 use Rattle.std.specs.List.{slice_split}
-use Rattle.glob.specs.declared.pattern.Floating.{Floating}
+use Rattle.glob.specs.declared.pattern.PiecesAfterStar.{PiecesAfterStar}
 use Rattle.glob.specs.declared.pattern.Glob.{Glob}
 
--- the name consists of these pieces in order, with any bytes between two of them
+-- the name consists of these pieces in order, with any bytes between two pieces
 abbrev pub Interleaves : List (List ℕ) → List ℕ → Type 0
 Interleaves [] name = ⊥
 Interleaves (piece ∷ []) name = name ≡ piece
@@ -21,18 +21,18 @@ Matches pattern name = Interleaves (slice_split is_star pattern) name
 -- ---- parsed patterns
 
 -- the text is any bytes followed by these pieces in order
-abbrev pub Floats : List (List ℕ) → List ℕ → Type 0
-Floats pieces text = (between rest : List ℕ) × (text ≡ between ++ rest) × Interleaves pieces rest
+abbrev pub EndsWithPieces : List (List ℕ) → List ℕ → Type 0
+EndsWithPieces pieces text = (between rest : List ℕ) × (text ≡ between ++ rest) × Interleaves pieces rest
 
 -- the pieces after the first `*`
-abbrev pub pieces_of : Floating → List (List ℕ)
-pieces_of floating = map (λ piece. piece.now) floating.inner.items ++ floating.last.now ∷ []
+abbrev pub pieces_of : PiecesAfterStar → List (List ℕ)
+pieces_of after_star = map (λ piece. piece.now) after_star.inner.items ++ after_star.last.now ∷ []
 
 -- the rest of a name after the first piece: empty if the pattern has no `*`, else the other pieces
-abbrev pub FitsRest : Option Floating → List ℕ → Type 0
+abbrev pub FitsRest : Option PiecesAfterStar → List ℕ → Type 0
 FitsRest None rest = rest ≡ []
-FitsRest (Some floating) rest = Floats (pieces_of floating) rest
+FitsRest (Some after_star) rest = EndsWithPieces (pieces_of after_star) rest
 
 -- the name begins with the first piece, and the rest fits
 abbrev pub Fits : Glob → List ℕ → Type 0
-Fits glob name = (rest : List ℕ) × (name ≡ glob.first.now ++ rest) × FitsRest glob.floating rest
+Fits glob name = (rest : List ℕ) × (name ≡ glob.first.now ++ rest) × FitsRest glob.after_star rest

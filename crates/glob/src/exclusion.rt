@@ -12,12 +12,12 @@ use std::alloc::{AllocError, Global};
 pub(crate) enum PathGlob<'a> {
     /// Matches a path if the pattern matches one of the path's names.
     Name(Glob<'a>),
-    /// Matches a path if each pattern matches the path's name of its index. The path may have more names.
+    /// Matches a path if the pattern at each index matches the name at this index in the path. The path may have more names than patterns.
     Path(Vec<Glob<'a>>),
 }
 
 /// The patterns of files and folders that are excluded. A folder is excluded with all that it contains. So a pattern with a `/` excludes
-/// each path whose first names it matches, and any other pattern each path one of whose names it matches.
+/// each path whose first names it matches. A pattern without `/` excludes each path with a name that it matches.
 #[derive(Drop)]
 pub struct Exclusion<'a> {
     pub(crate) globs: Vec<PathGlob<'a>>,
@@ -34,7 +34,7 @@ fn split_path(alloc: Global, path: &[u8]) -> Result<Vec<&[u8]>, AllocError>
     Ok(names)
 }
 
-/// The patterns of names, parsed.
+/// Parses patterns of single names.
 fn parse_globs<'a>(alloc: Global, patterns: &[&'a [u8]]) -> Result<Vec<Glob<'a>>, AllocError>
     ensures { IfOk result (λ globs. AreGlobs (map (λ p. p.now) patterns.now) globs.items) }
 {
@@ -57,7 +57,7 @@ fn matches_any_name(glob: &Glob<'_>, names: &[&[u8]]) -> bool
     false
 }
 
-/// Whether there are as many names as patterns or more, and each pattern matches the name of its index.
+/// Whether there are at least as many names as patterns, and each pattern matches the name at its index.
 fn matches_first_names(globs: &[Glob<'_>], names: &[&[u8]]) -> bool
     ensures { IsTrue result ↔ FitEach globs.now (map (λ n. n.now) names.now) }
 {
@@ -73,7 +73,7 @@ fn matches_first_names(globs: &[Glob<'_>], names: &[&[u8]]) -> bool
 }
 
 impl<'a> PathGlob<'a> {
-    /// Parses a pattern: with a slash name by name, without one as a pattern of single names.
+    /// Parses a pattern: if it has a slash, as a list of patterns for the names of a path, otherwise as one pattern for any name.
     fn new(alloc: Global, pattern: &'a [u8]) -> Result<PathGlob<'a>, AllocError>
         ensures { IfOk result (λ glob. (path : _) → Excludes pattern.now path ↔ ExcludesBy glob (names_of path)) }
     {
@@ -95,7 +95,7 @@ impl<'a> PathGlob<'a> {
     }
 }
 
-/// The patterns of paths, parsed.
+/// Parses patterns of paths.
 fn parse_path_globs<'a>(
     alloc: Global,
     patterns: &'a [String],

@@ -1,15 +1,15 @@
 //! Patterns of single names.
 ghost use Rattle.std.specs.Prelude.{◌≡◌, ◌↔◌, IfOk, IsTrue, ℕ, List};
 ghost use Rattle.std.specs.List.{slice_split};
-ghost use Rattle.glob.specs.Globs.{is_star, pieces_of, Fits, FitsRest, Floats, Matches};
+ghost use Rattle.glob.specs.Globs.{is_star, pieces_of, Fits, FitsRest, EndsWithPieces, Matches};
 
 use memchr::memmem;
 use std::alloc::{AllocError, Global};
-use texts::fields::cut_at_byte;
+use texts::fields::split_at_byte;
 
 /// The pieces of a pattern after its first `*`.
 #[derive(Drop)]
-pub(crate) struct Floating<'a> {
+pub(crate) struct PiecesAfterStar<'a> {
     /// The pieces before the last `*`, in order. None of them is empty.
     pub(crate) inner: Vec<&'a [u8]>,
     /// The suffix of each matching name.
@@ -22,13 +22,13 @@ pub struct Glob<'a> {
     /// The prefix of each matching name.
     pub(crate) first: &'a [u8],
     /// The other pieces, if the pattern has a `*`.
-    pub(crate) floating: Option<Floating<'a>>,
+    pub(crate) after_star: Option<PiecesAfterStar<'a>>,
 }
 
-impl<'a> Floating<'a> {
-    /// Splits the part of a pattern after its first `*`.
-    fn new(alloc: Global, rest: &'a [u8]) -> Result<Floating<'a>, AllocError>
-        ensures { IfOk result (λ floating. (text : List ℕ) → Floats (slice_split is_star rest.now) text ↔ Floats (pieces_of floating) text) }
+impl<'a> PiecesAfterStar<'a> {
+    /// Splits the bytes of a pattern after its first `*` at each further `*`.
+    fn new(alloc: Global, rest: &'a [u8]) -> Result<PiecesAfterStar<'a>, AllocError>
+        ensures { IfOk result (λ after_star. (text : List ℕ) → EndsWithPieces (slice_split is_star rest.now) text ↔ EndsWithPieces (pieces_of after_star) text) }
     {
         let mut inner = Vec::new(alloc);
         let mut last: &[u8] = &[];
@@ -38,16 +38,16 @@ impl<'a> Floating<'a> {
             }
             last = piece;
         }
-        Ok(Floating { inner, last })
+        Ok(PiecesAfterStar { inner, last })
     }
 
-    /// Whether the pieces occur in the text, each after the one before it, and the last one at the end.
+    /// Whether the pieces occur in the text in order, without overlap, and the last one is at the end of the text.
     fn matches(&self, text: &[u8]) -> bool
-        ensures { IsTrue result ↔ Floats (pieces_of self.now) text.now }
+        ensures { IsTrue result ↔ EndsWithPieces (pieces_of self.now) text.now }
     {
         let mut rest = text;
         for piece in &self.inner {
-            // Without this test `find` would prepare a search for a piece longer than the rest of the name.
+            // This test saves the time that `find` takes to prepare a search for a piece longer than the rest of the name.
             if piece.len() > rest.len() {
                 return false;
             }
@@ -68,16 +68,16 @@ impl<'a> Glob<'a> {
         // The parsed pattern fits exactly the names that match the pattern: `*` matches any bytes, also none, every other byte itself.
         ensures { IfOk result (λ glob. (name : List ℕ) → Matches pattern.now name ↔ Fits glob name) }
     {
-        let Some((first, rest)) = cut_at_byte(pattern, b'*') else {
+        let Some((first, rest)) = split_at_byte(pattern, b'*') else {
             return Ok(Glob {
                 first: pattern,
-                floating: None,
+                after_star: None,
             });
         };
-        let floating = Floating::new(alloc, rest)?;
+        let after_star = PiecesAfterStar::new(alloc, rest)?;
         Ok(Glob {
             first,
-            floating: Some(floating),
+            after_star: Some(after_star),
         })
     }
 
@@ -89,9 +89,9 @@ impl<'a> Glob<'a> {
         let Some(rest) = name.strip_prefix(self.first) else {
             return false;
         };
-        match &self.floating {
+        match &self.after_star {
             None => rest.is_empty(),
-            Some(floating) => floating.matches(rest),
+            Some(after_star) => after_star.matches(rest),
         }
     }
 }

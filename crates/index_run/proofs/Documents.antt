@@ -2,7 +2,7 @@
 use Rattle.std.proofs.Common.{◌≡◌, ◌++◌, ℕ, List, Option, Some, None, Ok, map, refl, ap, ◌∙◌}
 use Rattle.std.specs.Prelude.{option_map}
 use Rattle.byte_sink.specs.declared.sink.SinkFault.{SinkFault}
-use Rattle.proto_wire.specs.Writers.{answer_of}
+use Rattle.proto_wire.specs.Writers.{result_of_error}
 use Rattle.scip_index.specs.declared.index.Document.{Document}
 use Rattle.scip_index.specs.declared.index.Index.{Index}
 use Rattle.scip_index.specs.declared.index.Metadata.{Metadata}
@@ -17,7 +17,7 @@ abbrev pub parts : List Document → List ℕ
 parts documents = documents_part (map document_model documents)
 
 -- a writer that has answered Ok has refused nothing
-pub nothing_refused : (o : Option SinkFault) → Ok tt ≡ answer_of o → o ≡ None
+pub nothing_refused : (o : Option SinkFault) → Ok tt ≡ result_of_error o → o ≡ None
 nothing_refused None e = refl
 nothing_refused (Some fault) e = absurd cc
 

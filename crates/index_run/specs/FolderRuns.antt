@@ -10,7 +10,7 @@ use Rattle.oscip_run.specs.TreeRuns.{IsTreeRun}
 use Rattle.oscip_run.specs.declared.fault.RunFault.{RunFault}
 use Rattle.oscip_run.specs.declared.tree_run.TreeRun.{TreeRun}
 
--- a run that lists the unresolved identifiers of a tree, and never returns false
+-- a run that reads a tree and lists its unresolved identifiers; its Boolean is never false
 abbrev pub IsUnresolvedRunOn : (Reading → Type 0) → SourceTree → Option (List ℕ) → Option (List ℕ) → Result TreeRun RunFault → Type 0
 IsUnresolvedRunOn Answers tree old new result =
     IsTreeRun Answers tree (λ used ended. IsUnresolvedRun (style_of_tree tree) used old new (without_boolean ended) × IsNeverFalse ended) old new result

@@ -30,11 +30,11 @@ pub record IsHexText (sources : List Source) (package_name root text : List ℕ)
   pub is_index : IsIndexText sources package_name root bytes
   pub text_is : text ≡ encode_lower bytes ++ codes "\n"
 
--- the line PATH:LINE:COL NAME of an unresolved identifier: where it begins, in this style, and its name
+-- the line PATH:LINE:COL NAME of an unresolved identifier: the location where it begins, in this style, and its name
 abbrev pub unresolved_line : Style → UnresolvedModel → List ℕ
 unresolved_line style row = location_text style row.path row.line row.column ++ codes " " ++ row.name ++ codes "\n"
 
--- a line for each of the identifiers, in their order
+-- a line for each unresolved identifier, in their order
 abbrev pub unresolved_lines : Style → List UnresolvedModel → List ℕ
 unresolved_lines style rows = flat_map (unresolved_line style) rows
 
@@ -80,11 +80,11 @@ IsHexRun sources package_name root = IsTextRun sources (IsHexText sources packag
 abbrev pub IsUnresolvedRun : Style → List Source → Option (List ℕ) → Option (List ℕ) → Result (Unit {0}) RunFault → Type 0
 IsUnresolvedRun style sources = IsTextRun sources (IsUnresolvedText style sources)
 
--- a run that writes the index to this output: as bytes to a file, or as a line of hexadecimal digits to standard output
+-- a run that writes the index to this output: as bytes if the output is a file, as a line of hexadecimal digits if it is standard output
 abbrev pub IsRunTo : Output → List Source → List ℕ → List ℕ → Option (List ℕ) → Option (List ℕ) → Result (Unit {0}) RunFault → Type 0
 IsRunTo (outputs.File path) = IsIndexRun
 IsRunTo outputs.Hex = IsHexRun
 
--- a run of a job that makes an index, with the job's own package, root and output
+-- a run that makes the index of a request, with the package, root and output of the request
 abbrev pub IsIndexingRun : List Source → IndexRequest → Option (List ℕ) → Option (List ℕ) → Result (Unit {0}) RunFault → Type 0
 IsIndexingRun sources it old new result = IsRunTo it.output sources (string_bytes it.package) (string_bytes it.root) old new result

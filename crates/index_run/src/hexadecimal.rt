@@ -1,4 +1,4 @@
-//! Bytes as a line of hexadecimal digits.
+//! Writes bytes as a line of hexadecimal digits.
 ghost use Rattle.std.specs.Prelude.{◌≡◌, ◌++◌, codes, IfErr, OnOk};
 ghost use Rattle.std.specs.String.{string_bytes};
 ghost use Rattle.byte_sink.specs.Sinks.{failures_after, AppendsPrefix, Writes};
@@ -11,17 +11,20 @@ use std::alloc::Global;
 /// The number of bytes that are converted at once.
 const CHUNK: usize = 32768;
 
-/// Appends two hexadecimal digits for each of the bytes to the text, and writes the text if it is long.
+/// Appends two lower-case hexadecimal digits for each byte to the text. If the text is then long, writes it to the sink and empties it.
 fn write_digits<S: Sink>(
     alloc: Global,
     text: &mut String,
     bytes: &[u8],
     sink: &mut S,
 ) -> Result<(), SinkFault>
+    // With `Ok` the sink took the old text and the digits, without what the new text still holds.
     ensures gathered { OnOk result (WritesAllBut (S.taken sink.old) (S.taken sink.new)
         (string_bytes text.old ++ encode_lower bytes.now) (string_bytes text.new)) }
+    // After an error the sink took a prefix of the old text and the digits.
     ensures error_prefix { IfErr result (λ _. AppendsPrefix (S.taken sink.old) (S.taken sink.new)
         (string_bytes text.old ++ encode_lower bytes.now)) }
+    // The sink counts a failure if and only if the result is `Device`.
     ensures failures { S.failures sink.new ≡ failures_after result (S.failures sink.old) }
 {
     let Ok(digits) = hex::encode(alloc, bytes) else {

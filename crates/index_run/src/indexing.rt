@@ -1,4 +1,4 @@
-//! The engines of `index` and `unresolved`, over any sink.
+//! The engines of the commands `index` and `unresolved`, which write to any sink.
 ghost use Rattle.std.specs.Prelude.{◌≡◌, ◌++◌, IfErr, IfOk, OnOk, false, map};
 ghost use Rattle.std.specs.String.{string_bytes};
 ghost use Rattle.byte_sink.specs.Sinks.{failures_after, failures_by, AppendsPrefix, Writes};
@@ -14,18 +14,18 @@ ghost use Rattle.byte_sink.specs.Pieces.{WritesAllBut};
 use crate::{hex_line, write_encoded_index};
 use byte_sink::{Sink, SinkFault, flush_if_full, write_fully};
 use ob_board::{
-    BoardGate, EncodedIndex, IndexOptions, Unresolved, unresolved_in_tree, written_index,
+    BoardGate, EncodedIndex, IndexOptions, Unresolved, encode_tree_index, unresolved_in_tree,
 };
 use oscip_job::{IndexRequest, Output};
 use oscip_run::{READERS, RunFault};
-use scip_index::laws::written_form_has_parts;
+use scip_index::laws::written_form_is_concatenation;
 use source_tree::Source;
 use std::alloc::{AllocError, Global};
 use std::sync::Wait;
 use std::thread::Threads;
 use texts::{LocationStyle, LocationWriter};
 
-/// A gate of the scheduler that never makes a worker wait.
+/// A gate that returns at once: workers that call it between claiming and completing a module never wait in it.
 #[derive(Drop)]
 pub struct OpenBoardGate;
 
@@ -33,10 +33,10 @@ impl BoardGate for OpenBoardGate {
     fn at(&self, _worker: u32, _turn: u64) {}
 }
 
-/// Makes the index of a tree, and writes its written form (scip.proto, `Index`).
-/// `workers` threads make it, each of which calls `gate` between claiming and completing an entry. The index doesn't depend on their number
-/// or on the gate.
-/// Fails with `Tree`, `Device` or `Memory`. It may wait for a lock and for its threads.
+/// Makes the index of a tree, and writes it in its binary form (scip.proto, `Index`).
+/// At most `workers` threads make the index, each of which calls `gate` between claiming and completing a module. The index doesn't depend
+/// on the number of threads or on the gate.
+/// Fails with `Tree`, `Device` or `Memory`. The call may wait for a lock and for the threads.
 pub fn index_to<R: Threads + Wait + Sync, G: BoardGate + Sync, S: Sink>(
     rt: &R,
     alloc: Global,
@@ -58,8 +58,8 @@ pub fn index_to<R: Threads + Wait + Sync, G: BoardGate + Sync, S: Sink>(
     // The sink counts a failure if and only if the result is `Device`.
     ensures failures { S.failures sink.new ≡ failures_by is_device result (S.failures sink.old) }
 {
-    written_form_has_parts();
-    let parts = written_index(rt, alloc, sources, options, workers, gate)?;
+    written_form_is_concatenation();
+    let parts = encode_tree_index(rt, alloc, sources, options, workers, gate)?;
     let EncodedIndex {
         metadata,
         records,
@@ -69,7 +69,8 @@ pub fn index_to<R: Threads + Wait + Sync, G: BoardGate + Sync, S: Sink>(
     Ok(())
 }
 
-/// Makes the index of a tree, and writes its bytes as a line of lower-case hexadecimal digits. Fails as `index_to` does.
+/// Makes the index of a tree, and writes the bytes that `index_to` would write as a line of lower-case hexadecimal digits. Fails as
+/// `index_to` does.
 pub fn index_hex_to<R: Threads + Wait + Sync, G: BoardGate + Sync, S: Sink>(
     rt: &R,
     alloc: Global,
@@ -97,12 +98,14 @@ pub fn index_hex_to<R: Threads + Wait + Sync, G: BoardGate + Sync, S: Sink>(
     Ok(())
 }
 
-/// Copies of the package and the root of a job.
+/// The options of an index: copies of the package and the root of a request.
 #[tactic(auto, using(crate::proofs::Packages::not_wrong))]
-fn options_of(alloc: Global, indexing: &IndexRequest) -> Result<IndexOptions, AllocError>
+fn copy_options(alloc: Global, indexing: &IndexRequest) -> Result<IndexOptions, AllocError>
+    // The package isn't `.` and doesn't begin with a space.
     requires { IsPackage (string_bytes indexing.now.package) }
     ensures package { IfOk result (λ options. string_bytes options.package ≡ string_bytes indexing.now.package) }
     ensures root { IfOk result (λ options. string_bytes options.root ≡ string_bytes indexing.now.root) }
+    // With `Ok` the package of the options is a valid part of a symbol.
     ensures right { IfOk result (λ options. is_wrong_part (string_bytes options.package) ≡ false) }
 {
     let package = String::from_str(alloc, indexing.package.as_str())?;
@@ -110,9 +113,9 @@ fn options_of(alloc: Global, indexing: &IndexRequest) -> Result<IndexOptions, Al
     Ok(IndexOptions { package, root })
 }
 
-/// Makes the index that a job requests, with the job's number of threads, package and root.
-/// Writes it as bytes if the job's output is a file, and otherwise as a line of hexadecimal digits. Fails as `index_to` does.
-pub fn answer_index<R: Threads + Wait + Sync, G: BoardGate + Sync, S: Sink>(
+/// Makes the index that a job requests, with the number of threads, the package and the root of the request.
+/// Writes the index as bytes if the request's output is a file, and otherwise as a line of hexadecimal digits. Fails as `index_to` does.
+pub fn write_requested_index<R: Threads + Wait + Sync, G: BoardGate + Sync, S: Sink>(
     rt: &R,
     alloc: Global,
     indexing: &IndexRequest,
@@ -126,25 +129,27 @@ pub fn answer_index<R: Threads + Wait + Sync, G: BoardGate + Sync, S: Sink>(
     requires package { IsPackage (string_bytes indexing.now.package) }
     // The number of workers is 1 to 64.
     requires workers { IsWorkerCount indexing.now.workers }
-    // With the job's own package and root, `index_to` runs if the output is a file, and `index_hex_to` if it is standard output.
+    // `index_to` runs if the output is a file, and `index_hex_to` if it is standard output, with the package and root of the request.
     ensures run { IsIndexingRun sources.now indexing.now (S.taken sink.old) (S.taken sink.new) result }
     // The sink counts a failure if and only if the result is `Device`.
     ensures failures { S.failures sink.new ≡ failures_by is_device result (S.failures sink.old) }
 {
-    let options = options_of(alloc, indexing)?;
+    let options = copy_options(alloc, indexing)?;
     match &indexing.output {
         Output::File(_) => index_to(rt, alloc, sources, &options, indexing.workers, gate, sink),
         Output::Hex => index_hex_to(rt, alloc, sources, &options, indexing.workers, gate, sink),
     }
 }
 
-/// Appends the line of an unresolved identifier to the text.
+/// Appends the line of an unresolved identifier to the text. The writer keeps its style.
 fn append_line<'a>(
     writer: &mut LocationWriter<'a>,
     text: &mut String,
     row: &'a Unresolved,
 ) -> Result<(), AllocError>
+    // With `Ok` the text has grown by exactly this line.
     ensures appended { IfOk result (λ _. string_bytes text.new ≡ string_bytes text.old ++ unresolved_line (writer_style writer.old) (unresolved_model row.now)) }
+    // The style of the writer is unchanged.
     ensures style { writer_style writer.new ≡ writer_style writer.old }
 {
     let (at, name) = (row.at, &row.name);
@@ -152,32 +157,38 @@ fn append_line<'a>(
     writeln!(text, " {name}")
 }
 
-/// Appends the line of an unresolved identifier to the text, and writes the text if it is long.
+/// Appends the line of an unresolved identifier to the text. If the text is then long, writes it to the sink and empties it.
 fn write_line<'a, S: Sink>(
     writer: &mut LocationWriter<'a>,
     text: &mut String,
     row: &'a Unresolved,
     sink: &mut S,
 ) -> Result<(), SinkFault>
+    // With `Ok` the sink took the old text and the line, without what the new text still holds.
     ensures gathered { OnOk result (WritesAllBut (S.taken sink.old) (S.taken sink.new)
         (string_bytes text.old ++ unresolved_line (writer_style writer.old) (unresolved_model row.now)) (string_bytes text.new)) }
+    // After an error the sink took a prefix of the old text and the line.
     ensures error_prefix { IfErr result (λ _. AppendsPrefix (S.taken sink.old) (S.taken sink.new)
         (string_bytes text.old ++ unresolved_line (writer_style writer.old) (unresolved_model row.now))) }
+    // The style of the writer is unchanged.
     ensures style { writer_style writer.new ≡ writer_style writer.old }
+    // The sink counts a failure if and only if the result is `Device`.
     ensures failures { S.failures sink.new ≡ failures_after result (S.failures sink.old) }
 {
     append_line(writer, text, row).map_err(|_| SinkFault::Memory)?;
     flush_if_full(text, sink)
 }
 
-/// Writes the lines of unresolved identifiers, in their order. After an error the sink has a prefix of the lines.
+/// Writes a line for each unresolved identifier, in the order of `rows`. After an error the sink took a prefix of the lines.
 fn write_lines<S: Sink>(
     alloc: Global,
     style: LocationStyle<'_>,
     rows: &[Unresolved],
     sink: &mut S,
 ) -> Result<(), SinkFault>
+    // With `Ok` the sink took all lines, otherwise a prefix of them.
     ensures writes { Writes (S.taken sink.old) (S.taken sink.new) result (unresolved_lines (style_of style.entry) (map unresolved_model rows.now)) }
+    // The sink counts a failure if and only if the result is `Device`.
     ensures failures { S.failures sink.new ≡ failures_after result (S.failures sink.old) }
 {
     let mut writer = LocationWriter::new(style);
@@ -200,7 +211,8 @@ pub fn unresolved_to<R: Threads + Sync, S: Sink>(
 ) -> Result<(), RunFault>
     // The files are sorted by path, each path once.
     requires { ArePathsInOrder sources.now }
-    // With `Ok` the sink took exactly these lines. After `Device` or `Memory` it has at most a prefix of them, after `Tree` none.
+    // With `Ok` the sink took exactly the lines of the tree's unresolved identifiers. After `Device` or `Memory` it has at most a prefix of
+    // the lines, after `Tree` nothing.
     ensures run { IsUnresolvedRun (style_of style.entry) sources.now (S.taken sink.old) (S.taken sink.new) result }
     // The sink counts a failure if and only if the result is `Device`.
     ensures failures { S.failures sink.new ≡ failures_by is_device result (S.failures sink.old) }

@@ -12,13 +12,13 @@ ghost use Rattle.oscip_run.specs.Faults.{is_device};
 use crate::unresolved_to;
 use byte_sink::Sink;
 use oscip_job::SourceTree;
-use oscip_run::{READERS, Reader, RunFault, TreeRun, style_of_tree, tree_files};
+use oscip_run::{READERS, Reader, RunFault, TreeRun, read_tree_files, style_of_tree};
 use source_tree::{PartitionedFiles, Source};
 use std::alloc::Global;
 use std::thread::Threads;
 use texts::LocationStyle;
 
-/// Lists the unresolved identifiers of these modules.
+/// Writes a line for each unresolved identifier of the modules in these files. Returns true.
 fn run_unresolved_list<R: Threads + Sync, S: Sink>(
     rt: &R,
     alloc: Global,
@@ -26,16 +26,20 @@ fn run_unresolved_list<R: Threads + Sync, S: Sink>(
     style: LocationStyle<'_>,
     sink: &mut S,
 ) -> Result<bool, RunFault>
+    // The files are sorted by path, each path once.
     requires { ArePathsInOrder sources.now }
+    // This is a run of `unresolved_to`, apart from the Boolean.
     ensures run { IsUnresolvedRun (style_of style.entry) sources.now (S.taken sink.old) (S.taken sink.new) (without_boolean result) }
+    // With `Ok` the result is true.
     ensures answer { IsNeverFalse result }
+    // The sink counts a failure if and only if the result is `Device`.
     ensures failures { S.failures sink.new ≡ failures_by is_device result (S.failures sink.old) }
 {
     unresolved_to(rt, alloc, sources, style, sink)?;
     Ok(true)
 }
 
-/// Lists the unresolved identifiers of the modules of a tree. The result in the returned `ended` is never false.
+/// Writes a line for each unresolved identifier of the modules of a tree. The Boolean in the returned `ended` is never false.
 /// Fails with the fault of the reader for the tree's folder, or with `Memory`, before anything is written. Any other fault is in `ended`.
 pub fn run_unresolved<R: Threads + Sync, F: Reader, S: Sink>(
     rt: &R,
@@ -44,15 +48,15 @@ pub fn run_unresolved<R: Threads + Sync, F: Reader, S: Sink>(
     tree: &SourceTree,
     sink: &mut S,
 ) -> Result<TreeRun, RunFault>
-    // `unresolved_to` runs on the files that `tree_files` returns, in the style of the tree. With an error there is no run, and the sink is
-    // unchanged.
+    // `unresolved_to` runs on the files that `read_tree_files` returns, in the style of the tree. With an error there is no run, and the
+    // sink is unchanged.
     ensures run { IsUnresolvedRunOn (F.answers reader.now) tree.now (S.taken sink.old) (S.taken sink.new) result }
-    // The sink counts a failure if and only if that run ended with `Device`.
+    // If `unresolved_to` ran, the sink counts a failure if and only if `unresolved_to` ended with `Device`.
     ensures failures { IfOk result (λ run. S.failures sink.new ≡ failures_by is_device run.ended (S.failures sink.old)) }
-    // Without a run the sink counts no failure.
+    // If the function fails, so that `unresolved_to` didn't run, the sink counts no failure.
     ensures failed { IfErr result (λ _. S.failures sink.new ≡ S.failures sink.old) }
 {
-    let PartitionedFiles { accepted, faults } = tree_files(rt, alloc, reader, tree, READERS)?;
+    let PartitionedFiles { accepted, faults } = read_tree_files(rt, alloc, reader, tree, READERS)?;
     let ended = run_unresolved_list(rt, alloc, accepted.as_slice(), style_of_tree(tree), sink);
     Ok(TreeRun { faults, ended })
 }

@@ -1,4 +1,4 @@
-//! Writing an index whose documents are already in their written form.
+//! Writes an index whose documents are already encoded: the given bytes of each document are written as they are.
 ghost use Rattle.std.specs.Prelude.{◌≡◌, ◌++◌, None, OnOk, Some, map};
 ghost use Rattle.std.specs.List.{flat_map};
 ghost use Rattle.byte_sink.specs.Sinks.{failures_after, Writes};
@@ -11,17 +11,23 @@ use byte_sink::{Sink, SinkFault, write_fully};
 use scip_index::{IndexWriter, Metadata, SymbolInfo};
 use std::alloc::Global;
 
-/// Writes the record of the metadata. After an error the sink has a prefix of it.
+/// Writes the record of the metadata. After an error the sink took a prefix of this record.
 fn write_metadata<S: Sink>(
     writer: &mut IndexWriter,
     metadata: &Metadata,
     sink: &mut S,
 ) -> Result<(), SinkFault>
+    // The writer has written nothing yet.
     requires stage { writer.old.stage ≡ Fresh }
+    // The writer hasn't failed.
     requires well { writer.old.error ≡ None }
+    // With `Ok` the sink took the record of the metadata, otherwise a prefix of that.
     ensures writes { Writes (S.taken sink.old) (S.taken sink.new) result (metadata_part (Some (metadata_model metadata.now))) }
+    // The sink counts a failure if and only if the result is `Device`.
     ensures failures { S.failures sink.new ≡ failures_after result (S.failures sink.old) }
+    // With `Ok` the writer has written the metadata, and accepts more records.
     ensures stage { OnOk result (writer.new.stage ≡ Open) }
+    // With `Ok` the writer hasn't failed.
     ensures well { OnOk result (writer.new.error ≡ None) }
 {
     match writer.metadata(metadata, sink) {
@@ -30,10 +36,12 @@ fn write_metadata<S: Sink>(
     }
 }
 
-/// Writes the records of documents as they are, one after the other, and drops each once it is written. After an error the sink has a
-/// prefix of them.
+/// Writes the encoded documents as they are, one after the other, and drops each once it is written. After an error the sink took a prefix
+/// of them.
 fn write_records<S: Sink>(records: Vec<Vec<u8>>, sink: &mut S) -> Result<(), SinkFault>
+    // With `Ok` the sink took all bytes of the documents, in order, otherwise a prefix of that.
     ensures writes { Writes (S.taken sink.old) (S.taken sink.new) result (flat_map (λ row. row.items) records.items) }
+    // The sink counts a failure if and only if the result is `Device`.
     ensures failures { S.failures sink.new ≡ failures_after result (S.failures sink.old) }
 {
     for record in records {
@@ -42,15 +50,19 @@ fn write_records<S: Sink>(records: Vec<Vec<u8>>, sink: &mut S) -> Result<(), Sin
     Ok(())
 }
 
-/// Writes the records of the external symbols. After an error the sink has a prefix of them.
+/// Writes the records of the external symbols. After an error the sink took a prefix of these records.
 fn write_externals<S: Sink>(
     writer: &mut IndexWriter,
     external_symbols: &[SymbolInfo],
     sink: &mut S,
 ) -> Result<(), SinkFault>
+    // The writer has written the metadata, and accepts more records.
     requires stage { writer.old.stage ≡ Open }
+    // The writer hasn't failed.
     requires well { writer.old.error ≡ None }
+    // With `Ok` the sink took the records of the external symbols, otherwise a prefix of that.
     ensures writes { Writes (S.taken sink.old) (S.taken sink.new) result (externals_part (map symbol_model external_symbols.now)) }
+    // The sink counts a failure if and only if the result is `Device`.
     ensures failures { S.failures sink.new ≡ failures_after result (S.failures sink.old) }
 {
     match writer.end(external_symbols, sink) {
@@ -59,9 +71,10 @@ fn write_externals<S: Sink>(
     }
 }
 
-/// Writes an index from its parts (scip.proto, `Index`): its metadata, the records of its documents, and its external symbols.
-/// Writes the records as they are, and drops each once it is written. Fails with the fault of the sink, `Device` or `Memory`; the sink then
-/// has a prefix of the index.
+/// Writes an index (scip.proto, `Index`): the record of its metadata, the given records of its documents, and the records of its external
+/// symbols.
+/// Drops each document's record once it is written. Fails with the fault of the sink, `Device` or `Memory`; the sink then has a prefix of
+/// the index.
 pub fn write_encoded_index<S: Sink>(
     alloc: Global,
     metadata: &Metadata,

@@ -9,22 +9,29 @@ ghost use Rattle.index_run.specs.WriterFaults.{IsOfSink};
 
 use byte_sink::{Sink, SinkFault};
 use proto_wire::WireFault;
-use scip_index::laws::written_form_has_parts;
+use scip_index::laws::written_form_is_concatenation;
 use scip_index::{Document, Index, IndexWriter};
 use std::alloc::Global;
 
-/// Writes the documents one after the other, and drops each once it is written. After an error the sink has a prefix of them.
+/// Writes the documents one after the other, and drops each once it is written. After an error the sink took a prefix of their records.
 fn write_documents<S: Sink>(
     writer: &mut IndexWriter,
     documents: Vec<Document>,
     sink: &mut S,
 ) -> Result<(), WireFault>
+    // The writer has written the metadata, and accepts more records.
     requires stage { writer.old.stage ≡ Open }
+    // The writer hasn't failed.
     requires well { writer.old.error ≡ None }
+    // With `Ok` the sink took the records, after an error a prefix of them.
     ensures writes { WritesRecord (S.taken sink.old) (S.taken sink.new) result (documents_part (map document_model documents.items)) }
+    // The sink counts a failure if and only if the result is `Device`.
     ensures failures { S.failures sink.new ≡ failures_by is_failure result (S.failures sink.old) }
+    // The error is `Device` or `Memory`.
     ensures of_sink { IfErr result IsOfSink }
+    // With `Ok` the writer still accepts more records.
     ensures stage { OnOk result (writer.new.stage ≡ Open) }
+    // With `Ok` the writer hasn't failed.
     ensures well { OnOk result (writer.new.error ≡ None) }
 {
     for document in documents {
@@ -33,14 +40,19 @@ fn write_documents<S: Sink>(
     Ok(())
 }
 
-/// Writes the metadata, the documents and the external symbols of an index. After an error the sink has a prefix of them.
+/// Writes the metadata, the documents and the external symbols of an index that has metadata. After an error the sink took a prefix of
+/// them.
 fn write_parts<S: Sink>(alloc: Global, index: Index, sink: &mut S) -> Result<(), WireFault>
+    // The index has metadata.
     requires { IsSome index.metadata }
+    // With `Ok` the sink took the records, after an error a prefix of them.
     ensures writes { WritesRecord (S.taken sink.old) (S.taken sink.new) result (written (index_model index)) }
+    // The sink counts a failure if and only if the result is `Device`.
     ensures failures { S.failures sink.new ≡ failures_by is_failure result (S.failures sink.old) }
+    // The error is `Device` or `Memory`.
     ensures of_sink { IfErr result IsOfSink }
 {
-    written_form_has_parts();
+    written_form_is_concatenation();
     let mut writer = IndexWriter::new(alloc);
     match &index.metadata {
         None => unreachable!(),
@@ -50,9 +62,11 @@ fn write_parts<S: Sink>(alloc: Global, index: Index, sink: &mut S) -> Result<(),
     writer.end(index.external_symbols.as_slice(), sink)
 }
 
-/// The fault of the sink that a writer failed with.
+/// Converts the fault of an index writer, which is `Device` or `Memory`, to the sink fault of the same name.
 pub(crate) fn sink_fault(fault: &WireFault) -> SinkFault
+    // The fault is `Device` or `Memory`.
     requires { IsOfSink fault.now }
+    // The result is `Device` if and only if the fault is.
     ensures { is_device result ≡ is_failure fault.now }
 {
     match fault {
@@ -66,8 +80,8 @@ pub(crate) fn sink_fault(fault: &WireFault) -> SinkFault
     }
 }
 
-/// Writes an index that has metadata: its written form (scip.proto, `Index`), document by document. Drops each document once it is written.
-/// Fails with the fault of the sink, `Device` or `Memory`; the sink then has a prefix of the written form.
+/// Writes an index that has metadata in its binary form (scip.proto, `Index`), document by document. Drops each document once written.
+/// Fails with the fault of the sink, `Device` or `Memory`; the sink then has a prefix of the index's bytes.
 pub fn write_index<S: Sink>(alloc: Global, index: Index, sink: &mut S) -> Result<(), SinkFault>
     // The index has metadata.
     requires { IsSome index.metadata }

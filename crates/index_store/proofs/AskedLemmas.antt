@@ -13,7 +13,7 @@ use Rattle.std.proofs.lemmas.Option.{none-some, same_Some}
 use Rattle.index_store.specs.declared.location.Position.{Position}
 use Rattle.index_store.specs.declared.row.PathEntry.{PathEntry}
 use Rattle.index_store.specs.declared.span.Span.{Span}
-use Rattle.index_store.specs.TableLookup.{covering_span, nearer, nearer_of, nearest, requested_location, locations_by_role}
+use Rattle.index_store.specs.TableLookup.{covering_span, nearer_if_covering, nearer_of, nearest_entry, requested_location, locations_by_role}
 use Rattle.index_store.specs.Queries.{Covers, PlacedOccurrence, HasPath, IsNearest, IsSymbolAt, NoneCovers, LocationModel, all_occurrences, is_definition, is_local, matches_lookup, location_at, location_of, locations_of}
 use Rattle.index_store.specs.Spans.{is_before, is_in_span, is_nearer, span_of}
 use Rattle.index_store.specs.Stores.{AreComplete, IsStoreOf, Tables, covering_in, coverings_under, mention_with_span, mention_of, mentions_under, covering_model, mention_model}
@@ -173,26 +173,26 @@ kept_of path at f = elim (cases_Bool (bytes_eq path f.path)) [
     spanned (Some span) placed here = symbolled span f.occurrence.symbol placed refl here
 
 best_more : (path : List ℕ) (at : Position) (done : List PlacedOccurrence) (best : Option (Span × List ℕ)) (f : PlacedOccurrence) (span : Span) → IsBest path at done best → (is_in_span at span ≡ true → Covers path at f span)
-    → (is_in_span at span ≡ false → (other : Span) → Covers path at f other → ⊥) → IsBest path at (done ++ f ∷ []) (nearer pair_span at best (span, f.occurrence.symbol))
+    → (is_in_span at span ≡ false → (other : Span) → Covers path at f other → ⊥) → IsBest path at (done ++ f ∷ []) (nearer_if_covering pair_span at best (span, f.occurrence.symbol))
 best_more path at done best f span h covers never = elim (cases_Bool (is_in_span at span)) [
   | inl inside ↦ rw inside (best_takes path at done best f span h (covers inside))
   | inr outside ↦ rw outside (best_skips path at done best f h (never outside))
 ]
 
-best_of_all : (path : List ℕ) (at : Position) (done found : List PlacedOccurrence) (best : Option (Span × List ℕ)) → IsBest path at done best → IsBest path at (done ++ found) (fold (nearer pair_span at) best (flat_map (covering_in path) found))
+best_of_all : (path : List ℕ) (at : Position) (done found : List PlacedOccurrence) (best : Option (Span × List ℕ)) → IsBest path at done best → IsBest path at (done ++ found) (fold (nearer_if_covering pair_span at) best (flat_map (covering_in path) found))
 best_of_all path at done [] best h = subst (λ (fs : List PlacedOccurrence). IsBest path at fs best) (sym (append-nil done)) h
 best_of_all path at done (f ∷ found) best h =
     let rest = flat_map (covering_in path) found in
     let whole : (done ++ f ∷ []) ++ found ≡ done ++ f ∷ found = append_assoc done (f ∷ []) found in
     elim (kept_of path at f) [
-      | inl nothing ↦ rw nothing.0 (subst (λ (fs : List PlacedOccurrence). IsBest path at fs (fold (nearer pair_span at) best rest)) whole (best_of_all path at (done ++ f ∷ []) found best (best_skips path at done best f h nothing.1)))
-      | inr retained ↦ let next : Option (Span × List ℕ) = nearer pair_span at best (retained.0, f.occurrence.symbol) in
-          rw retained.1 (subst (λ (fs : List PlacedOccurrence). IsBest path at fs (fold (nearer pair_span at) next rest)) whole (best_of_all path at (done ++ f ∷ []) found next (best_more path at done best f retained.0 h retained.2 retained.3)))
+      | inl nothing ↦ rw nothing.0 (subst (λ (fs : List PlacedOccurrence). IsBest path at fs (fold (nearer_if_covering pair_span at) best rest)) whole (best_of_all path at (done ++ f ∷ []) found best (best_skips path at done best f h nothing.1)))
+      | inr retained ↦ let next : Option (Span × List ℕ) = nearer_if_covering pair_span at best (retained.0, f.occurrence.symbol) in
+          rw retained.1 (subst (λ (fs : List PlacedOccurrence). IsBest path at fs (fold (nearer_if_covering pair_span at) next rest)) whole (best_of_all path at (done ++ f ∷ []) found next (best_more path at done best f retained.0 h retained.2 retained.3)))
     ]
 
 -- ---- rows as what they say
 
-step_said : (symbols : List (List ℕ)) (at : Position) (best : Option PathEntry) (c : PathEntry) → option_map (covering_model symbols) (nearer covering_span at best c) ≡ nearer pair_span at (option_map (covering_model symbols) best) (covering_model symbols c)
+step_said : (symbols : List (List ℕ)) (at : Position) (best : Option PathEntry) (c : PathEntry) → option_map (covering_model symbols) (nearer_if_covering covering_span at best c) ≡ nearer_if_covering pair_span at (option_map (covering_model symbols) best) (covering_model symbols c)
 step_said symbols at None c = elim (cases_Bool (is_in_span at c.span)) [
   | inl inside ↦ rw inside refl
   | inr outside ↦ rw outside refl
@@ -205,29 +205,29 @@ step_said symbols at (Some b) c = elim (cases_Bool (is_in_span at c.span)) [
   ]
 ]
 
-fold_said : (symbols : List (List ℕ)) (at : Position) (best : Option PathEntry) (rows : List PathEntry) → option_map (covering_model symbols) (fold (nearer covering_span at) best rows) ≡ fold (nearer pair_span at) (option_map (covering_model symbols) best) (map (covering_model symbols) rows)
+fold_said : (symbols : List (List ℕ)) (at : Position) (best : Option PathEntry) (rows : List PathEntry) → option_map (covering_model symbols) (fold (nearer_if_covering covering_span at) best rows) ≡ fold (nearer_if_covering pair_span at) (option_map (covering_model symbols) best) (map (covering_model symbols) rows)
 fold_said symbols at best [] = refl
 fold_said symbols at best (c ∷ rows) =
-    fold_said symbols at (nearer covering_span at best c) rows ∙ ap (λ (o : Option (Span × List ℕ)). fold (nearer pair_span at) o (map (covering_model symbols) rows)) (step_said symbols at best c)
+    fold_said symbols at (nearer_if_covering covering_span at best c) rows ∙ ap (λ (o : Option (Span × List ℕ)). fold (nearer_if_covering pair_span at) o (map (covering_model symbols) rows)) (step_said symbols at best c)
 
 symbol_of : (path : List ℕ) (at : Position) (found : List PlacedOccurrence) (best : Option (Span × List ℕ)) → IsBest path at found best → IsSymbolAt found path at (option_map (λ x. x.1) best)
 symbol_of path at found None h = h
 symbol_of path at found (Some x) (f, n, is) = (f, x.0, n, is)
 
 -- the symbol of the nearest of what is kept of these occurrences is that at the position
-pub found_symbol : (path : List ℕ) (at : Position) (found : List PlacedOccurrence) → IsSymbolAt found path at (option_map (λ x. x.1) (fold (nearer pair_span at) None (flat_map (covering_in path) found)))
-found_symbol path at found = symbol_of path at found (fold (nearer pair_span at) None (flat_map (covering_in path) found)) (best_of_all path at [] found None none_yet)
+pub found_symbol : (path : List ℕ) (at : Position) (found : List PlacedOccurrence) → IsSymbolAt found path at (option_map (λ x. x.1) (fold (nearer_if_covering pair_span at) None (flat_map (covering_in path) found)))
+found_symbol path at found = symbol_of path at found (fold (nearer_if_covering pair_span at) None (flat_map (covering_in path) found)) (best_of_all path at [] found None none_yet)
   where
     none_yet : IsBest path at [] None
     none_yet = λ g other (k, l, is) covers. omega (arith, l)
 
 -- the symbol of the nearest row is that at the position
 pub nearest_symbol : (path : List ℕ) (at : Position) (found : List PlacedOccurrence) (symbols : List (List ℕ)) (rows : List PathEntry) → map (covering_model symbols) rows ≡ flat_map (covering_in path) found
-    → IsSymbolAt found path at (option_map (λ c. text_at symbols c.symbol) (nearest rows at))
+    → IsSymbolAt found path at (option_map (λ c. text_at symbols c.symbol) (nearest_entry rows at))
 nearest_symbol path at found symbols rows e =
-    let best = symbol_of path at found (fold (nearer pair_span at) None (flat_map (covering_in path) found)) (best_of_all path at [] found None none_yet) in
-    let index_is : option_map (covering_model symbols) (nearest rows at) ≡ fold (nearer pair_span at) None (flat_map (covering_in path) found) = fold_said symbols at None rows ∙ ap (fold (nearer pair_span at) None) e in
-    subst (IsSymbolAt found path at) (ap (option_map (λ (x : Span × List ℕ). x.1)) (sym index_is) ∙ seen (nearest rows at)) best
+    let best = symbol_of path at found (fold (nearer_if_covering pair_span at) None (flat_map (covering_in path) found)) (best_of_all path at [] found None none_yet) in
+    let index_is : option_map (covering_model symbols) (nearest_entry rows at) ≡ fold (nearer_if_covering pair_span at) None (flat_map (covering_in path) found) = fold_said symbols at None rows ∙ ap (fold (nearer_if_covering pair_span at) None) e in
+    subst (IsSymbolAt found path at) (ap (option_map (λ (x : Span × List ℕ). x.1)) (sym index_is) ∙ seen (nearest_entry rows at)) best
   where
     none_yet : IsBest path at [] None
     none_yet = λ g other (k, l, is) covers. omega (arith, l)
@@ -237,7 +237,7 @@ nearest_symbol path at found symbols rows e =
     seen (Some c) = refl
 
 -- the nearest row is one of them
-nearer_is : (P : PathEntry → Type 0) (at : Position) (best : Option PathEntry) (row c : PathEntry) → ((b : PathEntry) → best ≡ Some b → P b) → P row → nearer covering_span at best row ≡ Some c → P c
+nearer_is : (P : PathEntry → Type 0) (at : Position) (best : Option PathEntry) (row c : PathEntry) → ((b : PathEntry) → best ≡ Some b → P b) → P row → nearer_if_covering covering_span at best row ≡ Some c → P c
 nearer_is P at best row c h r e = elim (cases_Bool (is_in_span at row.span)) [
   | inr outside ↦ h c (rw outside at e)
   | inl inside ↦ chosen best h (rw inside at e)
@@ -250,13 +250,13 @@ nearer_is P at best row c h r e = elim (cases_Bool (is_in_span at row.span)) [
       | inr far ↦ subst P (same_Some b c (rw far at f)) (k b refl)
     ]
 
-pub nearest_is : (P : PathEntry → Type 0) (at : Position) (best : Option PathEntry) (rows : List PathEntry) (c : PathEntry) → ((b : PathEntry) → best ≡ Some b → P b) → All P rows → fold (nearer covering_span at) best rows ≡ Some c → P c
+pub nearest_is : (P : PathEntry → Type 0) (at : Position) (best : Option PathEntry) (rows : List PathEntry) (c : PathEntry) → ((b : PathEntry) → best ≡ Some b → P b) → All P rows → fold (nearer_if_covering covering_span at) best rows ≡ Some c → P c
 nearest_is P at best [] c h all e = h c e
 nearest_is P at best (r ∷ rows) c h all e =
-    nearest_is P at (nearer covering_span at best r) rows c (λ b. nearer_is P at best r b h (all 0 r (omega arith))) (λ k d l. all (suc k) d (omega (arith, l))) e
+    nearest_is P at (nearer_if_covering covering_span at best r) rows c (λ b. nearer_is P at best r b h (all 0 r (omega arith))) (λ k d l. all (suc k) d (omega (arith, l))) e
 
 -- what a store of the index answers, where it has the path
-pub nearest_here : (index : IndexModel) (t : Tables) (path : List ℕ) (at : Position) (n : ℕ) (symbol_span : Option PathEntry) → AreComplete t → IsStoreOf index t → text_index t.paths path ≡ Some n → symbol_span ≡ nearest (rows_at t.coverings n) at
+pub nearest_here : (index : IndexModel) (t : Tables) (path : List ℕ) (at : Position) (n : ℕ) (symbol_span : Option PathEntry) → AreComplete t → IsStoreOf index t → text_index t.paths path ≡ Some n → symbol_span ≡ nearest_entry (rows_at t.coverings n) at
     → HasPath index path × IsSymbolAt (all_occurrences index) path at (option_map (λ c. text_at t.symbols c.symbol) symbol_span)
 nearest_here index t path at n symbol_span whole store in_range is =
     let under : rows_under t.paths t.coverings path ≡ rows_at t.coverings n = under_number t.paths t.coverings path n whole.of_paths in_range in (

@@ -7,7 +7,7 @@ use Rattle.std.proofs.lemmas.Bool.{cases_Bool, false≢true}
 use Rattle.std.proofs.lemmas.List.{append-nil, length-map, take-map}
 use Rattle.std.proofs.Math.Seq.{take-append_seam}
 use Rattle.std.proofs.lemmas.Grind.{flat_map-append}
-use Rattle.proto_wire.specs.Messages.{each_of, nested_records}
+use Rattle.proto_wire.specs.Messages.{field_values, nested_records}
 use Rattle.proto_wire.specs.Readings.{payload_records}
 use Rattle.proto_wire.specs.Records.{PayloadRecord}
 use Rattle.proto_wire.specs.declared.fault.WireFault.{WireFault}
@@ -18,7 +18,7 @@ use Rattle.scip_index.proofs.OutcomeLaws.{no_fault}
 use Rattle.scip_index.proofs.CheckedLaws.{paths_are_texts}
 use Rattle.index_store.specs.declared.location.Position.{Position}
 use Rattle.index_store.specs.declared.span.Span.{Span}
-use Rattle.index_store.specs.TableLookup.{nearer, locations_by_role}
+use Rattle.index_store.specs.TableLookup.{nearer_if_covering, locations_by_role}
 use Rattle.index_store.specs.Direct.{covering_of, has_document, nearest_at, pair_span, location_of_symbol, locations_in_document, HaveTextPaths}
 use Rattle.index_store.specs.Queries.{PlacedOccurrence, HasPath, IsSymbolAt, LocationModel, all_occurrences, occurrence_at, occurrences_in, is_definition, is_local, location_of, locations_of}
 use Rattle.index_store.specs.Stores.{covering_in}
@@ -48,19 +48,19 @@ flipped a b false e = elim (cases_Bool (bytes_eq b a)) [
   | inr apart ↦ apart
 ]
 
-one_document : (path : List ℕ) (at : Position) (best : Option (Span × List ℕ)) (d : DocumentModel) → nearest_at path at best d ≡ fold (nearer pair_span at) best (flat_map (covering_in path) (occurrences_in d))
+one_document : (path : List ℕ) (at : Position) (best : Option (Span × List ℕ)) (d : DocumentModel) → nearest_at path at best d ≡ fold (nearer_if_covering pair_span at) best (flat_map (covering_in path) (occurrences_in d))
 one_document path at best d = elim (cases_Bool (bytes_eq d.relative_path path)) [
-  | inl here ↦ rw here (ap (fold (nearer pair_span at) best) (sym (covered path d.relative_path d.occurrences (flipped d.relative_path path true here))))
-  | inr other ↦ rw other (ap (fold (nearer pair_span at) best) (sym (uncovered path d.relative_path d.occurrences (flipped d.relative_path path false other))))
+  | inl here ↦ rw here (ap (fold (nearer_if_covering pair_span at) best) (sym (covered path d.relative_path d.occurrences (flipped d.relative_path path true here))))
+  | inr other ↦ rw other (ap (fold (nearer_if_covering pair_span at) best) (sym (uncovered path d.relative_path d.occurrences (flipped d.relative_path path false other))))
 ]
 
-pub all_documents : (path : List ℕ) (at : Position) (best : Option (Span × List ℕ)) (documents : List DocumentModel) → fold (nearest_at path at) best documents ≡ fold (nearer pair_span at) best (flat_map (covering_in path) (flat_map occurrences_in documents))
+pub all_documents : (path : List ℕ) (at : Position) (best : Option (Span × List ℕ)) (documents : List DocumentModel) → fold (nearest_at path at) best documents ≡ fold (nearer_if_covering pair_span at) best (flat_map (covering_in path) (flat_map occurrences_in documents))
 all_documents path at best [] = refl
 all_documents path at best (d ∷ documents) =
     ap (λ (b : Option (Span × List ℕ)). fold (nearest_at path at) b documents) (one_document path at best d)
-    ∙ all_documents path at (fold (nearer pair_span at) best (flat_map (covering_in path) (occurrences_in d))) documents
-    ∙ sym (fold_append (nearer pair_span at) best (flat_map (covering_in path) (occurrences_in d)) (flat_map (covering_in path) (flat_map occurrences_in documents)))
-    ∙ ap (fold (nearer pair_span at) best) (sym (flat_map-append (covering_in path) (occurrences_in d) (flat_map occurrences_in documents)))
+    ∙ all_documents path at (fold (nearer_if_covering pair_span at) best (flat_map (covering_in path) (occurrences_in d))) documents
+    ∙ sym (fold_append (nearer_if_covering pair_span at) best (flat_map (covering_in path) (occurrences_in d)) (flat_map (covering_in path) (flat_map occurrences_in documents)))
+    ∙ ap (fold (nearer_if_covering pair_span at) best) (sym (flat_map-append (covering_in path) (occurrences_in d) (flat_map occurrences_in documents)))
 
 -- ---- the index that the bytes mean
 
@@ -79,7 +79,7 @@ lacks_it path (d ∷ documents) e (suc k, l, is) = elim (cases_Bool (bytes_eq d.
   | inr other ↦ lacks_it path documents (rw other at e) (k, omega (arith, l), is)
 ]
 
-pub documents_said : (bytes : List ℕ) (index : IndexModel) → Means bytes index → index.documents ≡ map document_of (each_of 2 nested_records (payload_records 0 bytes).0)
+pub documents_said : (bytes : List ℕ) (index : IndexModel) → Means bytes index → index.documents ≡ map document_of (field_values 2 nested_records (payload_records 0 bytes).0)
 documents_said bytes index means =
     ap (λ (i : IndexModel). i.documents) means.index_is ∙ sym (ap (λ (x : List PayloadRecord × Option WireFault). (index_of x.0).documents) (records_found 0 bytes means.pieces means.are_records))
 
@@ -87,30 +87,30 @@ pub all_map : {A B : Type 0} (P : B → Type 0) (f : A → B) (xs : List A) → 
 all_map P f [] h = tt
 all_map P f (x ∷ xs) h = (h.0, all_map P f xs h.1)
 
-pub paths_text : (bytes : List ℕ) (index : IndexModel) → Means bytes index → HaveTextPaths (map document_of (each_of 2 nested_records (payload_records 0 bytes).0))
-paths_text bytes index means = all_map (λ (d : DocumentModel). IsUtf8 d.relative_path) document_of (each_of 2 nested_records (payload_records 0 bytes).0) (paths_are_texts bytes (no_fault bytes index means))
+pub paths_text : (bytes : List ℕ) (index : IndexModel) → Means bytes index → HaveTextPaths (map document_of (field_values 2 nested_records (payload_records 0 bytes).0))
+paths_text bytes index means = all_map (λ (d : DocumentModel). IsUtf8 d.relative_path) document_of (field_values 2 nested_records (payload_records 0 bytes).0) (paths_are_texts bytes (no_fault bytes index means))
 
 -- what a search of the bytes finds
-pub path_there : (bytes path : List ℕ) (index : IndexModel) → Means bytes index → has_document path (map document_of (each_of 2 nested_records (payload_records 0 bytes).0)) ≡ true → HasPath index path
-path_there bytes path index means e = rw (documents_said bytes index means) (has_it path (map document_of (each_of 2 nested_records (payload_records 0 bytes).0)) e)
+pub path_there : (bytes path : List ℕ) (index : IndexModel) → Means bytes index → has_document path (map document_of (field_values 2 nested_records (payload_records 0 bytes).0)) ≡ true → HasPath index path
+path_there bytes path index means e = rw (documents_said bytes index means) (has_it path (map document_of (field_values 2 nested_records (payload_records 0 bytes).0)) e)
 
-pub path_lacking : (bytes path : List ℕ) (index : IndexModel) → Means bytes index → has_document path (map document_of (each_of 2 nested_records (payload_records 0 bytes).0)) ≡ false → HasPath index path → ⊥
-path_lacking bytes path index means e has = lacks_it path (map document_of (each_of 2 nested_records (payload_records 0 bytes).0)) e (rw (documents_said bytes index means) at has)
+pub path_lacking : (bytes path : List ℕ) (index : IndexModel) → Means bytes index → has_document path (map document_of (field_values 2 nested_records (payload_records 0 bytes).0)) ≡ false → HasPath index path → ⊥
+path_lacking bytes path index means e has = lacks_it path (map document_of (field_values 2 nested_records (payload_records 0 bytes).0)) e (rw (documents_said bytes index means) at has)
 
 -- a search by the path alone
-pub path_exactly : (bytes path : List ℕ) (index : IndexModel) → Means bytes index → (has_document path (map document_of (each_of 2 nested_records (payload_records 0 bytes).0)) ≡ true) ↔ HasPath index path
+pub path_exactly : (bytes path : List ℕ) (index : IndexModel) → Means bytes index → (has_document path (map document_of (field_values 2 nested_records (payload_records 0 bytes).0)) ≡ true) ↔ HasPath index path
 path_exactly bytes path index means = (
   path_there bytes path index means,
-  λ has. elim (cases_Bool (has_document path (map document_of (each_of 2 nested_records (payload_records 0 bytes).0)))) [
+  λ has. elim (cases_Bool (has_document path (map document_of (field_values 2 nested_records (payload_records 0 bytes).0)))) [
     | inl in_range ↦ in_range
     | inr lacks ↦ absurd (path_lacking bytes path index means lacks has)
   ],
 )
 
-pub symbol_there : (bytes path : List ℕ) (at : Position) (best : Option (Span × List ℕ)) (index : IndexModel) → Means bytes index → best ≡ fold (nearest_at path at) None (map document_of (each_of 2 nested_records (payload_records 0 bytes).0))
+pub symbol_there : (bytes path : List ℕ) (at : Position) (best : Option (Span × List ℕ)) (index : IndexModel) → Means bytes index → best ≡ fold (nearest_at path at) None (map document_of (field_values 2 nested_records (payload_records 0 bytes).0))
     → IsSymbolAt (all_occurrences index) path at (option_map (λ x. x.1) best)
 symbol_there bytes path at best index means e =
-    let documents = map document_of (each_of 2 nested_records (payload_records 0 bytes).0) in
+    let documents = map document_of (field_values 2 nested_records (payload_records 0 bytes).0) in
     rw (documents_said bytes index means, e, all_documents path at None documents) (found_symbol path at (flat_map occurrences_in documents))
 
 -- ---- locations
@@ -157,9 +157,9 @@ all_places defines path symbol (d ∷ documents) =
     ∙ ap locations_of (sym (filter_append (is_wanted defines path symbol) (occurrences_in d) (flat_map occurrences_in documents)))
 
 pub places_there : (defines : Bool) (bytes path symbol : List ℕ) (index : IndexModel) → Means bytes index
-    → flat_map (locations_in_document defines (is_local symbol) path symbol) (map document_of (each_of 2 nested_records (payload_records 0 bytes).0)) ≡ locations_by_role defines index path symbol
-places_there true bytes path symbol index means = rw (documents_said bytes index means) (all_places true path symbol (map document_of (each_of 2 nested_records (payload_records 0 bytes).0)))
-places_there false bytes path symbol index means = rw (documents_said bytes index means) (all_places false path symbol (map document_of (each_of 2 nested_records (payload_records 0 bytes).0)))
+    → flat_map (locations_in_document defines (is_local symbol) path symbol) (map document_of (field_values 2 nested_records (payload_records 0 bytes).0)) ≡ locations_by_role defines index path symbol
+places_there true bytes path symbol index means = rw (documents_said bytes index means) (all_places true path symbol (map document_of (field_values 2 nested_records (payload_records 0 bytes).0)))
+places_there false bytes path symbol index means = rw (documents_said bytes index means) (all_places false path symbol (map document_of (field_values 2 nested_records (payload_records 0 bytes).0)))
 
 pub if_ok : {X E : Type 0} (result : Result X E) (P Q : X → Type 0) → IfOk result P → ((x : X) → P x → Q x) → IfOk result Q
 if_ok (Ok x) P Q h go = go x h

@@ -47,8 +47,8 @@ module _ (found : List PlacedOccurrence) (path : List ℕ) (at : Position) where
   covered : (f : PlacedOccurrence) (a : Span) → IsNearest found path at f a → NoneCovers found path at → ⊥
   covered f a n none = none f a (subst (λ (fs : List PlacedOccurrence). Contains fs f) (sym n.among) (among_rest n.before n.after f)) n.covers
 
-  pub one_symbol : (a b : Option (List ℕ)) → IsSymbolAt found path at a → IsSymbolAt found path at b → a ≡ b
-  one_symbol None None p q = refl
-  one_symbol None (Some s) p (g, b, n, is) = absurd (covered g b n p)
-  one_symbol (Some s) None (f, a, m, is) q = absurd (covered f a m q)
-  one_symbol (Some s) (Some t) (f, a, m, is) (g, b, n, was) = ap (λ (x : List ℕ). Some x) (sym is ∙ ap (λ (x : PlacedOccurrence). x.occurrence.symbol) (one_nearest f g a b m n) ∙ was)
+  pub symbol_at_position_is_unique : (a b : Option (List ℕ)) → IsSymbolAt found path at a → IsSymbolAt found path at b → a ≡ b
+  symbol_at_position_is_unique None None p q = refl
+  symbol_at_position_is_unique None (Some s) p (g, b, n, is) = absurd (covered g b n p)
+  symbol_at_position_is_unique (Some s) None (f, a, m, is) q = absurd (covered f a m q)
+  symbol_at_position_is_unique (Some s) (Some t) (f, a, m, is) (g, b, n, was) = ap (λ (x : List ℕ). Some x) (sym is ∙ ap (λ (x : PlacedOccurrence). x.occurrence.symbol) (one_nearest f g a b m n) ∙ was)

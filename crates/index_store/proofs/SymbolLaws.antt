@@ -6,7 +6,7 @@ use Rattle.std.specs.Option.{is_some}
 use Rattle.std.specs.Str.{IsUtf8, bytes_eq}
 use Rattle.std.proofs.lemmas.Bool.{cases_Bool}
 use Rattle.std.proofs.lemmas.Grind.{flat_map-append}
-use Rattle.proto_wire.specs.Messages.{each_of, nested_records}
+use Rattle.proto_wire.specs.Messages.{field_values, nested_records}
 use Rattle.proto_wire.specs.Readings.{payload_records}
 use Rattle.proto_wire.specs.Records.{PayloadRecord}
 use Rattle.scip_index.specs.Meaning.{document_of, occurrence_of, Means}
@@ -28,12 +28,12 @@ use Rattle.index_store.proofs.DirectLaws.{all_map, documents_said, filter_append
 both_texts : (pieces : List (List PayloadRecord)) → AllByRecursion HasPathText pieces → AllByRecursion HaveSymbolTexts pieces → AreTextDocuments (map document_of pieces)
 both_texts [] paths symbols = tt
 both_texts (ps ∷ pieces) paths symbols =
-    ((paths.0, all_map (λ (o : OccurrenceModel). IsUtf8 o.symbol) occurrence_of (each_of 2 nested_records ps) symbols.0), both_texts pieces paths.1 symbols.1)
+    ((paths.0, all_map (λ (o : OccurrenceModel). IsUtf8 o.symbol) occurrence_of (field_values 2 nested_records ps) symbols.0), both_texts pieces paths.1 symbols.1)
 
-pub texts_there : (bytes : List ℕ) (index : IndexModel) → Means bytes index → AreTextDocuments (map document_of (each_of 2 nested_records (payload_records 0 bytes).0))
+pub texts_there : (bytes : List ℕ) (index : IndexModel) → Means bytes index → AreTextDocuments (map document_of (field_values 2 nested_records (payload_records 0 bytes).0))
 texts_there bytes index means =
     let clean = no_fault bytes index means in
-    both_texts (each_of 2 nested_records (payload_records 0 bytes).0) (paths_are_texts bytes clean) (symbols_are_texts bytes clean)
+    both_texts (field_values 2 nested_records (payload_records 0 bytes).0) (paths_are_texts bytes clean) (symbols_are_texts bytes clean)
 
 -- the symbols of all occurrences are UTF-8
 abbrev HasSymbol : PlacedOccurrence → Type 0
@@ -134,8 +134,8 @@ all_lines style requested (d ∷ documents) =
     ∙ ap (λ (fs : List PlacedOccurrence). definition_lines style (flat_map definition_of fs)) (sym (filter_append (is_listed requested) (occurrences_in d) (flat_map occurrences_in documents)))
 
 pub listed_there : (style : Style) (requested : Option (List ℕ)) (bytes : List ℕ) (index : IndexModel) → Means bytes index
-    → flat_map (lines_of_document style requested) (map document_of (each_of 2 nested_records (payload_records 0 bytes).0)) ≡ definition_lines style (definitions_listed index requested)
-listed_there style requested bytes index means = rw (documents_said bytes index means) (all_lines style requested (map document_of (each_of 2 nested_records (payload_records 0 bytes).0)))
+    → flat_map (lines_of_document style requested) (map document_of (field_values 2 nested_records (payload_records 0 bytes).0)) ≡ definition_lines style (definitions_listed index requested)
+listed_there style requested bytes index means = rw (documents_said bytes index means) (all_lines style requested (map document_of (field_values 2 nested_records (payload_records 0 bytes).0)))
 
 -- ---- lines so far
 

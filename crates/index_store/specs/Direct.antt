@@ -3,16 +3,16 @@ use Rattle.std.specs.Prelude.{◌&&◌, ◌||◌, not, ℕ, Bool, false, List, [
 use Rattle.std.specs.List.{AllByRecursion, flat_map}
 use Rattle.std.specs.Str.{IsUtf8, bytes_eq}
 use Rattle.proto_wire.specs.MessageBytes.{records_of}
-use Rattle.proto_wire.specs.Messages.{each_of, nested_records}
+use Rattle.proto_wire.specs.Messages.{field_values, nested_records}
 use Rattle.proto_wire.specs.declared.inside.MessageBytes.{MessageBytes}
 use Rattle.scip_index.specs.Meaning.{document_of}
 use Rattle.scip_index.specs.Plain.{DocumentModel, IndexModel, OccurrenceModel}
-use Rattle.index_store.specs.declared.direct.SymbolSpan.{SymbolSpan}
+use Rattle.index_store.specs.declared.byte_queries.SymbolSpan.{SymbolSpan}
 use Rattle.index_store.specs.declared.fault.StoreFault.{StoreFault}
 use Rattle.index_store.specs.declared.fault.StoreFault.TheVariants as faults
 use Rattle.index_store.specs.declared.location.Position.{Position}
 use Rattle.index_store.specs.declared.span.Span.{Span}
-use Rattle.index_store.specs.TableLookup.{nearer}
+use Rattle.index_store.specs.TableLookup.{nearer_if_covering}
 use Rattle.index_store.specs.Queries.{HasPath, IsSymbolAt, LocationModel, all_occurrences, is_definition, location_at}
 use Rattle.index_store.specs.Spans.{span_of}
 use Rattle.index_store.specs.Stores.{span_with_symbol}
@@ -30,7 +30,7 @@ IsSymbolLookup index path at (Err faults.Memory) = Unit {0}
 abbrev pub symbol_span_model : SymbolSpan → Span × List ℕ
 symbol_span_model n = (n.span, n.symbol.now)
 
--- the span of a pair
+-- the span of a span with its symbol string
 abbrev pub pair_span : Span × List ℕ → Span
 pair_span x = x.0
 
@@ -38,30 +38,31 @@ pair_span x = x.0
 abbrev pub covering_of : OccurrenceModel → List (Span × List ℕ)
 covering_of o = span_with_symbol (span_of o.range) o.symbol
 
--- the nearest of the pair so far and of those of these occurrences that cover the position
+-- the nearest of best and these occurrences, of which only those that cover the position count
 abbrev pub nearest_of : Position → Option (Span × List ℕ) → List OccurrenceModel → Option (Span × List ℕ)
-nearest_of at best occurrences = fold (nearer pair_span at) best (flat_map covering_of occurrences)
+nearest_of at best occurrences = fold (nearer_if_covering pair_span at) best (flat_map covering_of occurrences)
 
--- the nearest of the pair so far and of the covering occurrences of a document; of a document with another path none is considered
+-- the nearest of best and the occurrences of a document that cover the position; best if the document has another path
 abbrev pub nearest_at : List ℕ → Position → Option (Span × List ℕ) → DocumentModel → Option (Span × List ℕ)
 nearest_at path at best d = if bytes_eq d.relative_path path then nearest_of at best d.occurrences else best
 
--- a document of the list has the path
+-- whether a document of the list has the path
 abbrev pub has_document : List ℕ → List DocumentModel → Bool
 has_document path [] = false
 has_document path (d ∷ documents) = bytes_eq d.relative_path path || has_document path documents
 
 -- ---- the occurrences of a symbol
 
--- the occurrence has the symbol and, for definitions, the definition role, or else doesn't have that role
+-- the occurrence has the symbol, and it has the definition role if and only if `defines` is true
 abbrev pub is_match : Bool → List ℕ → OccurrenceModel → Bool
 is_match defines symbol o = bytes_eq o.symbol symbol && (if defines then is_definition o else not (is_definition o))
 
--- the location of an occurrence in a document of this path, if the occurrence is a definition, or else a reference, of the symbol
+-- the location of an occurrence in a document with this path, if the occurrence has the symbol and the requested role; otherwise empty
 abbrev pub location_of_symbol : Bool → List ℕ → List ℕ → OccurrenceModel → List LocationModel
 location_of_symbol defines symbol here o = if is_match defines symbol o then location_at here (span_of o.range) else []
 
--- the locations in a document of a symbol's definitions or else references; for a local symbol none if the document has another path
+-- the locations in a document of a symbol's definitions if `defines` is true, otherwise of its references; empty if the symbol is local and
+-- the document has another path
 abbrev pub locations_in_document : Bool → Bool → List ℕ → List ℕ → DocumentModel → List LocationModel
 locations_in_document defines local path symbol d = if not local || bytes_eq d.relative_path path then flat_map (location_of_symbol defines symbol d.relative_path) d.occurrences else []
 
@@ -69,7 +70,7 @@ locations_in_document defines local path symbol d = if not local || bytes_eq d.r
 
 -- the documents of the index that the bytes encode
 abbrev pub documents_of : MessageBytes → List DocumentModel
-documents_of m = map document_of (each_of 2 nested_records (records_of m))
+documents_of m = map document_of (field_values 2 nested_records (records_of m))
 
 -- the path of each document is UTF-8
 abbrev pub HaveTextPaths : List DocumentModel → Type 0

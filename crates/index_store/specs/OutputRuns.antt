@@ -1,4 +1,4 @@
--- What a run reads and writes that lists definitions, that writes the symbol at a position, or that looks up a symbol by its string.
+-- Runs of `list_symbols`, `write_symbol` and `query_symbol`: what each reads and writes.
 use Rattle.std.specs.Prelude.{◌≡◌, ◌⊎◌, ℕ, List, [], ◌++◌, codes, Option, Some, None, Result, Ok, Err, if◌then◌else◌}
 use Rattle.std.specs.Io.KnownBytes.{Appends, Keeps}
 use Rattle.byte_sink.specs.Sinks.{AppendsPrefix}
@@ -21,14 +21,14 @@ abbrev pub HasRequestedPath : IndexModel → Option (List ℕ) → Type 0
 HasRequestedPath index None = Unit {0}
 HasRequestedPath index (Some path) = HasPath index path
 
--- the bytes encode an index that has what is requested, and the text is the output for that index
+-- the bytes encode an index that has the requested document, if one is requested, and the text is the output for that index
 pub record IsOutput (Has : IndexModel → Type 0) (IsText : IndexModel → List ℕ → Type 0) (bytes text : List ℕ) : Type 0 where
   pub index : IndexModel
   pub means : Means bytes index
   pub has : Has index
   pub text_is : IsText index text
 
--- the bytes encode an index that doesn't have what is requested
+-- the bytes encode an index that doesn't have the requested document
 abbrev pub LacksRequested : (IndexModel → Type 0) → List ℕ → Type 0
 LacksRequested Has bytes = (index : IndexModel) × Means bytes index × (Has index → ⊥)
 
@@ -46,7 +46,7 @@ IsOutputRun Has IsText bytes old new (Err Memory) = Keeps old new ⊎ ((text : L
 abbrev pub IsDefinitionsText : Style → Option (List ℕ) → IndexModel → List ℕ → Type 0
 IsDefinitionsText style path index text = text ≡ definition_lines style (definitions_listed index path)
 
--- what a run writes that lists definitions; `NoDocument` means that no document has the given path
+-- what a run of `list_symbols` writes; `NoDocument` means that no document has the given path
 abbrev pub IsSymbolsRun : Style → List ℕ → Option (List ℕ) → Option (List ℕ) → Option (List ℕ) → Result (Unit {0}) QueryFault → Type 0
 IsSymbolsRun style bytes path old new result = IsOutputRun (λ index. HasRequestedPath index path) (IsDefinitionsText style path) bytes old new result
 
@@ -61,22 +61,22 @@ symbol_line (Some symbol) = escaped symbol ++ codes "\n"
 abbrev pub IsSymbolText : List ℕ → Position → IndexModel → List ℕ → Type 0
 IsSymbolText path at index text = (symbol : Option (List ℕ)) × IsSymbolAt (all_occurrences index) path at symbol × (text ≡ symbol_line symbol)
 
--- what a run writes that looks up the symbol at a position; `NoDocument` means that no document has the path
+-- what a run of `write_symbol` writes; `NoDocument` means that no document has the path
 abbrev pub IsSymbolRun : List ℕ → List ℕ → Position → Option (List ℕ) → Option (List ℕ) → Result (Unit {0}) QueryFault → Type 0
 IsSymbolRun bytes path at old new result = IsOutputRun (λ index. HasPath index path) (IsSymbolText path at) bytes old new result
 
 -- ---- the locations of a symbol by its string
 
--- the locations of a symbol by its string: of a local symbol in the documents of the given path, and without a path none; of any other in
--- all documents
-abbrev pub named_locations : Which → IndexModel → Option (List ℕ) → List ℕ → List LocationModel
-named_locations which index (Some path) symbol = requested_locations which index path symbol
-named_locations which index None symbol = if is_local symbol then [] else requested_locations which index [] symbol
+-- the locations of the definitions or references of the symbol with this string: of a local symbol in the documents with the given path,
+-- none without a path; of any other symbol in all documents
+abbrev pub locations_by_symbol : Which → IndexModel → Option (List ℕ) → List ℕ → List LocationModel
+locations_by_symbol which index (Some path) symbol = requested_locations which index path symbol
+locations_by_symbol which index None symbol = if is_local symbol then [] else requested_locations which index [] symbol
 
 -- the text has the lines of the locations of a symbol by its string
 abbrev pub IsLocationsText : Style → Which → Option (List ℕ) → List ℕ → IndexModel → List ℕ → Type 0
-IsLocationsText style which path symbol index text = text ≡ location_lines style (named_locations which index path symbol)
+IsLocationsText style which path symbol index text = text ≡ location_lines style (locations_by_symbol which index path symbol)
 
--- what a run writes that looks up a symbol by its string; `NoDocument` means that no document has the given path
+-- what a run of `query_symbol` writes; `NoDocument` means that no document has the given path
 abbrev pub IsNamedRun : Style → List ℕ → Option (List ℕ) → List ℕ → Which → Option (List ℕ) → Option (List ℕ) → Result (Unit {0}) QueryFault → Type 0
 IsNamedRun style bytes path symbol which old new result = IsOutputRun (λ index. HasRequestedPath index path) (IsLocationsText style which path symbol) bytes old new result

@@ -32,10 +32,10 @@ all_occurrences index = flat_map occurrences_in index.documents
 abbrev pub HasPath : IndexModel → List ℕ → Type 0
 HasPath index path = Contains (map (λ document. document.relative_path) index.documents) path
 
--- a result with the view of its value
-abbrev pub answered : {A B E : Type 0} → (A → B) → Result A E → Result B E
-answered seen (Ok x) = Ok (seen x)
-answered seen (Err e) = Err e
+-- the result with `seen` applied to its value; an error is unchanged
+abbrev pub map_ok : {A B E : Type 0} → (A → B) → Result A E → Result B E
+map_ok seen (Ok x) = Ok (seen x)
+map_ok seen (Err e) = Err e
 
 -- ---- the symbol at a position
 

@@ -19,7 +19,7 @@ abbrev pub requested_locations : Which → IndexModel → List ℕ → List ℕ 
 requested_locations which.Definitions index path symbol = definitions index path symbol
 requested_locations which.References index path symbol = references index path symbol
 
--- the definitions or the references of the symbol at a position; no location if no symbol is there
+-- the definitions or the references of this symbol; no location for None
 abbrev pub query_locations : Which → IndexModel → List ℕ → Option (List ℕ) → List LocationModel
 query_locations which index path None = []
 query_locations which index path (Some symbol) = requested_locations which index path symbol

@@ -11,12 +11,12 @@ is_before a b = nat_lt a.line b.line || ((a.line == b.line) && nat_lt a.column b
 abbrev pub span_at : ℕ → ℕ → ℕ → ℕ → Span
 span_at line start last end = record { start = record { line = line; column = start }; end = record { line = last; column = end } }
 
--- the number, if it isn't negative
+-- the number, or none if it is negative
 abbrev pub natural : ℤ → Option ℕ
 natural (pos n) = Some n
 natural negative = None
 
--- the span between two positions, if none of the numbers is missing
+-- the span between two positions, or none if one of the numbers is missing
 abbrev pub span_between : Option ℕ → Option ℕ → Option ℕ → Option ℕ → Option Span
 span_between (Some line) (Some start) (Some last) (Some end) = Some (span_at line start last end)
 span_between line start last end = None

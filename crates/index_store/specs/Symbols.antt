@@ -15,8 +15,8 @@ use Rattle.index_store.specs.Queries.{PlacedOccurrence, LocationModel, all_occur
 abbrev pub defines_symbol : OccurrenceModel → Bool
 defines_symbol o = is_definition o && not (bytes_eq o.symbol [])
 
--- the occurrence is listed: without a path every definition of a symbol that isn't local, with a path every definition in the documents of
--- that path
+-- whether the occurrence is listed: without a path if it defines a symbol that isn't local, with a path if it defines a symbol in a
+-- document with that path
 abbrev pub is_listed : Option (List ℕ) → PlacedOccurrence → Bool
 is_listed None f = defines_symbol f.occurrence && not (is_local f.occurrence.symbol)
 is_listed (Some path) f = defines_symbol f.occurrence && bytes_eq f.path path
@@ -48,7 +48,8 @@ definition_lines style definitions = flat_map (definition_line style) definition
 
 -- ---- document by document
 
--- the span and the symbol of an occurrence, if it has both and the definition role; of a local symbol only if local symbols are listed
+-- the span and the symbol of an occurrence; empty unless it has both and the definition role, and is not of a local symbol or local symbols
+-- are listed
 abbrev pub spans_listed : Bool → OccurrenceModel → List (Span × List ℕ)
 spans_listed with_local o = if is_definition o && (with_local || not (is_local o.symbol)) then covering_of o else []
 
@@ -64,7 +65,7 @@ lines_of_occurrence style with_local path o = flat_map (line_at style path) (spa
 abbrev pub lines_in : Style → Bool → List ℕ → List OccurrenceModel → List ℕ
 lines_in style with_local path occurrences = flat_map (lines_of_occurrence style with_local path) occurrences
 
--- documents of this path are requested: all documents are, or those of one path
+-- whether definitions in documents with this path are requested: without a requested path in all documents
 abbrev pub is_requested : Option (List ℕ) → List ℕ → Bool
 is_requested None path = true
 is_requested (Some requested) path = bytes_eq path requested

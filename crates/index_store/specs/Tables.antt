@@ -21,18 +21,19 @@ text_at texts n = slice_index_or texts n []
 abbrev pub rows_at : {A : Type 0} → List (List A) → ℕ → List A
 rows_at rows n = slice_index_or rows n []
 
--- the index of a string, if the list has it
+-- the index of a string in the list, or none if the list doesn't have it
 abbrev pub text_index : List (List ℕ) → List ℕ → Option ℕ
 text_index [] text = None
 text_index (t ∷ texts) text = if bytes_eq text t then Some 0 else option_map (λ n. n + 1) (text_index texts text)
 
--- the entries of a string; none if the list doesn't have it
+-- the entries of a string; empty if the list doesn't have the string
 abbrev pub rows_under : {A : Type 0} → List (List ℕ) → List (List A) → List ℕ → List A
 rows_under [] rows text = []
 rows_under (t ∷ texts) [] text = []
 rows_under (t ∷ texts) (r ∷ rows) text = if bytes_eq text t then r else rows_under texts rows text
 
--- n is the index of the string, which either was in the table, then unchanged, or is now its last string, with no entries
+-- n is the index of the string in the new table. Either the old table had the string and is unchanged, or the string is appended with no
+-- entries
 abbrev pub IsInserted : {A : Type 0} → List (List ℕ) → List (List A) → List ℕ → List (List ℕ) → List (List A) → ℕ → Type 0
 IsInserted texts rows text more_texts more_rows n =
     ((text_index texts text ≡ Some n) × (more_texts ≡ texts) × (more_rows ≡ rows))

@@ -6,7 +6,7 @@ use thiserror::Error;
 /// Why a store can't be built, or why a query on it fails.
 #[derive(Clone, Copy, Debug, Error)]
 pub enum StoreFault {
-    /// No document has the path.
+    /// No document of the index has the path in the query.
     #[error("no document has this path")]
     NoDocument,
     /// An allocation failed.

@@ -7,7 +7,7 @@
 #![tactic(auto)]
 
 mod builder;
-mod direct;
+mod byte_queries;
 mod fault;
 pub mod laws;
 mod lines;
@@ -22,7 +22,7 @@ mod store;
 mod symbols;
 mod table;
 
-pub use direct::{definitions_in_bytes, references_in_bytes, symbol_in_bytes};
+pub use byte_queries::{definitions_in_bytes, references_in_bytes, symbol_in_bytes};
 pub use fault::StoreFault;
 pub use lines::write_lines;
 pub use location::{Place, Position};

@@ -1,4 +1,4 @@
-//! The output of locations, a line for each.
+//! Writes locations, each as a line.
 ghost use Rattle.std.specs.Prelude.{◌≡◌, ◌++◌, map, IfErr, OnOk};
 ghost use Rattle.std.specs.String.{string_bytes};
 ghost use Rattle.byte_sink.specs.declared.sink.SinkFault.TheVariants.{Memory};
@@ -12,13 +12,15 @@ use byte_sink::{Sink, SinkFault, flush_if_full, write_fully};
 use std::alloc::{AllocError, Global};
 use texts::{LocationStyle, LocationWriter};
 
-/// Appends a location as `PATH:LINE:COL-LINE:COL`.
+/// Appends a location as `PATH:LINE:COL-LINE:COL` to the text, in the style of the writer.
 pub(crate) fn append_location<'a>(
     writer: &mut LocationWriter<'a>,
     text: &mut String,
     location: &Place<'a>,
 ) -> Result<(), AllocError>
+    // With `Ok` the text has grown by exactly the location.
     ensures appended { OnOk result (string_bytes text.new ≡ string_bytes text.old ++ range_text (writer_style writer.old) (location_model location.now)) }
+    // The style of the writer is unchanged.
     ensures style { writer_style writer.new ≡ writer_style writer.old }
 {
     let (start, end) = (location.start, location.end);
@@ -27,14 +29,17 @@ pub(crate) fn append_location<'a>(
     writer.append_position(text, end.line, end.column)
 }
 
-/// Appends the line of a location.
+/// Appends a location as `PATH:LINE:COL-LINE:COL` and an LF to the text, in the style of the writer.
 fn append_line<'a>(
     writer: &mut LocationWriter<'a>,
     text: &mut String,
     location: &Place<'a>,
 ) -> Result<(), SinkFault>
+    // With `Ok` the text has grown by exactly the line of the location.
     ensures line { OnOk result (string_bytes text.new ≡ string_bytes text.old ++ location_line (writer_style writer.old) (location_model location.now)) }
+    // The style of the writer is unchanged.
     ensures style { writer_style writer.new ≡ writer_style writer.old }
+    // The error is `Memory`.
     ensures memory { IfErr result (λ fault. fault ≡ Memory) }
 {
     append_location(writer, text, location).map_err(|_| SinkFault::Memory)?;

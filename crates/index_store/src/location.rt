@@ -7,7 +7,7 @@ pub struct Position {
     pub column: u32,
 }
 
-/// A location: a document's path and a half-open range in the document, with the position `start` and without `end`. The path is borrowed.
+/// A location: the path of a document, and a half-open range in the document that has the position `start` but not `end`.
 #[derive(Clone, Copy)]
 pub struct Place<'a> {
     pub path: &'a str,

@@ -10,13 +10,13 @@ use std::alloc::{AllocError, Global};
 use thiserror::Error;
 
 /// Why a query on an index fails. The `From` implementations convert every failed allocation to `Memory` and every failed sink to `Device`,
-/// so they make no `Wire` of these.
+/// so a `Wire` that they return holds neither.
 #[derive(Clone, Copy, Debug, PartialEq, Eq, Error)]
 pub enum QueryFault {
-    /// The bytes encode no index. It has their first fault.
+    /// The bytes encode no index. The value is their first fault.
     #[error(transparent)]
     Wire(WireFault),
-    /// No document has the path.
+    /// No document of the index has the path in the query.
     #[error("no document has this path")]
     NoDocument,
     /// The sink failed.
@@ -81,6 +81,7 @@ impl From<SinkFault> for QueryFault {
     }
 }
 
+/// The text of a fault of the wire format: its name and, for a fault of the bytes, the offset of its record's key.
 fn wire_fault_text(alloc: Global, fault: WireFault) -> Result<String, AllocError>
     ensures { IfOk result (λ t. string_bytes t ≡ wire_fault_text fault) }
 {
@@ -110,6 +111,7 @@ pub fn query_fault_text(alloc: Global, fault: &QueryFault) -> Result<String, All
     }
 }
 
+/// The exit status for a fault of the wire format: 1 for invalid bytes, 3 if the sink failed, 4 if an allocation failed.
 fn wire_status(fault: WireFault) -> u8
     ensures { result ≡ wire_status fault }
 {

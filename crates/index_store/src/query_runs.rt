@@ -11,9 +11,9 @@ ghost use Rattle.index_store.specs.declared.query_fault.QueryFault.TheVariants.{
 ghost use Rattle.index_store.specs.Queries.{location_model, HasPath};
 ghost use Rattle.index_store.specs.QueryRuns.{requested_locations, IsQueryRun, IsRejectedIndex};
 ghost use Rattle.index_store.specs.Faults.{is_device};
-ghost use Rattle.index_store.specs.OutputRuns.{named_locations, HasRequestedPath, IsNamedRun, IsSymbolRun, IsSymbolsRun};
+ghost use Rattle.index_store.specs.OutputRuns.{locations_by_symbol, HasRequestedPath, IsNamedRun, IsSymbolRun, IsSymbolsRun};
 
-use crate::direct::{has_document, is_local};
+use crate::byte_queries::{has_document, is_local};
 use crate::lines::write_lines;
 use crate::symbols::write_definitions;
 use crate::{
@@ -34,24 +34,28 @@ pub enum Which {
     References,
 }
 
-/// Checks that the bytes encode an index. Fails with their first fault if they don't.
+/// Fails with the first fault of the bytes if they don't encode an index, or with `Memory`.
 fn check_index(alloc: Global, bytes: &[u8]) -> Result<(), QueryFault>
+    // With `Ok` the bytes encode an index.
     ensures means { OnOk result ((index : IndexModel) × Means bytes.now index) }
+    // The error is the first fault of the bytes, or `Memory`.
     ensures fault { IfErr result (IsRejectedIndex bytes.now) }
 {
     check(alloc, bytes)?;
     Ok(())
 }
 
-/// The locations of a symbol's definitions or references.
-fn locations_of<'a>(
+/// The locations of a symbol's definitions or references, as `which` states, in bytes that encode an index.
+fn locations_with_role<'a>(
     alloc: Global,
     bytes: &'a [u8],
     path: &str,
     symbol: &[u8],
     which: Which,
 ) -> Result<Vec<Place<'a>>, AllocError>
+    // The bytes encode an index.
     requires means { (index : IndexModel) × Means bytes.now index }
+    // With `Ok` the locations are exactly those in the index that the bytes encode, in its order.
     ensures exact { (index : IndexModel) → Means bytes.now index → IfOk result (λ locations. map location_model locations.items ≡ requested_locations which index path.now symbol.now) }
 {
     match which {
@@ -61,7 +65,7 @@ fn locations_of<'a>(
 }
 
 /// Writes the lines of the definitions or references of the symbol at a position, in bytes that encode an index.
-fn write_occurrences<S: Sink>(
+fn write_locations_at_position<S: Sink>(
     alloc: Global,
     bytes: &[u8],
     path: &str,
@@ -70,14 +74,17 @@ fn write_occurrences<S: Sink>(
     style: LocationStyle<'_>,
     sink: &mut S,
 ) -> Result<(), QueryFault>
+    // The bytes encode an index.
     requires means { (index : IndexModel) × Means bytes.now index }
+    // This is the run of `query` for bytes that are already checked.
     ensures run { (index : IndexModel) → Means bytes.now index → IsQueryRun (style_of style.entry) bytes.now path.now at which (S.taken sink.old) (S.taken sink.new) result }
+    // The sink counts a failure if and only if the result is `Device`.
     ensures failures { S.failures sink.new ≡ failures_by is_device result (S.failures sink.old) }
 {
     let Some(symbol) = symbol_in_bytes(alloc, bytes, path, at)? else {
         return Ok(());
     };
-    let locations = locations_of(alloc, bytes, path, symbol, which)?;
+    let locations = locations_with_role(alloc, bytes, path, symbol, which)?;
     write_lines(alloc, style, locations.as_slice(), sink)?;
     Ok(())
 }
@@ -99,20 +106,22 @@ pub fn query<S: Sink>(
     style: LocationStyle<'_>,
     sink: &mut S,
 ) -> Result<(), QueryFault>
-    // With `Ok` the sink took exactly the lines of these locations, according to the index that the bytes encode. After `Device` or
-    // `Memory` it has at most a prefix of them, after another error none.
+    // With `Ok` the sink took exactly the lines of the definitions, or references, of the symbol at the position. After `Device` or
+    // `Memory` it has at most a prefix of the lines, after another error nothing.
     // The other errors are the first fault of the bytes, and `NoDocument` if the bytes encode an index in which no document has the path.
     ensures run { IsQueryRun (style_of style.entry) index.now path.now at which (S.taken sink.old) (S.taken sink.new) result }
     // The sink counts a failure if and only if the result is `Device`.
     ensures failures { S.failures sink.new ≡ failures_by is_device result (S.failures sink.old) }
 {
     check_index(alloc, index)?;
-    write_occurrences(alloc, index, path, at, which, style, sink)
+    write_locations_at_position(alloc, index, path, at, which, style, sink)
 }
 
 /// Whether a document of the index that the bytes encode has the path.
 fn has_path(bytes: &[u8], path: &str) -> bool
+    // The bytes encode an index.
     requires means { (index : IndexModel) × Means bytes.now index }
+    // The result is true if and only if a document of the index has the path.
     ensures exact { (index : IndexModel) → Means bytes.now index → (result ≡ true) ↔ HasPath index path.now }
 {
     has_document(MessageBytes { start: 0, bytes }, path.as_bytes())
@@ -120,9 +129,13 @@ fn has_path(bytes: &[u8], path: &str) -> bool
 
 /// Fails with `NoDocument` if a path is given and no document has it.
 fn check_path(bytes: &[u8], path: Option<&str>) -> Result<(), QueryFault>
+    // The bytes encode an index.
     requires means { (index : IndexModel) × Means bytes.now index }
+    // With `Ok` no path is given, or a document of the index has it.
     ensures has { (index : IndexModel) → Means bytes.now index → OnOk result (HasRequestedPath index (option_copied path.entry)) }
+    // With an error a path is given, and no document of the index has it.
     ensures lacks { (index : IndexModel) → Means bytes.now index → IfErr result (λ _. HasRequestedPath index (option_copied path.entry) → ⊥) }
+    // The error is `NoDocument`.
     ensures error { IfErr result (λ fault. fault ≡ NoDocument) }
 {
     match path {
@@ -131,7 +144,7 @@ fn check_path(bytes: &[u8], path: Option<&str>) -> Result<(), QueryFault>
     }
 }
 
-/// Writes the lines of the definitions in bytes that encode an index.
+/// Writes a line for each definition that `list_symbols` lists, in bytes that encode an index.
 fn write_definition_lines<S: Sink>(
     alloc: Global,
     bytes: &[u8],
@@ -139,8 +152,11 @@ fn write_definition_lines<S: Sink>(
     style: LocationStyle<'_>,
     sink: &mut S,
 ) -> Result<(), QueryFault>
+    // The bytes encode an index.
     requires means { (index : IndexModel) × Means bytes.now index }
+    // This is the run of `list_symbols` for bytes that are already checked.
     ensures run { (index : IndexModel) → Means bytes.now index → IsSymbolsRun (style_of style.entry) bytes.now (option_copied path.entry) (S.taken sink.old) (S.taken sink.new) result }
+    // The sink counts a failure if and only if the result is `Device`.
     ensures failures { S.failures sink.new ≡ failures_by is_device result (S.failures sink.old) }
 {
     check_path(bytes, path)?;
@@ -161,8 +177,8 @@ pub fn list_symbols<S: Sink>(
     style: LocationStyle<'_>,
     sink: &mut S,
 ) -> Result<(), QueryFault>
-    // With `Ok` the sink took exactly the lines of these definitions, according to the index that the bytes encode. After `Device` or
-    // `Memory` it has at most a prefix of them, after another error none.
+    // With `Ok` the sink took exactly the lines of the listed definitions of the index that the bytes encode. After `Device` or `Memory` it
+    // has at most a prefix of the lines, after another error nothing.
     // The other errors are the first fault of the bytes, and `NoDocument` if the bytes encode an index in which no document has the given
     // path.
     ensures run { IsSymbolsRun (style_of style.entry) index.now (option_copied path.entry) (S.taken sink.old) (S.taken sink.new) result }
@@ -173,8 +189,9 @@ pub fn list_symbols<S: Sink>(
     write_definition_lines(alloc, index, path, style, sink)
 }
 
-/// The line of a symbol string, with its control characters escaped.
+/// The symbol string as a line, with its control characters escaped.
 fn symbol_line(alloc: Global, symbol: &[u8]) -> Result<String, AllocError>
+    // The symbol string is UTF-8.
     requires text { IsUtf8 symbol.now }
     ensures { IfOk result (λ line. string_bytes line ≡ escaped symbol.now ++ codes "\n") }
 {
@@ -186,7 +203,7 @@ fn symbol_line(alloc: Global, symbol: &[u8]) -> Result<String, AllocError>
     Ok(line)
 }
 
-/// Writes the line of the symbol at a position, in bytes that encode an index.
+/// Writes the string of the symbol at a position as a line, in bytes that encode an index. Writes nothing if no symbol is there.
 fn write_symbol_at<S: Sink>(
     alloc: Global,
     bytes: &[u8],
@@ -194,8 +211,11 @@ fn write_symbol_at<S: Sink>(
     at: Position,
     sink: &mut S,
 ) -> Result<(), QueryFault>
+    // The bytes encode an index.
     requires means { (index : IndexModel) × Means bytes.now index }
+    // This is the run of `write_symbol` for bytes that are already checked.
     ensures run { (index : IndexModel) → Means bytes.now index → IsSymbolRun bytes.now path.now at (S.taken sink.old) (S.taken sink.new) result }
+    // The sink counts a failure if and only if the result is `Device`.
     ensures failures { S.failures sink.new ≡ failures_by is_device result (S.failures sink.old) }
 {
     let Some(symbol) = symbol_in_bytes(alloc, bytes, path, at)? else {
@@ -219,8 +239,8 @@ pub fn write_symbol<S: Sink>(
     at: Position,
     sink: &mut S,
 ) -> Result<(), QueryFault>
-    // With `Ok` the sink took exactly the line of this symbol, according to the index that the bytes encode. After `Device` or `Memory` it
-    // has at most a prefix of it, after another error none.
+    // With `Ok` the sink took exactly the line of the symbol at the position, or nothing if no symbol is there. After `Device` or `Memory`
+    // it has at most a prefix of the line, after another error nothing.
     // The other errors are the first fault of the bytes, and `NoDocument` if the bytes encode an index in which no document has the path.
     ensures run { IsSymbolRun index.now path.now at (S.taken sink.old) (S.taken sink.new) result }
     // The sink counts a failure if and only if the result is `Device`.
@@ -230,26 +250,28 @@ pub fn write_symbol<S: Sink>(
     write_symbol_at(alloc, index, path, at, sink)
 }
 
-/// The locations of the definitions or references of a symbol by its string: of a local symbol in the documents of the path, and without a
-/// path nowhere.
-fn named_locations<'a>(
+/// The locations of the definitions or references of the symbol with this string, in bytes that encode an index. A local symbol is looked
+/// up in the documents of the path alone; without a path it has no location.
+fn locations_by_symbol<'a>(
     alloc: Global,
     bytes: &'a [u8],
     path: Option<&str>,
     symbol: &str,
     which: Which,
 ) -> Result<Vec<Place<'a>>, AllocError>
+    // The bytes encode an index.
     requires means { (index : IndexModel) × Means bytes.now index }
-    ensures exact { (index : IndexModel) → Means bytes.now index → IfOk result (λ locations. map location_model locations.items ≡ named_locations which index (option_copied path.entry) symbol.now) }
+    // With `Ok` the locations are exactly those in the index that the bytes encode, in its order.
+    ensures exact { (index : IndexModel) → Means bytes.now index → IfOk result (λ locations. map location_model locations.items ≡ locations_by_symbol which index (option_copied path.entry) symbol.now) }
 {
     match path {
-        Some(path) => locations_of(alloc, bytes, path, symbol.as_bytes(), which),
+        Some(path) => locations_with_role(alloc, bytes, path, symbol.as_bytes(), which),
         None if is_local(symbol.as_bytes()) => Ok(Vec::new(alloc)),
-        None => locations_of(alloc, bytes, "", symbol.as_bytes(), which),
+        None => locations_with_role(alloc, bytes, "", symbol.as_bytes(), which),
     }
 }
 
-/// Writes the lines of the definitions or references of a symbol by its string, in bytes that encode an index.
+/// Writes a line for each definition or reference of the symbol with this string, in bytes that encode an index.
 fn write_symbol_locations<S: Sink>(
     alloc: Global,
     bytes: &[u8],
@@ -259,19 +281,22 @@ fn write_symbol_locations<S: Sink>(
     style: LocationStyle<'_>,
     sink: &mut S,
 ) -> Result<(), QueryFault>
+    // The bytes encode an index.
     requires means { (index : IndexModel) × Means bytes.now index }
+    // This is the run of `query_symbol` for bytes that are already checked.
     ensures run { (index : IndexModel) → Means bytes.now index → IsNamedRun (style_of style.entry) bytes.now (option_copied path.entry) symbol.now which (S.taken sink.old) (S.taken sink.new) result }
+    // The sink counts a failure if and only if the result is `Device`.
     ensures failures { S.failures sink.new ≡ failures_by is_device result (S.failures sink.old) }
 {
     check_path(bytes, path)?;
-    let locations = named_locations(alloc, bytes, path, symbol, which)?;
+    let locations = locations_by_symbol(alloc, bytes, path, symbol, which)?;
     write_lines(alloc, style, locations.as_slice(), sink)?;
     Ok(())
 }
 
 /// Checks the bytes of an index and writes a line `PATH:LINE:COL-LINE:COL` in this style for each definition, or for each reference, of the
 /// symbol with this string.
-/// The lines are in the index's order. So a symbol that was found in another index can be looked up.
+/// The lines are in the index's order. As the symbol is given by its string, it may come from another index.
 /// A symbol whose string begins with `local ` is looked up in the documents of the path alone, and without a path nowhere. For any other
 /// symbol all documents are searched, and a given path only has to be that of a document.
 /// Fails with the first fault of the bytes, then with `NoDocument` if no document has the path, with `Device` if the sink fails, and with
@@ -285,8 +310,8 @@ pub fn query_symbol<S: Sink>(
     style: LocationStyle<'_>,
     sink: &mut S,
 ) -> Result<(), QueryFault>
-    // With `Ok` the sink took exactly the lines of these locations, according to the index that the bytes encode. After `Device` or
-    // `Memory` it has at most a prefix of them, after another error none.
+    // With `Ok` the sink took exactly the lines of the definitions, or references, of the symbol with this string. After `Device` or
+    // `Memory` it has at most a prefix of the lines, after another error nothing.
     // The other errors are the first fault of the bytes, and `NoDocument` if the bytes encode an index in which no document has the given
     // path.
     ensures run { IsNamedRun (style_of style.entry) index.now (option_copied path.entry) symbol.now which (S.taken sink.old) (S.taken sink.new) result }

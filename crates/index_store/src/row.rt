@@ -2,14 +2,15 @@
 
 use crate::span::Span;
 
-/// An occurrence by its document's path: its span, and the index of its symbol string.
+/// An entry of a document's path, for one occurrence in the document: the occurrence's span, and the index of its symbol string.
 #[derive(Clone, Copy)]
 pub(crate) struct PathEntry {
     pub(crate) span: Span,
     pub(crate) symbol: usize,
 }
 
-/// An occurrence by its symbol string: the index of its document's path, its span, and whether it has the definition role.
+/// An entry of a symbol string, for one occurrence of it: the index of the document's path, the span, and whether the occurrence has the
+/// definition role.
 #[derive(Clone, Copy)]
 pub(crate) struct SymbolEntry {
     pub(crate) path: usize,

@@ -4,20 +4,21 @@ ghost use Rattle.index_store.specs.Spans.{is_in_span, is_before, is_nearer, natu
 
 use crate::Position;
 
-/// A half-open range of positions in a document.
+/// A half-open range of positions in a document: it contains `start`, but not `end`.
 #[derive(Clone, Copy)]
 pub(crate) struct Span {
     pub(crate) start: Position,
     pub(crate) end: Position,
 }
 
-/// The number, if it isn't negative.
+/// The number, or `None` if it is negative.
 fn natural(number: i32) -> Option<u32>
     ensures { result ≡ natural number }
 {
     u32::try_from(number).ok()
 }
 
+/// The span from line `line` and column `start` to line `last` and column `end`, or `None` if one of the numbers is missing.
 fn span_between(
     line: Option<u32>,
     start: Option<u32>,
@@ -59,12 +60,14 @@ pub(crate) fn span_of(range: &[i32]) -> Option<Span>
     }
 }
 
+/// Whether the position `a` is before the position `b` in a document.
 fn is_before(a: Position, b: Position) -> bool
     ensures { result ≡ is_before a b }
 {
     a.line < b.line || (a.line == b.line && a.column < b.column)
 }
 
+/// Whether the span contains the position: it starts at or before the position, and ends after it.
 pub(crate) fn is_in_span(at: Position, span: Span) -> bool
     ensures { result ≡ is_in_span at span }
 {

@@ -1,4 +1,4 @@
-//! Stores of indexes, for many queries on one index.
+//! The store of an index, for many queries: the index's occurrences by path and by symbol.
 ghost use Rattle.std.specs.Prelude.{◌≡◌, [], IfErr, IfOk, None, map, option_map};
 ghost use Rattle.std.specs.List.{flat_map};
 ghost use Rattle.proto_wire.specs.Faults.{UnlessMemory};
@@ -8,12 +8,12 @@ ghost use Rattle.scip_index.specs.Streaming.{given};
 ghost use Rattle.scip_index.specs.Plain.{document_model, index_model, IndexModel};
 ghost use Rattle.index_store.specs.declared.fault.StoreFault.TheVariants.{Memory};
 ghost use Rattle.index_store.specs.TableLookup.{requested_location, locations_by_role};
-ghost use Rattle.index_store.specs.Queries.{answered, definitions, occurrences_in, is_local, location_model, references, AreLocationsResult, IsSymbolResult};
+ghost use Rattle.index_store.specs.Queries.{map_ok, definitions, occurrences_in, is_local, location_model, references, AreLocationsResult, IsSymbolResult};
 ghost use Rattle.index_store.specs.Stores.{mentions_under, paths_of, mention_model, IsStoreOf, IsStoreOfBytes, Keeps};
 
 use crate::builder::StoreBuilder;
 use crate::locations::{TableLookup, is_local, requested_locations};
-use crate::nearest::nearest;
+use crate::nearest::nearest_entry;
 use crate::row::{PathEntry, SymbolEntry};
 use crate::table::StringTable;
 use crate::{Place, Position, StoreFault};
@@ -47,12 +47,14 @@ impl Store {
         // `Memory` is the only error.
         ensures memory { IfErr result (λ fault. fault ≡ Memory) }
     {
-        Store::of_documents(alloc, &index.documents)
+        Store::from_documents(alloc, &index.documents)
     }
 
-    /// Builds the store of documents.
-    fn of_documents(alloc: Global, documents: &[Document]) -> Result<Store, StoreFault>
+    /// Builds the store of an index with these documents. Fails with `Memory` if an allocation fails.
+    fn from_documents(alloc: Global, documents: &[Document]) -> Result<Store, StoreFault>
+        // With `Ok` the store has exactly the paths of the documents and the entries of their occurrences.
         ensures exact { IfOk result (Keeps (paths_of (map document_model documents.now)) (flat_map occurrences_in (map document_model documents.now))) }
+        // `Memory` is the only error.
         ensures memory { IfErr result (λ fault. fault ≡ Memory) }
     {
         let mut builder = StoreBuilder::new(alloc);
@@ -76,14 +78,18 @@ impl Store {
         // An error is the first fault of the bytes, or `Memory`.
         ensures fault { IfErr result (λ e. UnlessMemory e (IsFirstFault index_fault 0 reader.entry.bytes e)) }
     {
-        Store::of_reader(alloc, &mut reader)
+        Store::build_from_reader(alloc, &mut reader)
     }
 
-    /// Builds the store of the index that a reader reads.
-    fn of_reader(alloc: Global, reader: &mut IndexReader<'_>) -> Result<Store, WireFault>
+    /// Builds the store of the index that a reader reads, as `from_reader` does.
+    fn build_from_reader(alloc: Global, reader: &mut IndexReader<'_>) -> Result<Store, WireFault>
+        // The reader has returned no document.
         requires fresh { given reader.old ≡ [] }
+        // The reader hasn't failed.
         requires sound { reader.old.error ≡ None }
+        // With `Ok` the reader's bytes encode an index, and the result is the store of that index.
         ensures exact { IfOk result (IsStoreOfBytes reader.old.bytes) }
+        // An error is the first fault of the bytes, or `Memory`.
         ensures fault { IfErr result (λ e. UnlessMemory e (IsFirstFault index_fault 0 reader.old.bytes e)) }
     {
         let mut builder = StoreBuilder::new(alloc);
@@ -103,23 +109,26 @@ impl Store {
         // For each index whose store this is: With `Ok` a document has the path, and the result is the symbol of the nearest occurrence
         // that covers the position. The symbol is none if no occurrence covers it. Otherwise the error is `NoDocument`, and no document has
         // the path.
-        ensures exact { (index : IndexModel) → IsStoreOf index self.now → IsSymbolResult index path.now at (answered (option_map (λ symbol. symbol.now)) result) }
+        ensures exact { (index : IndexModel) → IsStoreOf index self.now → IsSymbolResult index path.now at (map_ok (option_map (λ symbol. symbol.now)) result) }
     {
         match self.by_path.text_index(path) {
             None => Err(StoreFault::NoDocument),
-            Some(number) => match nearest(self.by_path.rows(number), at) {
+            Some(number) => match nearest_entry(self.by_path.rows(number), at) {
                 None => Ok(None),
                 Some(covering) => Ok(Some(self.by_symbol.text(covering.symbol))),
             },
         }
     }
 
-    fn locations_of<'a>(
+    /// The locations of a symbol's definitions if `defines` is true, and of its references if not. Doesn't check that a document has the
+    /// path.
+    fn unchecked_locations<'a>(
         &'a self,
         path: &str,
         symbol: &str,
         defines: bool,
     ) -> Result<Vec<Place<'a>>, AllocError>
+        // With `Ok` the locations are those of the symbol's entries that match the role and, for a local symbol, the path.
         ensures { IfOk result (λ locations. map location_model locations.items ≡ flat_map (requested_location defines (is_local symbol.now) path.now) (map (mention_model self.now.paths) (mentions_under self.now symbol.now))) }
     {
         let requested = TableLookup {
@@ -136,17 +145,21 @@ impl Store {
         }
     }
 
+    /// The locations of a symbol's definitions if `defines` is true, and of its references if not. Fails with `NoDocument` if no document
+    /// has the path, or with `Memory`.
     fn locations<'a>(
         &'a self,
         path: &str,
         symbol: &str,
         defines: bool,
     ) -> Result<Vec<Place<'a>>, StoreFault>
-        ensures exact { (index : IndexModel) → IsStoreOf index self.now → AreLocationsResult index path.now (locations_by_role defines index path.now symbol.now) (answered (λ locations. map location_model locations.items) result) }
+        // For each index whose store this is: with `Ok` a document has the path, and the locations are exactly those in the index, in its
+        // order. With `NoDocument` no document has the path.
+        ensures exact { (index : IndexModel) → IsStoreOf index self.now → AreLocationsResult index path.now (locations_by_role defines index path.now symbol.now) (map_ok (λ locations. map location_model locations.items) result) }
     {
         match self.by_path.text_index(path) {
             None => Err(StoreFault::NoDocument),
-            Some(_) => Ok(self.locations_of(path, symbol, defines)?),
+            Some(_) => Ok(self.unchecked_locations(path, symbol, defines)?),
         }
     }
 
@@ -156,7 +169,7 @@ impl Store {
     pub fn definitions<'a>(&'a self, path: &str, symbol: &str) -> Result<Vec<Place<'a>>, StoreFault>
         // For each index whose store this is: With `Ok` a document has the path, and the locations are exactly those of the symbol's
         // definitions, in the index's order. With `NoDocument` no document has the path.
-        ensures exact { (index : IndexModel) → IsStoreOf index self.now → AreLocationsResult index path.now (definitions index path.now symbol.now) (answered (λ locations. map location_model locations.items) result) }
+        ensures exact { (index : IndexModel) → IsStoreOf index self.now → AreLocationsResult index path.now (definitions index path.now symbol.now) (map_ok (λ locations. map location_model locations.items) result) }
     {
         self.locations(path, symbol, true)
     }
@@ -167,7 +180,7 @@ impl Store {
     pub fn references<'a>(&'a self, path: &str, symbol: &str) -> Result<Vec<Place<'a>>, StoreFault>
         // For each index whose store this is: With `Ok` a document has the path, and the locations are exactly those of the symbol's
         // references, in the index's order. With `NoDocument` no document has the path.
-        ensures exact { (index : IndexModel) → IsStoreOf index self.now → AreLocationsResult index path.now (references index path.now symbol.now) (answered (λ locations. map location_model locations.items) result) }
+        ensures exact { (index : IndexModel) → IsStoreOf index self.now → AreLocationsResult index path.now (references index path.now symbol.now) (map_ok (λ locations. map location_model locations.items) result) }
     {
         self.locations(path, symbol, false)
     }

@@ -1,4 +1,5 @@
-//! The output of the definitions in the bytes of an index, a line for each.
+//! Writes the definitions in the bytes of an index, each as a line. Clause `here`: the offset in the index at which the message ends fits
+//! 64 bits. Clause `style`: the style of the locations is unchanged.
 ghost use Rattle.std.specs.Prelude.{◌≡◌, ◌<◌, ◌+◌, ◌^◌, ◌++◌, [], IfErr, IfOk, OnOk, length, option_copied, option_map};
 ghost use Rattle.std.specs.List.{flat_map};
 ghost use Rattle.std.specs.Option.{option_to_list};
@@ -14,15 +15,15 @@ ghost use Rattle.index_store.specs.Direct.{documents_of, symbol_span_model};
 ghost use Rattle.index_store.specs.Symbols.{definition_lines, definitions_listed, is_requested, line_at, lines_in, lines_of_document, lines_of_occurrence, spans_listed, AreTextDocuments, HaveTextSymbols, IsTextDocument};
 
 use crate::Place;
-use crate::direct::{SymbolSpan, is_local, symbol_span_in};
+use crate::byte_queries::{SymbolSpan, is_local, occurrence_symbol_span};
 use crate::lines::append_location;
 use byte_sink::{Sink, SinkFault, flush_if_full, write_fully};
 use proto_wire::{MessageBytes, last_bytes, last_bytes_and_number, next_message};
 use std::alloc::{AllocError, Global};
 use texts::{EscapingWriter, LocationStyle, LocationWriter};
 
-/// State of the output: the writers of locations and of symbol strings, scratch space for the numbers of a range, and lines that aren't
-/// written yet.
+/// State of the output: the writers of locations and of symbol strings, and scratch space for the numbers of a range. `text` has the lines
+/// that aren't written yet.
 #[derive(Drop)]
 struct Lines<'a> {
     locations: LocationWriter<'a>,
@@ -31,24 +32,25 @@ struct Lines<'a> {
     text: String,
 }
 
-/// The span and the symbol string of an occurrence that has both and the definition role. Local symbols are left out unless they are
-/// requested.
-fn definition_in<'a>(
+/// The span and the symbol string of an occurrence that has both and the definition role; otherwise `None`. A local symbol counts only if
+/// `with_local`.
+fn definition_span<'a>(
     occurrence: MessageBytes<'a>,
     with_local: bool,
     numbers: &mut Vec<i32>,
 ) -> Result<Option<SymbolSpan<'a>>, AllocError>
     requires here { occurrence.start + length occurrence.bytes.now < 2 ^ 64 }
+    // With `Ok` the result is the span with the symbol of the occurrence if it is a listed definition, otherwise `None`.
     ensures { IfOk result (λ n. option_to_list (option_map symbol_span_model n) ≡ spans_listed with_local (occurrence_of (records_of occurrence.entry))) }
 {
     let (symbol, roles) = last_bytes_and_number(2, 3, occurrence);
     if roles.cast_unsigned() % 2 == 1 && (with_local || !is_local(symbol)) {
-        return symbol_span_in(occurrence, numbers);
+        return occurrence_symbol_span(occurrence, numbers);
     }
     Ok(None)
 }
 
-/// Whether the documents of this path are requested: either all documents are, or those of one path.
+/// Whether definitions in a document with this path are requested. If `requested` is `None`, they are requested in every document.
 fn is_requested(requested: Option<&str>, path: &[u8]) -> bool
     ensures { result ≡ is_requested (option_copied requested.entry) path.now }
 {
@@ -59,6 +61,7 @@ fn is_requested(requested: Option<&str>, path: &[u8]) -> bool
 }
 
 impl<'a> Lines<'a> {
+    /// A state without lines, for locations in this style.
     fn new(alloc: Global, style: LocationStyle<'a>) -> Lines<'a>
         ensures text { string_bytes result.text ≡ [] }
         ensures style { writer_style result.locations ≡ style_of style.entry }
@@ -71,8 +74,9 @@ impl<'a> Lines<'a> {
         }
     }
 
-    /// Appends the line of a definition to `text`.
+    /// Appends the line of a definition to `text`: its location, its symbol string and an LF.
     fn push(&mut self, location: &Place<'a>, symbol: &'a str) -> Result<(), AllocError>
+        // With `Ok` `text` has grown by exactly this line.
         ensures appended { OnOk result (string_bytes self.new.text ≡ string_bytes self.old.text ++ line_at (writer_style self.old.locations) location.now.path.now (record { start = location.now.start; end = location.now.end }, symbol.now)) }
         ensures style { writer_style self.new.locations ≡ writer_style self.old.locations }
     {
@@ -88,7 +92,9 @@ impl<'a> Lines<'a> {
         path: &'a str,
         symbol_span: SymbolSpan<'a>,
     ) -> Result<(), AllocError>
+        // The symbol string is UTF-8.
         requires text { IsUtf8 symbol_span.symbol.now }
+        // With `Ok` `text` has grown by exactly this line.
         ensures appended { OnOk result (string_bytes self.new.text ≡ string_bytes self.old.text ++ line_at (writer_style self.old.locations) path.now (symbol_span_model symbol_span.entry)) }
         ensures style { writer_style self.new.locations ≡ writer_style self.old.locations }
     {
@@ -103,26 +109,30 @@ impl<'a> Lines<'a> {
         self.push(&location, symbol)
     }
 
-    /// Appends the line of an occurrence to `text`, if the occurrence is listed.
-    fn append_listed(
+    /// Appends the line of an occurrence to `text`, if the occurrence is a definition. A definition of a local symbol counts only if
+    /// `with_local`.
+    fn append_if_definition(
         &mut self,
         occurrence: MessageBytes<'a>,
         path: &'a str,
         with_local: bool,
     ) -> Result<(), AllocError>
         requires here { occurrence.start + length occurrence.bytes.now < 2 ^ 64 }
+        // The symbol string of the occurrence is UTF-8.
         requires text { IsUtf8 (occurrence_of (records_of occurrence)).symbol }
+        // With `Ok` `text` has grown by the line of the occurrence, or by nothing.
         ensures appended { OnOk result (string_bytes self.new.text ≡ string_bytes self.old.text ++ lines_of_occurrence (writer_style self.old.locations) with_local path.now (occurrence_of (records_of occurrence.entry))) }
         ensures style { writer_style self.new.locations ≡ writer_style self.old.locations }
     {
-        match definition_in(occurrence, with_local, &mut self.numbers)? {
+        match definition_span(occurrence, with_local, &mut self.numbers)? {
             None => Ok(()),
             Some(symbol_span) => self.append_symbol_span(path, symbol_span),
         }
     }
 
-    /// Appends the line of an occurrence to `text`, if the occurrence is listed. Writes `text` once it is long enough.
-    fn write_listed<S: Sink>(
+    /// Appends the line of an occurrence to `text`, if the occurrence is a definition. If `text` is then long, writes it to the sink and
+    /// empties it.
+    fn write_if_definition<S: Sink>(
         &mut self,
         occurrence: MessageBytes<'a>,
         path: &'a str,
@@ -130,18 +140,23 @@ impl<'a> Lines<'a> {
         sink: &mut S,
     ) -> Result<(), SinkFault>
         requires here { occurrence.start + length occurrence.bytes.now < 2 ^ 64 }
+        // The symbol string of the occurrence is UTF-8.
         requires text { IsUtf8 (occurrence_of (records_of occurrence)).symbol }
+        // With `Ok` the sink took the old `text` and the new lines, without what the new `text` still holds.
         ensures gathered { OnOk result (WritesAllBut (S.taken sink.old) (S.taken sink.new) (string_bytes self.old.text ++ lines_of_occurrence (writer_style self.old.locations) with_local path.now (occurrence_of (records_of occurrence.entry))) (string_bytes self.new.text)) }
+        // After an error the sink took a prefix of the old `text` and the new lines.
         ensures error_prefix { IfErr result (λ _. AppendsPrefix (S.taken sink.old) (S.taken sink.new) (string_bytes self.old.text ++ lines_of_occurrence (writer_style self.old.locations) with_local path.now (occurrence_of (records_of occurrence.entry)))) }
         ensures style { writer_style self.new.locations ≡ writer_style self.old.locations }
+        // The sink counts a failure if and only if the result is `Device`.
         ensures failures { S.failures sink.new ≡ failures_after result (S.failures sink.old) }
     {
-        self.append_listed(occurrence, path, with_local)
+        self.append_if_definition(occurrence, path, with_local)
             .map_err(|_| SinkFault::Memory)?;
         flush_if_full(&mut self.text, sink)
     }
 
-    /// Appends the lines of a document of this path to `text`, and writes `text` whenever it is long enough.
+    /// Appends the lines of the definitions in a document with this path to `text`. Whenever `text` is long, writes it to the sink and
+    /// empties it.
     fn write_document_lines<S: Sink>(
         &mut self,
         document: MessageBytes<'a>,
@@ -150,20 +165,25 @@ impl<'a> Lines<'a> {
         sink: &mut S,
     ) -> Result<(), SinkFault>
         requires here { document.start + length document.bytes.now < 2 ^ 64 }
+        // The symbol strings of the document's occurrences are UTF-8.
         requires text { HaveTextSymbols (document_of (records_of document)).occurrences }
+        // With `Ok` the sink took the old `text` and the new lines, without what the new `text` still holds.
         ensures gathered { OnOk result (WritesAllBut (S.taken sink.old) (S.taken sink.new) (string_bytes self.old.text ++ lines_in (writer_style self.old.locations) with_local path.now (document_of (records_of document.entry)).occurrences) (string_bytes self.new.text)) }
+        // After an error the sink took a prefix of the old `text` and the new lines.
         ensures error_prefix { IfErr result (λ _. AppendsPrefix (S.taken sink.old) (S.taken sink.new) (string_bytes self.old.text ++ lines_in (writer_style self.old.locations) with_local path.now (document_of (records_of document.entry)).occurrences)) }
         ensures style { writer_style self.new.locations ≡ writer_style self.old.locations }
+        // The sink counts a failure if and only if the result is `Device`.
         ensures failures { S.failures sink.new ≡ failures_after result (S.failures sink.old) }
     {
         let mut rest = document;
         while let Some(occurrence) = next_message(2, &mut rest) {
-            self.write_listed(occurrence, path, with_local, sink)?;
+            self.write_if_definition(occurrence, path, with_local, sink)?;
         }
         Ok(())
     }
 
-    /// Appends the lines of a document to `text`, if the document is requested, and writes `text` whenever it is long enough.
+    /// Appends the lines of the definitions in a document to `text`, if the document is requested. Whenever `text` is long, writes it to
+    /// the sink and empties it.
     fn write_document<S: Sink>(
         &mut self,
         document: MessageBytes<'a>,
@@ -171,10 +191,14 @@ impl<'a> Lines<'a> {
         sink: &mut S,
     ) -> Result<(), SinkFault>
         requires here { document.start + length document.bytes.now < 2 ^ 64 }
+        // The path of the document and its symbol strings are UTF-8.
         requires text { IsTextDocument (document_of (records_of document)) }
+        // With `Ok` the sink took the old `text` and the new lines, without what the new `text` still holds.
         ensures gathered { OnOk result (WritesAllBut (S.taken sink.old) (S.taken sink.new) (string_bytes self.old.text ++ lines_of_document (writer_style self.old.locations) (option_copied requested.entry) (document_of (records_of document.entry))) (string_bytes self.new.text)) }
+        // After an error the sink took a prefix of the old `text` and the new lines.
         ensures error_prefix { IfErr result (λ _. AppendsPrefix (S.taken sink.old) (S.taken sink.new) (string_bytes self.old.text ++ lines_of_document (writer_style self.old.locations) (option_copied requested.entry) (document_of (records_of document.entry)))) }
         ensures style { writer_style self.new.locations ≡ writer_style self.old.locations }
+        // The sink counts a failure if and only if the result is `Device`.
         ensures failures { S.failures sink.new ≡ failures_after result (S.failures sink.old) }
     {
         let path = last_bytes(1, document);
@@ -187,7 +211,8 @@ impl<'a> Lines<'a> {
         self.write_document_lines(document, path, requested.is_some(), sink)
     }
 
-    /// Appends the lines of the requested documents of an index to `text`, and writes `text` whenever it is long enough.
+    /// Appends the lines of the definitions in the requested documents of an index to `text`. Whenever `text` is long, writes it to the
+    /// sink and empties it.
     fn write_documents<S: Sink>(
         &mut self,
         index: MessageBytes<'a>,
@@ -195,10 +220,14 @@ impl<'a> Lines<'a> {
         sink: &mut S,
     ) -> Result<(), SinkFault>
         requires here { index.start + length index.bytes.now < 2 ^ 64 }
+        // The paths of the documents and their symbol strings are UTF-8.
         requires text { AreTextDocuments (documents_of index) }
+        // With `Ok` the sink took the old `text` and the new lines, without what the new `text` still holds.
         ensures gathered { OnOk result (WritesAllBut (S.taken sink.old) (S.taken sink.new) (string_bytes self.old.text ++ flat_map (lines_of_document (writer_style self.old.locations) (option_copied requested.entry)) (documents_of index.entry)) (string_bytes self.new.text)) }
+        // After an error the sink took a prefix of the old `text` and the new lines.
         ensures error_prefix { IfErr result (λ _. AppendsPrefix (S.taken sink.old) (S.taken sink.new) (string_bytes self.old.text ++ flat_map (lines_of_document (writer_style self.old.locations) (option_copied requested.entry)) (documents_of index.entry))) }
         ensures style { writer_style self.new.locations ≡ writer_style self.old.locations }
+        // The sink counts a failure if and only if the result is `Device`.
         ensures failures { S.failures sink.new ≡ failures_after result (S.failures sink.old) }
     {
         let mut rest = index;
@@ -209,8 +238,8 @@ impl<'a> Lines<'a> {
     }
 }
 
-/// Writes the lines of the definitions in bytes that encode an index: those of all documents, or those of one path. After an error the sink
-/// has taken a prefix of them.
+/// Writes a line for each definition in bytes that encode an index: in all documents if `requested` is `None`, otherwise in the documents
+/// with that path. After an error the sink took a prefix of the lines.
 pub(crate) fn write_definitions<S: Sink>(
     alloc: Global,
     bytes: &[u8],
@@ -218,8 +247,11 @@ pub(crate) fn write_definitions<S: Sink>(
     style: LocationStyle<'_>,
     sink: &mut S,
 ) -> Result<(), SinkFault>
+    // The bytes encode an index.
     requires means { (index : IndexModel) × Means bytes.now index }
+    // With `Ok` the sink took exactly the lines of the listed definitions, otherwise a prefix of them.
     ensures writes { (index : IndexModel) → Means bytes.now index → Writes (S.taken sink.old) (S.taken sink.new) result (definition_lines (style_of style.entry) (definitions_listed index (option_copied requested.entry))) }
+    // The sink counts a failure if and only if the result is `Device`.
     ensures failures { S.failures sink.new ≡ failures_after result (S.failures sink.old) }
 {
     let mut lines = Lines::new(alloc, style);

@@ -18,8 +18,8 @@ pub record IsHeuristic (nodes : ℕ) (excesses labels waiting : List ℕ) : Type
 abbrev pub label_at : List ℕ → ℕ → ℕ
 label_at labels n = slice_index_or labels n 0
 
--- the residual arc is admissible from this label: it has residual capacity, and its head has a label lower by one; no label is above 2 ^
--- 32 - 1
+-- the residual arc is admissible from a node with this label: it has residual capacity, and the label of its head, plus one but at most
+-- 2 ^ 32 - 1, is this label
 pub record IsAdmissible (labels : List ℕ) (label : ℕ) (a : OutArc) : Type 0 where
   pub left : 0 < a.residual
   pub below : min (label_at labels a.head + 1) (2 ^ 32 - 1) ≡ label

@@ -3,8 +3,8 @@ ghost use Rattle.std.specs.Prelude.{◌≡◌, ◌<◌, IfOk, IfSome, vec_len};
 
 use std::alloc::{AllocError, Global};
 
-/// Active nodes in one linked list for each label: the first node of each label, and for each node the next one. The number of nodes ends
-/// a list.
+/// Active nodes, in a linked list for each label: `firsts` has the first node of each label, `nexts` for each node the next one in its
+/// list. A link that is the number of nodes ends a list.
 #[derive(Drop)]
 pub(crate) struct LabelBuckets {
     firsts: Vec<u32>,
@@ -14,7 +14,7 @@ pub(crate) struct LabelBuckets {
 }
 
 impl LabelBuckets {
-    /// No active node. Fails if an allocation fails.
+    /// Empty buckets for this number of nodes and for labels below it. Fails if an allocation fails.
     pub(crate) fn new(alloc: Global, nodes: u32) -> Result<LabelBuckets, AllocError>
         ensures { IfOk result (λ b. vec_len b.nexts ≡ nodes) }
     {
@@ -25,7 +25,7 @@ impl LabelBuckets {
         })
     }
 
-    /// Adds a node with this label.
+    /// Adds a node to the list of its label, which must be below the number of nodes; otherwise nothing happens.
     pub(crate) fn add(&mut self, node: u32, label: u32)
         ensures { vec_len self.new.nexts ≡ vec_len self.old.nexts }
     {
@@ -38,8 +38,8 @@ impl LabelBuckets {
         }
     }
 
-    /// Removes a node of the highest label, if there is one.
-    pub(crate) fn take_highest(&mut self) -> Option<u32>
+    /// Removes and returns a node of the highest label; `None` if there is no node.
+    pub(crate) fn pop_highest(&mut self) -> Option<u32>
         ensures node { IfSome result (λ n. n < vec_len self.new.nexts) }
         ensures nodes { vec_len self.new.nexts ≡ vec_len self.old.nexts }
     {

@@ -1,13 +1,13 @@
-//! Distances to the sink in the residual graph, by breadth-first search. The distances aren't proved, only that the listed numbers are
-//! those of nodes.
+//! Distances to the sink in the residual graph, by breadth-first search. The contracts promise only that there is a label for each node
+//! and that the listed numbers are nodes, not the distances.
 ghost use Rattle.std.specs.Prelude.{◌≡◌, ◌<◌, All, IfOk, OnOk, not, vec_len};
 ghost use Rattle.residual_graph.specs.Graphs.{HasArc};
 
 use residual_graph::{ResidualArc, ResidualGraph};
 use std::alloc::{AllocError, Global};
 
-/// For each node its distance to the sink in residual arcs, the number of nodes if there is no path; and the nodes with a path, sorted by
-/// distance.
+/// `labels` has for each node its distance to the sink in residual arcs with capacity, the number of nodes if no path leads to the sink.
+/// `reached` has the nodes with a path, sorted by distance.
 #[derive(Drop)]
 pub(crate) struct Distances {
     pub(crate) labels: Vec<u32>,
@@ -24,7 +24,7 @@ pub(crate) fn opposite(step: ResidualArc) -> ResidualArc
     }
 }
 
-/// Labels the unlabelled nodes that have a residual arc to this node, and appends them to the reached ones.
+/// Labels each unlabelled node from which a residual arc with capacity leads to this node, and appends it to `reached`.
 fn label_predecessors(
     graph: &ResidualGraph,
     node: u32,
@@ -49,7 +49,7 @@ fn label_predecessors(
     Ok(())
 }
 
-/// The distances to the sink.
+/// The distances of all nodes to the sink `end`, by breadth-first search backwards. Fails if an allocation fails.
 pub(crate) fn sink_distances(
     alloc: Global,
     graph: &ResidualGraph,

@@ -1,8 +1,8 @@
 //! A heuristic for a maximum flow by push-relabel (Goldberg and Tarjan 1988). It runs while a node with excess has a label below the
 //! number of nodes; labels are lower bounds of distances to the sink. Then the remaining excess is returned to the source.
 //! Each round first recomputes all labels as distances (global relabelling), so nodes without a path to the sink are found at once.
-//! Active nodes are discharged in first-in first-out order; if a round doesn't end that way, as when units arrive one by one, then by
-//! highest label (Cheriyan and Maheshwari 1989).
+//! Active nodes are discharged in first-in first-out order. If that doesn't end a round within a limit, as when units arrive one by one,
+//! they are discharged by highest label (Cheriyan and Maheshwari 1989).
 ghost use Rattle.std.specs.Prelude.{◌≡◌, ◌<◌, ◌≤◌, ◌^◌, ℕ, All, IfOk, IfSome, OnOk, length, vec_len};
 ghost use Rattle.residual_graph.specs.OutArcs.{IsOutOf, out_at};
 ghost use Rattle.initial_flow.specs.Heuristics.{label_at, DiffersOnlyInFlow, IsAdmissible};
@@ -13,8 +13,7 @@ use residual_graph::{CurrentArcs, OutArc, ResidualGraph, topological_order};
 use std::alloc::{AllocError, Global};
 use std::marker::Model;
 
-/// The limit on discharges in first-in first-out order in a round, as a multiple of the number of nodes. Networks that aren't adversarial
-/// need at most seven.
+/// The limit on discharges in first-in first-out order in a round, as a multiple of the number of nodes.
 const FIFO_DISCHARGES_PER_NODE: usize = 16;
 
 /// A graph with its flow, and for each node its excess, its label and its current arc. `waiting` is the queue of active nodes; in
@@ -42,14 +41,13 @@ impl Model for MaxFlowHeuristic {
 /// The result of a scan for an admissible residual arc.
 #[derive(Clone, Copy)]
 struct ArcScan {
-    /// The index of the admissible arc; the number of residual arcs if none is admissible.
+    /// The index of the admissible residual arc; the number of the node's residual arcs if none is admissible.
     place: usize,
     /// The smallest label at the heads of the skipped arcs with residual capacity, 2^32 - 1 without one.
     passed: u32,
 }
 
-/// Finds the first admissible residual arc from this index on: it has residual capacity, and its head has a label one lower. The arcs are
-/// read by reference, without copies or repeated lookups.
+/// Finds the first admissible residual arc from index `start` on: it has residual capacity, and the label of its head is `label - 1`.
 fn first_admissible(outs: &[OutArc], labels: &[u32], label: u32, start: usize) -> ArcScan
     requires { All (λ a. a.head < length labels.now) outs.now }
     ensures found { result.place < length outs.now → IsAdmissible labels.now label (out_at outs.now result.place) }
@@ -88,7 +86,7 @@ fn least_label(outs: &[OutArc], labels: &[u32], count: usize) -> u32
     least
 }
 
-/// The nodes with excess, without the sink, in reverse order.
+/// Those of `nodes` that have excess, without the sink `end`, in reverse order.
 fn nodes_with_excess(
     alloc: Global,
     nodes: &[u32],
@@ -130,7 +128,8 @@ impl MaxFlowHeuristic {
         first_admissible(self.graph.residual_arcs(node), &self.labels, label, start)
     }
 
-    /// Sends the residual capacity, but at most `most`, over a residual arc of a node. A head without excess before becomes active.
+    /// Sends the residual capacity, but at most `most`, over a residual arc that leaves the node. The head joins the queue if it had no
+    /// excess before.
     fn send(&mut self, node: u32, out: OutArc, most: u64) -> Result<(), AllocError>
         requires node { node < self.old.nodes }
         requires out { IsOutOf self.old node out }
@@ -148,8 +147,8 @@ impl MaxFlowHeuristic {
         Ok(())
     }
 
-    /// Sends the excess of a node over a residual arc, if the arc is admissible. Returns the label of its head, 2^32 - 1 if the arc has
-    /// no residual capacity left.
+    /// Pushes excess of a node over a residual arc, as much as the arc admits, if the arc is admissible. Returns the label of the head, or
+    /// 2^32 - 1 if the arc then has no residual capacity.
     fn push(&mut self, node: u32, out: OutArc) -> Result<u32, AllocError>
         requires node { node < self.old.nodes }
         requires out { IsOutOf self.old node out }
@@ -169,12 +168,13 @@ impl MaxFlowHeuristic {
         Ok(label)
     }
 
-    /// The smallest label at the heads of the skipped residual arcs of a node. Then resets its current arc.
+    /// The smallest label at the heads of those residual arcs with capacity that precede the node's current arc, 2^32 - 1 without one.
+    /// Then makes the first residual arc the current one.
     fn least_skipped_label(&mut self, node: u32) -> u32
         requires { node < self.old.nodes }
         ensures { self.new ≡ self.old }
     {
-        let passed = self.current.passed(node);
+        let passed = self.current.current_index(node);
         if passed == 0 {
             return u32::MAX;
         }
@@ -182,14 +182,14 @@ impl MaxFlowHeuristic {
         least_label(self.graph.residual_arcs(node), &self.labels, passed)
     }
 
-    /// Sends the excess of a node over admissible arcs, from its current arc on; earlier arcs stay inadmissible until the node is
-    /// relabelled. If excess is left, returns the smallest label at the heads of the other arcs with residual capacity.
+    /// Pushes the excess of a node over admissible arcs, from its current arc on; earlier arcs stay inadmissible until the node is
+    /// relabelled. If excess is left, returns the smallest label at the heads of arcs with capacity from the old current arc on.
     fn push_all(&mut self, node: u32) -> Result<u32, AllocError>
         requires { node < self.old.nodes }
         ensures { OnOk result (DiffersOnlyInFlow self.old self.new) }
     {
         let mut least = u32::MAX;
-        let mut next = self.current.passed(node);
+        let mut next = self.current.current_index(node);
         for _ in 0..self.graph.residual_arcs(node).len() {
             if self.excesses[node as usize] == 0 {
                 self.current.set_current(node, next);
@@ -229,7 +229,7 @@ impl MaxFlowHeuristic {
         Ok(true)
     }
 
-    /// Discharges a node other than the sink, and counts a relabelling.
+    /// Discharges a node unless it is the sink `end`. Adds one to `raised` if the node was relabelled.
     fn discharge_unless_sink(
         &mut self,
         node: u32,
@@ -245,8 +245,8 @@ impl MaxFlowHeuristic {
         Ok(())
     }
 
-    /// Discharges active nodes in first-in first-out order, until there is none, as many were relabelled as there are nodes, or `most`
-    /// were discharged. Returns how many were.
+    /// Discharges active nodes in first-in first-out order. Stops if none is left, if `raised` reaches the number of nodes, or after `most`
+    /// nodes. Returns how many nodes of the queue were processed.
     fn discharge_fifo(
         &mut self,
         end: u32,
@@ -265,7 +265,7 @@ impl MaxFlowHeuristic {
         Ok(most)
     }
 
-    /// Moves the active nodes, from this index on, to the buckets by label.
+    /// Moves the nodes of the queue from index `start` on to the buckets, and empties the queue.
     fn fill_buckets(&mut self, buckets: &mut LabelBuckets, start: usize)
         ensures graph { self.new ≡ self.old }
         ensures nodes { vec_len buckets.new.nexts ≡ vec_len buckets.old.nexts }
@@ -277,7 +277,7 @@ impl MaxFlowHeuristic {
         self.waiting.clear();
     }
 
-    /// Discharges active nodes by highest label, until there is none or as many were relabelled as there are nodes.
+    /// Discharges active nodes by highest label, until none is left or `raised` reaches the number of nodes.
     fn discharge_highest(
         &mut self,
         end: u32,
@@ -291,7 +291,7 @@ impl MaxFlowHeuristic {
             if *raised >= self.graph.nodes() {
                 return Ok(());
             }
-            let Some(node) = buckets.take_highest() else {
+            let Some(node) = buckets.pop_highest() else {
                 return Ok(());
             };
             self.discharge_unless_sink(node, end, raised)?;
@@ -300,9 +300,9 @@ impl MaxFlowHeuristic {
         Ok(())
     }
 
-    /// Discharges active nodes until there is none or as many were relabelled as there are nodes: first in first-in first-out order, up
-    /// to a limit, then by highest label. The next round begins with first-in first-out order again, since highest-label order may find
-    /// dead ends one by one, each in a round of its own.
+    /// Runs one round: discharges active nodes until none is left or the number of relabels is that of nodes. Begins in first-in first-out
+    /// order, up to a limit, and goes on by highest label. Each round begins with first-in first-out order, since highest-label order may
+    /// find dead ends one by one, each in a round of its own.
     fn discharge_all(&mut self, alloc: Global, end: u32) -> Result<(), AllocError>
         ensures { OnOk result (DiffersOnlyInFlow self.old self.new) }
     {
@@ -318,8 +318,8 @@ impl MaxFlowHeuristic {
         self.discharge_highest(end, &mut buckets, &mut raised)
     }
 
-    /// Labels all nodes by their distances to the sink, activates those with excess and a path to the sink, and returns whether there is
-    /// one.
+    /// Labels all nodes by their distances to the sink, and activates the nodes with excess and a path to the sink. Returns false if there
+    /// is no node to activate.
     fn global_relabel(&mut self, alloc: Global, end: u32) -> Result<bool, AllocError>
         requires { end < self.old.nodes }
         ensures { OnOk result (self.new ≡ self.old) }
@@ -347,7 +347,7 @@ impl MaxFlowHeuristic {
         Ok(())
     }
 
-    /// Returns the excess of a node over the arcs that lead to it.
+    /// Sends the excess of a node back over arcs that lead to it, by reducing their flow.
     fn return_excess(&mut self, node: u32) -> Result<(), AllocError>
         requires { node < self.old.nodes }
         ensures { OnOk result (DiffersOnlyInFlow self.old self.new) }
@@ -367,7 +367,7 @@ impl MaxFlowHeuristic {
         Ok(())
     }
 
-    /// Returns all remaining excess, from the last node of the order to the first.
+    /// Sends all remaining excess but the sink's back towards the source, node by node from the last one of the order to the first.
     fn return_all_excess(&mut self, order: &[u32], end: u32) -> Result<(), AllocError>
         requires { All (λ n. n < self.old.nodes) order.now }
         ensures { OnOk result (DiffersOnlyInFlow self.old self.new) }
@@ -381,7 +381,7 @@ impl MaxFlowHeuristic {
         Ok(())
     }
 
-    /// Runs rounds until no excess can reach the sink.
+    /// Runs rounds of relabelling and discharging, until no node with excess has a path to the sink.
     fn run_rounds(&mut self, alloc: Global, end: u32) -> Result<(), AllocError>
         requires { end < self.old.nodes }
         ensures { OnOk result (DiffersOnlyInFlow self.old self.new) }
@@ -395,7 +395,7 @@ impl MaxFlowHeuristic {
         Ok(())
     }
 
-    /// Saturates the source, runs rounds, and returns the remaining excess.
+    /// Saturates the arcs out of the source, runs rounds, and sends the remaining excess back to the source.
     fn find_flow(
         &mut self,
         alloc: Global,
@@ -414,8 +414,8 @@ impl MaxFlowHeuristic {
     }
 }
 
-/// A flow from `start` to `end` in a graph without flow, as large as the heuristic finds it. It is a flow if the arcs are acyclic; in any
-/// case no flow exceeds its arc's capacity. Fails if an allocation fails.
+/// The graph with a flow from `start` to `end`, which the heuristic makes as large as it can. `graph` should have no flow and no cycle.
+/// Proved is only that no flow exceeds its arc's capacity; the caller verifies the rest. Fails if an allocation fails.
 pub fn find_initial_flow(
     alloc: Global,
     graph: ResidualGraph,

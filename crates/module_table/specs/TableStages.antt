@@ -51,7 +51,7 @@ advanced s = record { number = s.number + 1; rows = s.rows }
 unfoldable pub added : Rows → Stage → Stage
 added r s = record { number = s.number; rows = joined s.rows r }
 
--- the stage with the last token of the declaration group at this index set to the token before the next one
+-- the stage after the declaration group at this index got the entry `row`, with the token before the next one as its last token
 unfoldable pub closed : ℕ → DeclGroup → Stage → Stage
 closed at row s = record {
   number = s.number;

@@ -12,7 +12,7 @@ use crate::rows::{
 use crate::table::Table;
 use std::alloc::Global;
 
-/// The context of a fragment of a tree.
+/// What encloses a fragment of a module: its innermost block, declaration group and record.
 #[derive(Clone, Copy)]
 pub struct Context {
     /// The first token of the innermost block.
@@ -64,9 +64,9 @@ pub struct TableBuilder {
     pub ends: Vec<End>,
 }
 
-/// Appends an entry, or records that the allocation failed. Then the list, which is meaningless from then on, is cleared: later entries
-/// use its capacity and don't each try to allocate again.
-fn append_row<T: Drop>(rows: &mut Vec<T>, row: T, failed: &mut bool)
+/// Appends an entry. If the allocation fails, sets `failed` and clears the list, whose entries no longer matter: later entries use its
+/// capacity and don't each try to allocate.
+fn append_entry<T: Drop>(rows: &mut Vec<T>, row: T, failed: &mut bool)
     ensures { failed.new ≡ false → (failed.old ≡ false) × (rows.new.items ≡ rows.old.items ++ row ∷ []) }
 {
     if rows.push(row).is_err() {
@@ -85,7 +85,7 @@ impl TableBuilder {
         ensures stage { PerformsStep advanced self.old self.new }
         // The next token number grows by one.
         ensures number { self.new.number ≡ self.old.number + 1 }
-        // Nothing is allocated.
+        // The flag of a failed allocation is unchanged.
         ensures failed { self.new.failed ≡ self.old.failed }
     {
         self.number += 1;
@@ -99,7 +99,7 @@ impl TableBuilder {
         // No token is consumed.
         ensures number { self.new.number ≡ self.old.number }
     {
-        append_row(&mut self.declared, row, &mut self.failed);
+        append_entry(&mut self.declared, row, &mut self.failed);
     }
 
     /// Appends an identifier that the scope rule looks up.
@@ -110,10 +110,10 @@ impl TableBuilder {
         // No token is consumed.
         ensures number { self.new.number ≡ self.old.number }
     {
-        append_row(&mut self.uses, row, &mut self.failed);
+        append_entry(&mut self.uses, row, &mut self.failed);
     }
 
-    /// Appends a block that begins with the next token.
+    /// Appends a block.
     #[tactic(auto, using(crate::proofs::Steps::growing), unfolding(crate::specs::TableStages::stage_of, crate::specs::TableStages::advanced, crate::specs::TableStages::added, crate::specs::TableStages::closed, crate::specs::Parts::joined))]
     pub fn add_block(&mut self, row: Block)
         // The entry is appended, unless an allocation fails.
@@ -121,7 +121,7 @@ impl TableBuilder {
         // No token is consumed.
         ensures number { self.new.number ≡ self.old.number }
     {
-        append_row(&mut self.blocks, row, &mut self.failed);
+        append_entry(&mut self.blocks, row, &mut self.failed);
     }
 
     /// Appends an import item.
@@ -132,7 +132,7 @@ impl TableBuilder {
         // No token is consumed.
         ensures number { self.new.number ≡ self.old.number }
     {
-        append_row(&mut self.imports, row, &mut self.failed);
+        append_entry(&mut self.imports, row, &mut self.failed);
     }
 
     /// Appends a component of a type expression.
@@ -143,7 +143,7 @@ impl TableBuilder {
         // No token is consumed.
         ensures number { self.new.number ≡ self.old.number }
     {
-        append_row(&mut self.parts, row, &mut self.failed);
+        append_entry(&mut self.parts, row, &mut self.failed);
     }
 
     /// Appends a record.
@@ -154,7 +154,7 @@ impl TableBuilder {
         // No token is consumed.
         ensures number { self.new.number ≡ self.old.number }
     {
-        append_row(&mut self.records, row, &mut self.failed);
+        append_entry(&mut self.records, row, &mut self.failed);
     }
 
     /// Appends a designator.
@@ -165,7 +165,7 @@ impl TableBuilder {
         // No token is consumed.
         ensures number { self.new.number ≡ self.old.number }
     {
-        append_row(&mut self.designators, row, &mut self.failed);
+        append_entry(&mut self.designators, row, &mut self.failed);
     }
 
     /// Appends a selector.
@@ -176,7 +176,7 @@ impl TableBuilder {
         // No token is consumed.
         ensures number { self.new.number ≡ self.old.number }
     {
-        append_row(&mut self.selectors, row, &mut self.failed);
+        append_entry(&mut self.selectors, row, &mut self.failed);
     }
 
     /// Appends a name after END.
@@ -187,7 +187,7 @@ impl TableBuilder {
         // No token is consumed.
         ensures number { self.new.number ≡ self.old.number }
     {
-        append_row(&mut self.ends, row, &mut self.failed);
+        append_entry(&mut self.ends, row, &mut self.failed);
     }
 
     /// Replaces the selector at this index. An index out of bounds, which only a failed allocation can cause, is ignored.
@@ -197,7 +197,7 @@ impl TableBuilder {
         ensures stage { PerformsStep (with_selector at row) self.old self.new }
         // No token is consumed.
         ensures number { self.new.number ≡ self.old.number }
-        // Nothing is allocated.
+        // The flag of a failed allocation is unchanged.
         ensures failed { self.new.failed ≡ self.old.failed }
     {
         if at < self.selectors.len() {
@@ -216,18 +216,19 @@ impl TableBuilder {
         ensures slot { result ≡ length self.old.decl_groups.items }
     {
         let at = self.decl_groups.len();
-        append_row(&mut self.decl_groups, row, &mut self.failed);
+        append_entry(&mut self.decl_groups, row, &mut self.failed);
         at
     }
 
-    /// Ends the declaration group at this index: the token before the next one is its last.
+    /// Ends the declaration group at this index: replaces its entry by `row` with the token before the next one as last token. An index out
+    /// of bounds, which only a failed allocation can cause, is ignored.
     #[tactic(auto, using(crate::proofs::Steps::growing), unfolding(crate::specs::TableStages::stage_of, crate::specs::TableStages::advanced, crate::specs::TableStages::added, crate::specs::TableStages::closed, crate::specs::Parts::joined))]
     pub fn close_decl_group(&mut self, at: usize, row: DeclGroup)
         // The last token is set.
         ensures stage { PerformsStep (closed at row) self.old self.new }
         // No token is consumed.
         ensures number { self.new.number ≡ self.old.number }
-        // Nothing is allocated.
+        // The flag of a failed allocation is unchanged.
         ensures failed { self.new.failed ≡ self.old.failed }
     {
         if at < self.decl_groups.len() {
@@ -286,7 +287,7 @@ pub fn block_context(context: Context, first: u32) -> Context
 /// The largest number of tokens in a source file of at most 16 MiB.
 const MAX_TOKENS: usize = 16_777_216;
 
-/// A list with capacity for this number of entries. If the allocation fails the list has no capacity and grows entry by entry.
+/// An empty list with capacity for `rows` entries. If the allocation fails, the list has no capacity and grows later.
 fn list_with_capacity<T: Drop>(alloc: Global, rows: usize) -> Vec<T>
     ensures { result.items ≡ [] }
 {

@@ -15,7 +15,7 @@ pub trait Keyed {
         ensures { result ≡ number_in self.now };
 }
 
-/// An entry with the key that it shares with the entries of its group.
+/// An entry of a group. All entries of a group return the same key, a token number.
 pub(crate) trait Grouped {
     ghost group_in: { Self → ℕ };
 
@@ -93,7 +93,7 @@ pub fn index_of<T: Keyed>(rows: &[T], number: u32) -> Option<usize>
 }
 
 /// The entry with this key, by binary search; `None` if there is none.
-pub(crate) fn find_row<T: Keyed>(rows: &[T], number: u32) -> Option<&T>
+pub(crate) fn find_entry<T: Keyed>(rows: &[T], number: u32) -> Option<&T>
     requires { IsIncreasingBy T.number_in rows.now }
     ensures found { IfSome result (λ row. Contains rows.now row.now) }
     ensures number { IfSome result (λ row. T.number_in row.now ≡ number) }
@@ -103,18 +103,18 @@ pub(crate) fn find_row<T: Keyed>(rows: &[T], number: u32) -> Option<&T>
     Some(&rows[at])
 }
 
-/// States the bound on a `u32`.
-fn has_32_bits(number: u32)
+/// A `u32` is below 2^32. A call makes this fact known to the prover.
+fn u32_is_bounded(number: u32)
     ensures { number < 2 ^ 32 }
 {}
 
 /// A strictly increasing list of keys of 32 bits has at most 2^32 entries.
-pub(crate) fn has_bounded_rows<T: Keyed>(rows: &[T])
+pub(crate) fn rows_are_bounded<T: Keyed>(rows: &[T])
     requires { IsIncreasingBy T.number_in rows.now }
     ensures { length rows.now ≤ 2 ^ 32 }
 {
     match rows.last() {
-        Some(last) => has_32_bits(last.key()),
+        Some(last) => u32_is_bounded(last.key()),
         None => {}
     }
 }

@@ -9,7 +9,7 @@ ghost use Rattle.module_table.specs.declared.rows.TypePart.{TypePart};
 ghost use Rattle.module_table.specs.declared.rows.Record.{Record};
 ghost use Rattle.module_table.specs.declared.rows.Selector.{Selector};
 
-use crate::order::{find_row, group_of, has_bounded_rows};
+use crate::order::{find_entry, group_of, rows_are_bounded};
 use crate::rows::{
     Block, DeclGroup, Declared, Designator, End, Import, Record, Selector, TypePart, Used,
 };
@@ -43,13 +43,13 @@ impl Table {
     }
 
     /// States that the lists of declared identifiers, imports and records have at most 2^32 entries each.
-    pub fn has_bounded_rows(&self)
+    pub fn rows_are_bounded(&self)
         ensures { HasBoundedRows (rows_in self.now) }
     {
         self.invariants();
-        has_bounded_rows(self.declared.as_slice());
-        has_bounded_rows(self.imports.as_slice());
-        has_bounded_rows(self.records.as_slice());
+        rows_are_bounded(self.declared.as_slice());
+        rows_are_bounded(self.imports.as_slice());
+        rows_are_bounded(self.records.as_slice());
     }
 
     /// The declaration groups.
@@ -87,7 +87,7 @@ impl Table {
         self.imports.as_slice()
     }
 
-    /// The components of all type expressions; those of one declaration group are adjacent.
+    /// The components of all type expressions. The components of one declaration group are adjacent.
     pub fn parts(&self) -> &[TypePart]
         ensures { result.now ≡ self.now.parts.items }
     {
@@ -108,8 +108,8 @@ impl Table {
         self.designators.as_slice()
     }
 
-    /// The selectors of all designators: those of one designator in order, followed by those of the designators in its indexes and
-    /// arguments.
+    /// The selectors of all designators. The selectors of one designator are in order; the selectors of designators in its indexes and
+    /// arguments follow them.
     pub fn selectors(&self) -> &[Selector]
         ensures { result.now ≡ self.now.selectors.items }
     {
@@ -132,7 +132,7 @@ impl Table {
         // `None` is returned only if no entry has this token number.
         ensures none { IfNone result ((row : Declared) → Contains self.now.declared.items row → row.number ≡ token → ⊥) }
     {
-        find_row(self.declared.as_slice(), token)
+        find_entry(self.declared.as_slice(), token)
     }
 
     /// The declaration group that begins with this token, or `None`. Takes logarithmic time.
@@ -144,7 +144,7 @@ impl Table {
         // `None` is returned only if no entry begins with this token.
         ensures none { IfNone result ((row : DeclGroup) → Contains self.now.decl_groups.items row → row.first ≡ first → ⊥) }
     {
-        find_row(self.decl_groups.as_slice(), first)
+        find_entry(self.decl_groups.as_slice(), first)
     }
 
     /// The record with this RECORD keyword, or `None`. Takes logarithmic time.
@@ -156,7 +156,7 @@ impl Table {
         // `None` is returned only if no entry has this token number.
         ensures none { IfNone result ((row : Record) → Contains self.now.records.items row → row.number ≡ token → ⊥) }
     {
-        find_row(self.records.as_slice(), token)
+        find_entry(self.records.as_slice(), token)
     }
 
     /// The components of the type expression of the declaration group that begins with this token, from the outermost to the innermost.

@@ -1,6 +1,6 @@
 //! Tests of the tokens, tree, table and scopes of single modules, of what no command shows. The output of commands is in `rows/`.
-//! Depends on `ob_scan`, `ob_tree`, `ob_walk`, `module_table`, `ob_grammar`, `ob_parse`, `table_reader`, `ob_scope` and `ob_types`, which
-//! it tests.
+//! Depends on `ob_scan`, `ob_tree`, `ob_walk`, `module_table`, `ob_grammar`, `ob_parse`, `table_reader`, `ob_scope`, `ob_view` and
+//! `ob_types`, which it tests.
 //! It also depends on `source_tree`, `texts`, `ob_imports` and `cut_net` for scopes of syntax trees and networks of graphs. It has nothing
 //! but tests.
 #![tactic(auto)]

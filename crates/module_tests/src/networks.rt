@@ -35,7 +35,7 @@ fn scopes_of(alloc: Global, text: &[u8]) -> Result<Scopes, Fail> {
 }
 
 /// The data of a module for the graph of imports.
-fn parsed_by(alloc: Global, scopes: &Scopes) -> Result<Parsed, AllocError> {
+fn import_data_of(alloc: Global, scopes: &Scopes) -> Result<Parsed, AllocError> {
     let mut imports = Vec::new(alloc);
     for alias in scopes.aliases() {
         imports.push(String::from_str(alloc, alias.module.as_str())?)?;
@@ -48,7 +48,7 @@ fn parsed_by(alloc: Global, scopes: &Scopes) -> Result<Parsed, AllocError> {
 }
 
 /// Whether the names of all modules are identifiers.
-fn are_names(graph: &Graph) -> bool
+fn have_identifier_names(graph: &Graph) -> bool
     ensures { result ≡ true → All (λ n. is_name n ≡ true) graph.now.names }
 {
     for node in 0..graph.nodes() {
@@ -80,11 +80,11 @@ fn describe_pair(alloc: Global, texts: &[&[u8]]) -> Result<(String, String), Fai
     let mut parsed = Vec::new(alloc);
     for text in texts {
         let module = scopes_of(alloc, text)?;
-        parsed.push(parsed_by(alloc, &module)?)?;
+        parsed.push(import_data_of(alloc, &module)?)?;
         scopes.push(module)?;
     }
     let graph = graph(alloc, parsed.as_slice())?;
-    if scopes.len() != graph.modules() as usize || !are_names(&graph) {
+    if scopes.len() != graph.modules() as usize || !have_identifier_names(&graph) {
         return Err(Fail::new("the graph has other modules"));
     }
     let first = Net::from_graph(alloc, &graph, scopes.as_slice())?;

@@ -50,7 +50,12 @@ const WORDS: &[&[u8]] = &[
 ];
 
 /// The source with this word instead of a token.
-fn with_word(alloc: Global, text: &[u8], token: Token, word: &[u8]) -> Result<Vec<u8>, AllocError> {
+fn replace_token(
+    alloc: Global,
+    text: &[u8],
+    token: Token,
+    word: &[u8],
+) -> Result<Vec<u8>, AllocError> {
     let mut made = Vec::new(alloc);
     made.extend_from_slice(text.get(..token.start as usize).unwrap_or(&[]))?;
     made.extend_from_slice(word)?;
@@ -90,7 +95,7 @@ fn compare_all<R: Abort + AllocGlobal>(rt: &R, text: &[u8]) -> Result<(), Fail> 
     compare(rt, text)?;
     for token in tokens.as_slice() {
         for word in WORDS {
-            let made = with_word(rt.alloc(), text, *token, word)?;
+            let made = replace_token(rt.alloc(), text, *token, word)?;
             compare(rt, &made)?;
         }
     }
@@ -98,7 +103,7 @@ fn compare_all<R: Abort + AllocGlobal>(rt: &R, text: &[u8]) -> Result<(), Fail> 
 }
 
 #[test]
-fn one_pass_has_a_table_of_each_tree(rt: HostRuntime) -> Result<(), Fail> {
+fn one_pass_reads_the_table_of_each_tree(rt: HostRuntime) -> Result<(), Fail> {
     for text in TEXTS {
         compare_all(&rt, text)?;
     }

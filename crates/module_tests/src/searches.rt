@@ -8,6 +8,7 @@ use ob_scan::laws::tokens_in_text;
 use ob_scan::scan;
 use ob_scope::scopes_from;
 use ob_types::{Node, Types};
+use ob_view::View;
 use std::alloc::{AllocError, Global};
 use std::process::Abort;
 use std::test::Fail;
@@ -32,18 +33,18 @@ const TEXTS: &[&[u8]] = &[
 /// Compares the meanings of all tokens, looked up in ascending or descending order, beginning with this hint.
 fn compare_from_hint<R: Abort + AllocGlobal>(
     rt: &R,
-    types: &Types,
+    view: &View,
     tokens: u32,
     begin: usize,
     falls: bool,
 ) {
-    let (mut near, mut near_types) = (begin, begin);
+    let (mut near, mut near_view) = (begin, begin);
     for at in 0..tokens {
         let token = if falls { tokens - 1 - at } else { at };
-        let want = types.scopes().resolve(token);
-        assert_eq!(rt; types.scopes().resolve_by_hint(&mut near, token), want);
-        assert_eq!(rt; types.meaning(token), want);
-        assert_eq!(rt; types.meaning_by_hint(&mut near_types, token), want);
+        let want = view.scopes().resolve(token);
+        assert_eq!(rt; view.scopes().resolve_by_hint(&mut near, token), want);
+        assert_eq!(rt; view.meaning(token), want);
+        assert_eq!(rt; view.meaning_by_hint(&mut near_view, token), want);
     }
 }
 
@@ -54,17 +55,17 @@ fn compare_meanings<R: Abort + AllocGlobal>(rt: &R, text: &[u8]) -> Result<(), F
     let tokens = scan(alloc, text)?;
     let table = table_by_tokens(alloc, text, &tokens)?;
     let scopes = scopes_from(alloc, &table, tokens.as_slice(), text)?;
-    let types = Types::new(alloc, text, tokens.as_slice(), &table, &scopes, &[])?;
+    let view = View::new(alloc, text, tokens.as_slice(), &table, &scopes, &[])?;
     let count = tokens.len() as u32;
     for begin in 0..count {
-        compare_from_hint(rt, &types, count, begin as usize, false);
-        compare_from_hint(rt, &types, count, begin as usize, true);
+        compare_from_hint(rt, &view, count, begin as usize, false);
+        compare_from_hint(rt, &view, count, begin as usize, true);
     }
     Ok(())
 }
 
 #[test]
-fn a_use_resolves_alike_from_each_start(rt: HostRuntime) -> Result<(), Fail> {
+fn a_use_resolves_equally_with_each_hint(rt: HostRuntime) -> Result<(), Fail> {
     for text in TEXTS {
         compare_meanings(&rt, text)?;
     }
@@ -92,10 +93,11 @@ fn append_node(description: &mut String, node: Option<Node>) -> Result<(), Alloc
 
 /// The lookups of each of the first tokens: what it declares and means, and the locations of its type and of its owner.
 fn describe_types(alloc: Global, types: &Types, tokens: u32) -> Result<String, AllocError> {
+    let view = types.view();
     let mut description = String::new(alloc);
     for token in 0..tokens {
-        let (decl_kind, item) = (types.decl_kind(token), types.item(token));
-        let (owner, meaning) = (types.owner(token), types.meaning(token));
+        let (decl_kind, item) = (view.decl_kind(token), view.item(token));
+        let (owner, meaning) = (view.owner(token), view.meaning(token));
         write!(
             &mut description,
             "{decl_kind:?} {item:?} {owner:?} {meaning:?}"
@@ -117,7 +119,7 @@ fn describe_source_types(alloc: Global, text: &[u8], first: u32) -> Result<Strin
 }
 
 /// A module with these declarations and this many semicolons.
-fn with_semicolons(
+fn module_with_semicolons(
     alloc: Global,
     declarations: &[u8],
     count: usize,
@@ -149,10 +151,10 @@ const SEMICOLONS: [usize; 10] = [0, 200, 220, 240, 260, 900, 980, 1000, 1100, 30
 #[test]
 fn types_of_few_declared_names(rt: HostRuntime) -> Result<(), Fail> {
     for (declarations, first) in FEW {
-        let text = with_semicolons(rt.alloc(), declarations, 0)?;
+        let text = module_with_semicolons(rt.alloc(), declarations, 0)?;
         let want = describe_source_types(rt.alloc(), text.as_slice(), *first)?;
         for count in SEMICOLONS {
-            let text = with_semicolons(rt.alloc(), declarations, count)?;
+            let text = module_with_semicolons(rt.alloc(), declarations, count)?;
             let description = describe_source_types(rt.alloc(), text.as_slice(), *first)?;
             assert_eq!(rt; description.as_str(), want.as_str());
         }

@@ -7,7 +7,7 @@ use crate::asked::{Row, check_rows};
 use crate::readings::parsed;
 use ob_scan::scan;
 use ob_tree::declaration::Module;
-use ob_tree::walkers::endings;
+use ob_tree::walkers::collect_end_names;
 use ob_walk::{declarations, uses, yield_of};
 use std::alloc::{AllocError, Global};
 use std::test::Fail;
@@ -71,7 +71,7 @@ fn describe_syntax(alloc: Global, tree: &Module) -> Result<String, AllocError>
     requires { length (spelling tree.now) < 2 ^ 32 }
 {
     let (numbers, declared) = (yield_of(alloc, tree)?, declarations(alloc, tree)?);
-    let (used, pairs) = (uses(alloc, tree)?, endings(alloc, tree)?);
+    let (used, pairs) = (uses(alloc, tree)?, collect_end_names(alloc, tree)?);
     format!(in alloc; "{numbers:?} {declared:?} {used:?} {pairs:?}")
 }
 

@@ -11,7 +11,7 @@ use Rattle.digraph.specs.declared.edge.Edge.{Edge}
 use Rattle.digraph.specs.Edges.{Leads}
 use Rattle.digraph.proofs.Members.{from_map, in_filter, in_map, no_member, of_filter}
 use Rattle.ob_imports.specs.Graphs.{imported, ImportGraph, IsGraph as IsImportGraph}
-use Rattle.work_board.specs.Graphs.{list_at, IsGraph, RowLeads}
+use Rattle.work_board.specs.Graphs.{list_at, IsGraph, ImportsModule}
 use Rattle.ob_board.specs.BoardGraphs.{modules_of, rows_below, tree_imports}
 
 row_leads : (ps : List Edge) (v w : ℕ) → Contains (imported ps v) w → Leads ps v w
@@ -35,7 +35,7 @@ module _ (g : ImportGraph) where
   row_past v le = let l = length-map-range_with_len (tree_imports g) 0 g.modules in get_or_past (rows_below g g.modules) v [] (omega arith)
 
   -- an import in such a list leads from a module of the tree to one
-  pub leads_on : (v w : ℕ) → RowLeads (rows_below g g.modules) v w → (v < g.modules) × (w < g.modules) × Leads g.pairs v w
+  pub leads_on : (v w : ℕ) → ImportsModule (rows_below g g.modules) v w → (v < g.modules) × (w < g.modules) × Leads g.pairs v w
   leads_on v w h =
       elim (cases_lt v g.modules) [
         | inl lt ↦
@@ -45,7 +45,7 @@ module _ (g : ImportGraph) where
         | inr le ↦ no_member w (subst (λ (row : List ℕ). Contains row w) (row_past v le) h)
       ]
 
-  pub leads_in : (v w : ℕ) → v < g.modules → w < g.modules → Leads g.pairs v w → RowLeads (rows_below g g.modules) v w
+  pub leads_in : (v w : ℕ) → v < g.modules → w < g.modules → Leads g.pairs v w → ImportsModule (rows_below g g.modules) v w
   leads_in v w lt below leads =
       subst (λ (row : List ℕ). Contains row w) (sym (row_is v lt))
       (in_filter (λ (x : ℕ). nat_lt x g.modules) (imported g.pairs v) w (lt-ltb w g.modules below) (leads_row g.pairs v w leads))
@@ -75,7 +75,7 @@ board_is_graph g is =
         | inr le ↦ let e = ap length (row_past g v le) in omega arith
       ];
       within = λ v k d lt.
-          let leads : RowLeads (rows_below g g.modules) v _ = Contains-get_or (list_at (rows_below g g.modules) v) k d lt in
+          let leads : ImportsModule (rows_below g g.modules) v _ = Contains-get_or (list_at (rows_below g g.modules) v) k d lt in
           let below = (leads_on g v _ leads).1 in
           omega arith;
     }

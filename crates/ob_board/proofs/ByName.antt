@@ -14,8 +14,8 @@ use Rattle.std.proofs.lemmas.Map.Keys.{apart_from_distinct}
 use Rattle.digraph.proofs.Ascending.{same_members}
 use Rattle.digraph.proofs.Names.{below, same_is}
 use Rattle.ob_interface.specs.Interfaces.{ModuleInterface}
-use Rattle.ob_types.specs.ModuleNumbers.{AreByName}
-use Rattle.ob_types.proofs.Ascending.{less}
+use Rattle.ob_view.specs.ModuleNumbers.{AreByName}
+use Rattle.ob_view.proofs.Ascending.{less}
 
 -- sorting by distinct names gives strictly increasing names
 pub apart_pairs : {X : Type 0} (name : X → List ℕ) (xs : List X) → IsSortedBy (λ a b. is_lt (slice_cmp nat_cmp (name a) (name b))) xs → IsDistinct bytes_eq (map name xs)

@@ -11,13 +11,13 @@ use Rattle.ob_imports.specs.Graphs.{ImportGraph, IsGraphOf}
 use Rattle.ob_imports.specs.Numbering.{index_or_len}
 use Rattle.ob_imports.specs.Outcomes.{AreFilesOfGraph}
 use Rattle.ob_imports.proofs.Places.{name_at, place_within}
-use Rattle.work_board.specs.Graphs.{IsAcyclic, IsChain, RowLeads, Reaches}
+use Rattle.work_board.specs.Graphs.{IsAcyclic, IsChain, ImportsModule, Reaches}
 use Rattle.ob_board.specs.BoardGraphs.{rows_below}
 use Rattle.ob_board.specs.Reached.{file_of, files_of, names, HasSameReach, ReachesName, FileModel}
 use Rattle.ob_board.proofs.BoardRows.{leads_in, leads_on}
 
 -- a path in the scheduler's graph is a path of imports
-module _ {N : Type 0} (rows : List (List ℕ)) (H : N → N → Type 0) (to : ℕ → N) (invariants : (v w : ℕ) → RowLeads rows v w → H (to v) (to w)) where
+module _ {N : Type 0} (rows : List (List ℕ)) (H : N → N → Type 0) (to : ℕ → N) (invariants : (v w : ℕ) → ImportsModule rows v w → H (to v) (to w)) where
   chain_to : (v : ℕ) (more : List ℕ) (b : ℕ) → IsChain rows v more b → (list : List N) × IsChainBy H (to v) list (to b)
   chain_to v [] b leads = (to b ∷ [], (invariants v b leads, refl))
   chain_to v (w ∷ more) b chain = let rest = chain_to w more b chain.1 in (to w ∷ rest.0, (invariants v w chain.0, rest.1))
@@ -39,26 +39,26 @@ module _ (files : List FileModel) (g : ImportGraph) (kept : AreFilesOfGraph (fil
   pub as_many : g.modules ≡ length files
   as_many = is_graph.modules ∙ length-map files file_of
 
-  abbrev of_files : List (List ℕ)
-  of_files = names_of (files_of files)
+  abbrev from_files : List (List ℕ)
+  from_files = names_of (files_of files)
 
-  count : length of_files ≡ length files
+  count : length from_files ≡ length files
   count = length-map (files_of files) (λ (f : File). f.name) ∙ length-map files file_of
 
   -- the names of the files are those of the first modules
-  at_front : (v : ℕ) (n : List ℕ) → slice_get of_files v ≡ Some n → slice_get g.names v ≡ Some n
+  at_front : (v : ℕ) (n : List ℕ) → slice_get from_files v ≡ Some n → slice_get g.names v ≡ Some n
   at_front v n at =
-      let lt = slice_get_within of_files v n at in
+      let lt = slice_get_within from_files v n at in
       let whole = is_graph.nodes.whole in
-      let is : get_or g.names v n ≡ n = ap (λ (ns : List (List ℕ)). get_or ns v n) whole ∙ get_or_append_left of_files is_graph.nodes.others n v lt ∙ get_or_from_slice_get of_files v n n at in
-      let long : length g.names ≡ length of_files + length is_graph.nodes.others = ap length whole ∙ length-append of_files is_graph.nodes.others in
+      let is : get_or g.names v n ≡ n = ap (λ (ns : List (List ℕ)). get_or ns v n) whole ∙ get_or_append_left from_files is_graph.nodes.others n v lt ∙ get_or_from_slice_get from_files v n n at in
+      let long : length g.names ≡ length from_files + length is_graph.nodes.others = ap length whole ∙ length-append from_files is_graph.nodes.others in
       slice_get-get_or g.names v n (omega arith) ∙ ap (λ (x : List ℕ). Some x) is
 
   pub modules_within : g.modules ≤ length g.names
   modules_within =
       let many = as_many in
       let l = count in
-      let long : length g.names ≡ length of_files + length is_graph.nodes.others = ap length is_graph.nodes.whole ∙ length-append of_files is_graph.nodes.others in
+      let long : length g.names ≡ length from_files + length is_graph.nodes.others = ap length is_graph.nodes.whole ∙ length-append from_files is_graph.nodes.others in
       omega arith
 
   pub name_of_file : (v : ℕ) (file : FileModel) → slice_get files v ≡ Some file → slice_get g.names v ≡ Some (names file 1)
@@ -82,11 +82,11 @@ module _ (files : List FileModel) (g : ImportGraph) (kept : AreFilesOfGraph (fil
   -- a module that imports another is a module of the tree
   number : (m n : List ℕ) → Imports (files_of files) m n → (v : ℕ) × (v < g.modules) × (slice_get g.names v ≡ Some m)
   number m n (f, has, is, imports) =
-      let there : Contains of_files m = subst (Contains of_files) is (in_map (λ (x : File). x.name) (files_of files) f has) in
-      let lt : index_or_len of_files m < length of_files = place_within of_files m there in
+      let there : Contains from_files m = subst (Contains from_files) is (in_map (λ (x : File). x.name) (files_of files) f has) in
+      let lt : index_or_len from_files m < length from_files = place_within from_files m there in
       let many = as_many in
       let l = count in
-      (index_or_len of_files m, omega arith, at_front (index_or_len of_files m) m (name_at of_files m there))
+      (index_or_len from_files m, omega arith, at_front (index_or_len from_files m) m (name_at from_files m there))
 
   -- a path by names between modules of the tree is a path by numbers
   reaches_back : (end : ℕ) (last : List ℕ) → end < g.modules → slice_get g.names end ≡ Some last → (more : List (List ℕ)) (v : ℕ) (m w : List ℕ) → v < g.modules → slice_get g.names v ≡ Some m

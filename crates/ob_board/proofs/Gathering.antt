@@ -11,7 +11,7 @@ use Rattle.source_tree.specs.declared.parts.ModuleParts.{ModuleParts}
 use Rattle.source_tree.specs.declared.parts.TreeParts.{TreeParts}
 use Rattle.source_tree.specs.declared.source.Source.{Source}
 use Rattle.scip_index.specs.Plain.{IndexModel}
-use Rattle.work_board.specs.Cores.{AreOf}
+use Rattle.work_board.specs.Cores.{AreModuleEntries}
 use Rattle.board_workers.proofs.Wholes.{entries_from}
 use Rattle.ob_board.specs.declared.entry.Entry.{Entry}
 use Rattle.ob_board.specs.BoardGraphs.{modules_of}
@@ -35,7 +35,7 @@ some_mapped (e ∷ entries) = ap (λ (es : List (Option EntryModel)). Some (entr
 -- the entries of a board of this tree are those of its files
 pub gathered_entries : (files : List FileModel) (package_name : List ℕ) (sources : List Source) (modules : List (Box ModuleParts Global)) (named own : ImportGraph) → files ≡ file_models sources modules →
     AreSourcesRead sources modules own → named ≡ own → (entries : List Entry) (gathered : List (Option EntryModel)) → map (λ (e : Entry). Some (entry_model e)) entries ≡ gathered →
-    length gathered ≡ length (modules_of named).names → AreOf (λ (x : List ℕ) (e : EntryModel). IsEntryOf files package_name x e) (modules_of named).names gathered →
+    length gathered ≡ length (modules_of named).names → AreModuleEntries (λ (x : List ℕ) (e : EntryModel). IsEntryOf files package_name x e) (modules_of named).names gathered →
     AreEntriesOf files package_name (map entry_model entries)
 gathered_entries files package_name sources modules named own output_is seen same entries gathered all size of =
     let into_entries = map entry_model entries in
@@ -48,9 +48,9 @@ pub gathered_externals : (files : List FileModel) (package_name : List ℕ) (ent
 gathered_externals files package_name entries output_is = subst AreExternalRows (sym (same_externals entries)) (externals_of_files files package_name (map entry_model entries) output_is)
 
 -- an index of the files of a tree is that of the tree
-pub index_of_parts : (sources : List Source) (files : List ModuleFile) (tree : TreeParts) (package_name root : List ℕ) (index : IndexModel) →
+pub index_of_parts_is_tree_index : (sources : List Source) (files : List ModuleFile) (tree : TreeParts) (package_name root : List ℕ) (index : IndexModel) →
     ArePartsOfTree sources files tree → IsIndexOf (file_models sources tree.modules.items) package_name root index → IsIndex sources package_name root index
-index_of_parts sources files tree package_name root index output_is of = record {
+index_of_parts_is_tree_index sources files tree package_name root index output_is of = record {
   files = files;
   is_tree = record { accepted = output_is.all.accepted; graph = tree.graph; kept = output_is.kept; acyclic = output_is.acyclic };
   is_index = subst (λ (fs : List FileModel). IsIndexOf fs package_name root index) (seen_are sources files tree.modules.items output_is.all) of;

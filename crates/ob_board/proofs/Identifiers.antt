@@ -14,8 +14,9 @@ use Rattle.ob_scan.specs.Tokens.{is_name}
 use Rattle.ob_scan.proofs.NameTokens.{IsNamed, spelled_names}
 use Rattle.ob_scan.specs.Texts.{no_token, text_at, token_at}
 use Rattle.ob_scope.proofs.Names.{same_test}
-use Rattle.ob_targets.specs.declared.target.Reference.{Reference}
-use Rattle.ob_targets.specs.Refers.{identifiers, is_identifier, is_unresolved, identifier_number, unresolved}
+use Rattle.ob_view.specs.declared.target.Reference.{Reference}
+use Rattle.ob_targets.specs.Refers.{identifiers, is_identifier, identifier_number, unresolved}
+use Rattle.ob_view.specs.TargetKinds.{is_unresolved}
 use Rattle.digraph.proofs.Members.{first_or_later, from_filter, from_map, in_map, no_member}
 
 -- an identifier by its kind

@@ -14,3 +14,7 @@ pub mod OneIndex
 pub mod ByName
 pub mod Within
 pub mod Gathering
+pub mod ReferenceNames
+pub mod DefinedRanges
+pub mod SomeSymbol
+pub mod SomeTargets

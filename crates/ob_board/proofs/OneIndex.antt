@@ -7,11 +7,11 @@ use Rattle.ob_emit.specs.Documents.{document_of}
 use Rattle.ob_emit.specs.Externals.{externals_in, AreExternals}
 use Rattle.ob_scan.specs.declared.token.Token.{Token}
 use Rattle.ob_scan.specs.Texts.{token_at}
-use Rattle.ob_scope.proofs.OneScopes.{each_same, one_scopes}
-use Rattle.ob_targets.proofs.OneReferences.{one_references}
-use Rattle.ob_targets.specs.declared.target.Reference.{Reference}
+use Rattle.ob_scope.proofs.OneScopes.{each_same, scopes_are_unique}
+use Rattle.ob_targets.proofs.OneReferences.{references_are_unique}
+use Rattle.ob_view.specs.declared.target.Reference.{Reference}
 use Rattle.ob_targets.specs.Refers.{unresolved, AreReferences}
-use Rattle.ob_types.specs.World.{world, World}
+use Rattle.ob_view.specs.World.{world, World}
 use Rattle.source_tree.proofs.TreeFiles.{there}
 use Rattle.source_tree.specs.declared.source.Source.{Source}
 use Rattle.scip_index.specs.Plain.{IndexModel, SymbolModel}
@@ -21,7 +21,7 @@ use Rattle.ob_board.specs.Indexes.{AreTreeEntries, IsIndex, IsIndexOf, IsBuiltFr
 use Rattle.ob_board.specs.Resolved.{AreResolved}
 use Rattle.ob_board.specs.Unresolved.{AreUnresolvedRows, AreUnresolved, IsUnresolvedAt, IsUnresolvedIn, IsUnresolvedOf, UnresolvedModel}
 use Rattle.ob_board.proofs.OneExternals.{one_externals}
-use Rattle.ob_board.proofs.OneTree.{one_reached, one_tree}
+use Rattle.ob_board.proofs.OneTree.{one_reached, tree_is_unique}
 
 -- ---- of one file of the tree
 
@@ -32,13 +32,13 @@ module _ (files : List FileModel) (file : FileModel) where
   same_world : (refs others : List Reference) (a : AreResolved files file refs) (b : AreResolved files file others) → world_of refs a ≡ world_of others b
   same_world refs others a b =
       ap₂ (world file.bytes file.tokens file.rows)
-      (one_scopes file.bytes file.tokens file.rows a.scopes b.scopes a.are_scopes b.are_scopes)
+      (scopes_are_unique file.bytes file.tokens file.rows a.scopes b.scopes a.are_scopes b.are_scopes)
       (one_reached files (names file 1) a.reached b.reached a.are_reached b.are_reached)
 
   same_references : (refs others : List Reference) → AreResolved files file refs → AreResolved files file others → refs ≡ others
   same_references refs others a b =
       let here : AreReferences (world_of refs a) others = subst (λ (w : World). AreReferences w others) (sym (same_world refs others a b)) b.are_references in
-      one_references (world_of refs a) refs others a.are_references here
+      references_are_unique (world_of refs a) refs others a.are_references here
 
   one_entry : (package_name : List ℕ) (e f : EntryModel) → IsEntry files package_name file e → IsEntry files package_name file f → e ≡ f
   one_entry package_name e f a b =
@@ -70,14 +70,14 @@ one_index_of files package_name root index other a b =
     λ i. record { metadata = (a.built.metadata ∙ sym built.metadata) i; documents = (a.built.documents ∙ sym built.documents) i; external_symbols = externals i }
 
 module _ (sources : List Source) where
-  pub one_entries : (package_name : List ℕ) (entries others : List EntryModel) → AreTreeEntries sources package_name entries → AreTreeEntries sources package_name others → entries ≡ others
-  one_entries package_name entries others a b =
-      let files = one_tree sources a.files b.files a.is_tree.accepted b.is_tree.accepted in
+  pub entries_are_unique : (package_name : List ℕ) (entries others : List EntryModel) → AreTreeEntries sources package_name entries → AreTreeEntries sources package_name others → entries ≡ others
+  entries_are_unique package_name entries others a b =
+      let files = tree_is_unique sources a.files b.files a.is_tree.accepted b.is_tree.accepted in
       one_entries_of (map file_model a.files) package_name entries others a.are_entries (subst (λ (fs : List FileModel). AreEntriesOf fs package_name others) (sym files) b.are_entries)
 
-  pub one_index : (package_name root : List ℕ) (index other : IndexModel) → IsIndex sources package_name root index → IsIndex sources package_name root other → index ≡ other
-  one_index package_name root index other a b =
-      let files = one_tree sources a.files b.files a.is_tree.accepted b.is_tree.accepted in
+  pub index_is_unique : (package_name root : List ℕ) (index other : IndexModel) → IsIndex sources package_name root index → IsIndex sources package_name root other → index ≡ other
+  index_is_unique package_name root index other a b =
+      let files = tree_is_unique sources a.files b.files a.is_tree.accepted b.is_tree.accepted in
       one_index_of (map file_model a.files) package_name root index other a.is_index (subst (λ (fs : List FileModel). IsIndexOf fs package_name root other) (sym files) b.is_index)
 
 ---- unresolved identifiers
@@ -114,7 +114,7 @@ one_unresolved_of files rows others a b =
     one_part files file part other (a.each k file part at at_part) (b.each k file other at at_other)) in
     a.whole ∙ ap (flat_map (λ (part : List UnresolvedModel). part)) parts ∙ sym b.whole
 
-pub one_unresolved : (sources : List Source) (rows others : List UnresolvedModel) → AreUnresolved sources rows → AreUnresolved sources others → rows ≡ others
-one_unresolved sources rows others a b =
-    let files = one_tree sources a.files b.files a.is_tree.accepted b.is_tree.accepted in
+pub unresolved_list_is_unique : (sources : List Source) (rows others : List UnresolvedModel) → AreUnresolved sources rows → AreUnresolved sources others → rows ≡ others
+unresolved_list_is_unique sources rows others a b =
+    let files = tree_is_unique sources a.files b.files a.is_tree.accepted b.is_tree.accepted in
     one_unresolved_of (map file_model a.files) rows others a.are_rows (subst (λ (fs : List FileModel). IsUnresolvedOf fs others) (sym files) b.are_rows)

@@ -19,8 +19,8 @@ same_seen s a b h k =
     let table : rows a ≡ rows b = one_rows a.bytes a.tokens b.tokens a.tree b.tree h.reads.1 spells h.is_tree.tree.derived k.is_tree.tree.derived in
     λ i. record { path = (h.path_is ∙ sym k.path_is) i; bytes = bytes i; tokens = tokens i; rows = table i }
 
-pub one_tree : (sources : List Source) (files others : List ModuleFile) → AreAccepted sources files → AreAccepted sources others → map file_model files ≡ map file_model others
-one_tree sources files others a b =
+pub tree_is_unique : (sources : List Source) (files others : List ModuleFile) → AreAccepted sources files → AreAccepted sources others → map file_model files ≡ map file_model others
+tree_is_unique sources files others a b =
     same_maps file_model file_model files others (a.as_many ∙ sym b.as_many) (λ i file other at_file at_other.
     let within = slice_get_within files i file at_file in
     let many = a.as_many in

@@ -12,7 +12,7 @@ use Rattle.module_table.specs.Tables.{rows_in}
 use Rattle.ob_imports.specs.Graphs.{ImportGraph}
 use Rattle.module_table.proofs.Elements.{some_one}
 use Rattle.ob_interface.specs.Interfaces.{ModuleInterface}
-use Rattle.ob_types.specs.World.{world}
+use Rattle.ob_view.specs.World.{world}
 use Rattle.std.specs.Arc.{arc_value}
 use Rattle.std.specs.String.{string_bytes}
 use Rattle.source_tree.specs.declared.parts.ModuleParts.{ModuleParts}
@@ -108,11 +108,11 @@ module _ (sources : List Source) (modules : List (Box ModuleParts Global)) (g : 
       }
 
 -- the records and the external symbols that are gathered
-pub gathered : {T E : Type 0} (all : List FileModel) (package_name : List ℕ) (records : List (List ℕ)) (rows : List SymbolModel) (result : Result T E) (records_of : T → List (List ℕ)) (rows_of : T → List SymbolModel) →
-    IfOk result (λ t. records_of t ≡ records) → IfOk result (λ t. rows_of t ≡ rows) → AreRecordsOf all package_name records rows →
-    IfOk result (λ t. AreRecordsOf all package_name (records_of t) (rows_of t))
-gathered all package_name records rows (Ok t) records_of rows_of e f output_is = rw (e, f) output_is
-gathered all package_name records rows (Err fault) records_of rows_of e f output_is = tt
+pub gathered : {T E : Type 0} (all : List FileModel) (package_name : List ℕ) (records : List (List ℕ)) (rows : List SymbolModel) (result : Result T E) (records_of : T → List (List ℕ)) (locate_all_unresolved : T → List SymbolModel) →
+    IfOk result (λ t. records_of t ≡ records) → IfOk result (λ t. locate_all_unresolved t ≡ rows) → AreRecordsOf all package_name records rows →
+    IfOk result (λ t. AreRecordsOf all package_name (records_of t) (locate_all_unresolved t))
+gathered all package_name records rows (Ok t) records_of locate_all_unresolved e f output_is = rw (e, f) output_is
+gathered all package_name records rows (Err fault) records_of locate_all_unresolved e f output_is = tt
 
 -- the records of the parts of a tree are the records of the tree
 pub records_told : (sources : List Source) (package_name : List ℕ) (modules : List ModuleFile) (tree : TreeParts) (records : List (List ℕ)) (rows : List SymbolModel) → ArePartsOfTree sources modules tree →

@@ -24,7 +24,7 @@ use Rattle.ob_imports.proofs.Places.{place_is}
 use Rattle.ob_interface.specs.Interfaces.{ModuleInterface}
 use Rattle.module_table.proofs.Elements.{contains_slice, slice_contains, slice_there, some_one}
 use Rattle.work_board.proofs.Ordering.{order_has}
-use Rattle.work_board.specs.Cores.{entry_at, share_at, shared_part, AreOf, AreShares, Core}
+use Rattle.work_board.specs.Cores.{entry_at, share_at, shared_part, AreModuleEntries, AreShares, Core}
 use Rattle.work_board.specs.Graphs.{list_at, IsNameOrder, Reaches}
 use Rattle.board_workers.specs.Parts.{IsJob}
 use Rattle.ob_board.specs.BoardGraphs.{modules_of}
@@ -135,10 +135,10 @@ module _ (files : List FileModel) (g : ImportGraph) (kept : AreFilesOfGraph (fil
   -- no two files have modules of one name
   pub same_place : (k j : ℕ) (file other : FileModel) → slice_get files k ≡ Some file → slice_get files j ≡ Some other → names other 1 ≡ names file 1 → j ≡ k
   same_place k j file other at there named =
-      let of_files = names_of (files_of files) in
-      let one : index_or_len of_files (names file 1) ≡ k = place_is of_files (names file 1) k kept.are_files.differ (name_in_files k file at) in
-      let two : index_or_len of_files (names other 1) ≡ j = place_is of_files (names other 1) j kept.are_files.differ (name_in_files j other there) in
-      sym two ∙ ap (index_or_len of_files) named ∙ one
+      let from_files = names_of (files_of files) in
+      let one : index_or_len from_files (names file 1) ≡ k = place_is from_files (names file 1) k kept.are_files.differ (name_in_files k file at) in
+      let two : index_or_len from_files (names other 1) ≡ j = place_is from_files (names other 1) j kept.are_files.differ (name_in_files j other there) in
+      sym two ∙ ap (index_or_len from_files) named ∙ one
 
   pub same_file : (k : ℕ) (file other : FileModel) → slice_get files k ≡ Some file → Contains files other → names other 1 ≡ names file 1 → other ≡ file
   same_file k file other at (j, lt, is) named =
@@ -149,9 +149,9 @@ module _ (files : List FileModel) (g : ImportGraph) (kept : AreFilesOfGraph (fil
   -- the names on the board are those of the files
   board_names : (modules_of g).names ≡ names_of (files_of files)
   board_names =
-      let of_files = names_of (files_of files) in
-      let many : g.modules ≡ length of_files = kept.is_graph.modules ∙ sym (length-map (files_of files) (λ (f : File). f.name)) in
-      ap₂ (λ (n : ℕ) (ns : List (List ℕ)). take n ns) many kept.is_graph.nodes.whole ∙ take-append_seam of_files kept.is_graph.nodes.others
+      let from_files = names_of (files_of files) in
+      let many : g.modules ≡ length from_files = kept.is_graph.modules ∙ sym (length-map (files_of files) (λ (f : File). f.name)) in
+      ap₂ (λ (n : ℕ) (ns : List (List ℕ)). take n ns) many kept.is_graph.nodes.whole ∙ take-append_seam from_files kept.is_graph.nodes.others
 
   pub order_pairs : (order : List ℕ) → IsNameOrder (modules_of g).names order → AllPairs (λ v w. slice_cmp nat_cmp (list_at (modules_of g).names v) (list_at (modules_of g).names w) ≡ Less) order
   order_pairs order is =
@@ -180,7 +180,7 @@ module _ {E : Type 0} (is_of : List ℕ → E → Type 0) (shared_of : E → Mod
         named = get_or-take g.modules g.names v [] (omega arith) ∙ get_or_from_slice_get g.names v (names file 1) [] (name_of_file files g kept v file at);
       }
 
-  module _ (n : ℕ) (parts : List ModuleInterface) (c : Core E) (size : length c.entries ≡ length (modules_of g).names) (own : AreOf is_of (modules_of g).names c.entries)
+  module _ (n : ℕ) (parts : List ModuleInterface) (c : Core E) (size : length c.entries ≡ length (modules_of g).names) (own : AreModuleEntries is_of (modules_of g).names c.entries)
       (all : AreShares shared_of (modules_of g) c n parts) where
     few_parts : length parts ≤ 4096
     few_parts =

@@ -30,9 +30,9 @@ use Rattle.source_tree.specs.declared.parts.ModuleParts.{ModuleParts}
 use Rattle.source_tree.specs.declared.source.Source.{Source}
 use Rattle.ob_scan.specs.declared.token.Token.{Token}
 use Rattle.ob_scan.specs.Texts.{text_at}
-use Rattle.ob_types.specs.ModuleNumbers.{module_number_in}
+use Rattle.ob_view.specs.ModuleNumbers.{module_number_in}
 use Rattle.ob_types.specs.Within.{AreWithin}
-use Rattle.ob_types.proofs.Ascending.{found}
+use Rattle.ob_view.proofs.Ascending.{found}
 use Rattle.ob_types.proofs.Within.{placed}
 use Rattle.module_table.proofs.Elements.{contains_slice, some_one}
 use Rattle.ob_board.specs.PrecomputedChains.{AreAllByName, AreChainsOf, ServesModule}
@@ -100,13 +100,13 @@ module _ (files : List FileModel) (all : List ModuleInterface) (tree : AreAllByN
         let from = (output_is.exact m).0 has in
         let file = from.file in
         let to = placed all name k there in
-        let (other, of_tree, is) = from_map interface_in files to.module_there
+        let (other, from_tree_parts, is) = from_map interface_in files to.module_there
         (Contains-permutation all (map interface_in files) to.module_there (IsPermutation-sym (map interface_in files) all tree.same) (contains_slice all k to.module_there to.at)) in
         let named : names other 1 ≡ name = ap (λ (x : ModuleInterface). x.name) is ∙ to.named in
         let import = named_import file.bytes file.tokens alias name (file.rows).imports (subst (λ (x : ModuleInterface). module_named x alias ≡ Some name) (sym from.is) of) in
         let imports : Imports (files_of files) (names file 1) name = (file_of file, in_map file_of files file from.is_of_tree, refl, import) in
         let reach = subst (ReachesName files own) (sym named) (reaches_more own (names file 1) name from.is_reached imports) in
-        let here : Contains reached (interface_in other) = (output_is.exact (interface_in other)).1 (record { file = other; is_of_tree = of_tree; is_reached = reach; is = refl }) in
+        let here : Contains reached (interface_in other) = (output_is.exact (interface_in other)).1 (record { file = other; is_of_tree = from_tree_parts; is_reached = reach; is = refl }) in
         leads reached (interface_in other) here (ap (module_number_in reached) named ∙ none)
 
     pub within_tree : AreWithin all reached

@@ -4,11 +4,11 @@ use Rattle.std.specs.List.{filter, range_with_len}
 use Rattle.ob_imports.specs.Graphs.{imported, ImportGraph}
 use Rattle.work_board.specs.Graphs.{Modules}
 
--- the modules of the tree that a module imports
+-- the numbers of the modules of the tree that module `v` imports; external modules are left out
 abbrev pub tree_imports : ImportGraph → ℕ → List ℕ
 tree_imports g v = filter (λ w. nat_lt w g.modules) (imported g.pairs v)
 
--- the imports of each of the first modules
+-- for each of the first `count` modules, the numbers of the modules of the tree that it imports
 abbrev pub rows_below : ImportGraph → ℕ → List (List ℕ)
 rows_below g count = map (tree_imports g) (range_with_len 0 count)
 

@@ -17,13 +17,14 @@ tool_metadata root = record {
   text_document_encoding = pos 1;
 }
 
--- the index has the documents of these entries, in order, and their external symbols, sorted by symbol string, each once
+-- the index has the documents of these entries, in the order of the entries, and the entries' external symbols, sorted by symbol string,
+-- each once
 pub record IsBuiltFrom (entries : List EntryModel) (root : List ℕ) (index : IndexModel) : Type 0 where
   pub metadata : index.metadata ≡ Some (tool_metadata root)
   pub documents : index.documents ≡ map (λ (e : EntryModel). e.document) entries
   pub externals : AreExternals (flat_map (λ (e : EntryModel). e.externals) entries) index.external_symbols
 
--- the index is that of these files
+-- the index is that of a tree with these files
 pub record IsIndexOf (files : List FileModel) (package_name root : List ℕ) (index : IndexModel) : Type 0 where
   pub entries : List EntryModel
   pub are_entries : AreEntriesOf files package_name entries

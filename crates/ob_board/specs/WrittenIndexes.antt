@@ -8,8 +8,8 @@ use Rattle.scip_index.specs.Written.{document_part, documents_part}
 use Rattle.ob_board.specs.declared.writing.EncodedIndex.{EncodedIndex}
 use Rattle.ob_board.specs.Indexes.{IsIndex}
 
--- the parts are those of the index of the tree of these sources: its metadata, the record of each document, in order, and its external
--- symbols
+-- `w` has the parts of the index of the tree of these sources: the metadata, the encoded record of each document, in order, and the
+-- external symbols
 pub record IsWrittenIndex (sources : List Source) (package_name root : List ℕ) (w : EncodedIndex) : Type 0 where
   pub index : IndexModel
   pub is_index : IsIndex sources package_name root index

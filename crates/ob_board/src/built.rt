@@ -1,4 +1,8 @@
-//! The entries of a tree's modules, each with its document as a message.
+//! Makes the entries of a tree's modules. An entry contains the module's document as a message in memory. In the clauses of this file:
+//! - `input`: the parts are those of a file of the tree, and `reached` has the interfaces of the modules that its module reaches.
+//! - `named`: the names in these interfaces are identifiers. `seen`: the parts and the graph are those of the sources.
+//! - `package`, `files`, `graph`: the type `F` names this package, these files and this graph.
+//! - `right`: the package isn't `.` and doesn't begin with a space. `precomputed_chains`: the chains are those of the tree's modules.
 ghost use Rattle.std.specs.Prelude.{◌≡◌, false, map, IfOk};
 ghost use Rattle.std.specs.Arc.{arc_value};
 ghost use Rattle.ob_scan.specs.Texts.{text_at};
@@ -9,7 +13,7 @@ ghost use Rattle.ob_board.specs.Entries.{interfaces_of, entry_model, AreAllNamed
 ghost use Rattle.ob_board.specs.UnresolvedEntry.{IsModuleInput};
 
 use crate::Entry;
-use crate::laws::reached_by_names;
+use crate::laws::reach_by_names_agrees;
 use crate::named_index::NamedIndex;
 use crate::precomputed_chains::PrecomputedChains;
 use crate::written::{EmittedDocument, emit_module};
@@ -22,7 +26,7 @@ use std::marker::{Model, PhantomData};
 use std::sync::Arc;
 use work_board::WorkEntry;
 
-/// The entry of a module. The type parameter `F` identifies the tree and the package.
+/// The entry of a module of a tree. The type parameter `F` names the tree and the package, so entries of different trees can't be mixed.
 #[derive(Drop)]
 pub struct IndexEntry<F: NamedIndex> {
     entry: Entry,
@@ -41,17 +45,17 @@ impl<F: NamedIndex> Model for IndexEntry<F> {
 }
 
 impl<F: NamedIndex> IndexEntry<F> {
-    /// The invariant of the type: the value is the entry of the module that it names, in that tree and that package.
+    /// States the invariant of the type: the value is the entry of the module whose name it contains, in the tree and package of `F`.
     pub fn invariants(&self)
-        // The value is the entry of the module that it names.
+        // The value is the entry of the module whose name it contains.
         ensures { IsEntryOf F.files F.package_name self.now.name self.now }
     {
         let _entry = &self.entry;
     }
 
-    /// The entry without the type's invariant.
+    /// Converts into a plain `Entry`, whose type names no tree.
     pub fn into_entry(self) -> Entry
-        // The result is exactly this entry.
+        // The result has exactly the contents of this entry.
         ensures { entry_model result ≡ self }
     {
         let IndexEntry { entry, of: _ } = self;
@@ -79,7 +83,8 @@ impl<F: NamedIndex> WorkEntry for IndexEntry<F> {
     }
 }
 
-/// The entry of a module, by its parts, the interfaces of the modules that it reaches, and the precomputed type chains.
+/// Makes the entry of a module from the module's parts, the interfaces of the modules that it reaches, and the tree's precomputed type
+/// chains.
 fn build_entry<F: NamedIndex>(
     alloc: Global,
     source: &Source,
@@ -93,6 +98,7 @@ fn build_entry<F: NamedIndex>(
     requires precomputed_chains { ServesModule (map arc_value reached.now) precomputed_chains.now }
     requires package { package_name.now ≡ F.package_name }
     requires right { is_wrong_part F.package_name ≡ false }
+    // With `Ok` the entry has the name of the module, which is token 1.
     ensures { IfOk result (λ m. m.name ≡ text_at source.now.bytes.items parts.now.tokens 1) }
 {
     let EmittedDocument {
@@ -120,7 +126,8 @@ fn build_entry<F: NamedIndex>(
     })
 }
 
-/// Makes the entries of a tree's modules. The type parameter `F` identifies the tree. The value in contracts is the graph of imports.
+/// Makes the entries of a tree's modules. The type parameter `F` names the tree and the package, and `E` is the type of the entries.
+/// Contracts describe a builder by the tree's graph of imports.
 #[derive(Drop)]
 pub struct EntryBuilder<'a, F: NamedIndex, E> {
     pub(crate) alloc: Global,
@@ -151,7 +158,7 @@ impl<'a, F: NamedIndex, E> Model for EntryBuilder<'a, F, E> {
 }
 
 impl<'a, F: NamedIndex, E> EntryBuilder<'a, F, E> {
-    /// The builder for the modules of these files, with symbols of this package and with the precomputed type chains.
+    /// A builder for the entries of these modules. Their symbols are in this package, and types are followed with the precomputed chains.
     pub(crate) fn new(
         alloc: Global,
         sources: &'a [Source],
@@ -180,9 +187,9 @@ impl<'a, F: NamedIndex, E> EntryBuilder<'a, F, E> {
         }
     }
 
-    /// The invariant of the type: the builder has the graph that the type names.
+    /// States a part of the type's invariant: the builder has the graph of imports that the type `F` names.
     pub fn invariants(&self)
-        // The graph is the one that the type names.
+        // The builder's graph is the one that the type `F` names.
         ensures { self.now ≡ F.graph }
     {
         let _graph = self.graph;
@@ -197,7 +204,7 @@ impl<F: NamedIndex> Work for EntryBuilder<'_, F, IndexEntry<F>> {
     ghost graph = { λ w. modules_of w };
 
     fn make(&self, number: u32, parts: &[Arc<Interface>]) -> Result<IndexEntry<F>, AllocError> {
-        reached_by_names();
+        reach_by_names_agrees();
         let place = number as usize;
         let built = build_entry(
             self.alloc,

@@ -1,4 +1,5 @@
-//! The index of a tree for callers that run their own workers: the input of a claimed module, its entry, and the gathered index.
+//! Makes the index of a tree for callers that run their own workers. A worker claims a module and gets the module's input as a `Job`.
+//! It makes the module's entry from the job and delivers the entry to the scheduler. At the end the index is gathered from all entries.
 ghost use Rattle.std.specs.Prelude.{◌≡◌, ◌<◌, ◌⊎◌, true, false, count_by, is_none, map, IfErr, IfNone, IfOk, IfSome, List, Some};
 ghost use Rattle.source_tree.specs.Parts.{ArePartsOfTree};
 ghost use Rattle.source_tree.specs.Trees.{ModuleFile};
@@ -25,12 +26,12 @@ use std::marker::{Model, PhantomData};
 use std::sync::Arc;
 use work_board::{Board, BoardFault};
 
-/// The scheduler of a tree. Its type names the tree and the package, so entries of other trees or packages have another type. `deliver`
-/// rejects the entry of another module of the tree with `WrongModule`.
+/// The scheduler of a tree. Its type names the tree and the package, so an entry of another tree or package has another type and can't be
+/// delivered. `deliver` returns `WrongModule` for the entry of a module other than the claimed one.
 pub type TreeBoard<'g, F> = Board<'g, BoardOf<F>, IndexEntry<F>>;
 
-/// The input for a module that a worker has claimed: the interfaces of all modules that it reaches. The type parameter `F` identifies the
-/// tree. The value of a job in contracts is the number of its module.
+/// The input of a module that a worker has claimed: the interfaces of all modules that the module reaches. The type parameter `F` names the
+/// tree. Contracts describe a job by the number of its module.
 #[derive(Drop)]
 pub struct Job<F: NamedIndex> {
     number: u32,
@@ -53,14 +54,14 @@ impl<F: NamedIndex> Model for Job<F> {
 }
 
 impl<F: NamedIndex> Job<F> {
-    /// The input of a claimed module: the interfaces of all modules that it reaches. Fails with `NotClaimed` if the module isn't claimed,
-    /// and with `Memory` if an allocation fails.
-    pub fn of_claimed(board: &TreeBoard<'_, F>, number: u32) -> Result<Job<F>, BoardFault>
-        // With `Ok` the result has this module number.
+    /// Collects the input of a claimed module: the interfaces of all modules that the module reaches. Returns `NotClaimed` if no worker has
+    /// claimed the module, and `Memory` if an allocation fails.
+    pub fn from_claimed(board: &TreeBoard<'_, F>, number: u32) -> Result<Job<F>, BoardFault>
+        // With `Ok` the job is that of the module with this number.
         ensures number { IfOk result (λ job. job ≡ number) }
-        // With `Ok` the module is claimed.
+        // With `Ok` the module with this number is claimed.
         ensures claimed { IfOk result (λ job. is_claimed board.now number ≡ true) }
-        // The error is `NotClaimed` if the module isn't claimed, or `Memory`.
+        // An error is either `NotClaimed`, and the module isn't claimed, or `Memory`.
         ensures refused { IfErr result (λ fault. ((fault ≡ BoardFault.NotClaimed) × (is_claimed board.now number ≡ false)) ⊎ (fault ≡ BoardFault.Memory)) }
     {
         board.invariants();
@@ -72,17 +73,17 @@ impl<F: NamedIndex> Job<F> {
         })
     }
 
-    /// The number of the module.
+    /// Returns the number of the job's module.
     pub fn number(&self) -> u32
-        // The result is the module's number.
+        // The result is the number of the job's module.
         ensures { result ≡ self.now }
     {
         self.number
     }
 }
 
-/// The entries of all modules by number, if each module has one.
-fn all_entries<F: NamedIndex>(
+/// Returns the entries of all modules, by module number, or `Ok(None)` if a module has no entry.
+fn collect_if_complete<F: NamedIndex>(
     alloc: Global,
     gathered: Vec<Option<IndexEntry<F>>>,
 ) -> Result<Option<Vec<Entry>>, AllocError>
@@ -100,8 +101,8 @@ fn all_entries<F: NamedIndex>(
 }
 
 impl<'a, F: NamedIndex> EntryBuilder<'a, F, IndexEntry<F>> {
-    /// The builder of the entries of a tree's modules, with symbols of this package. The type names the files, the graph and the package.
-    pub fn of_tree(
+    /// A builder for the entries of a tree's modules, with symbols in this package. `tree` is what `tree_parts` returned for these sources.
+    pub fn from_tree_parts(
         alloc: Global,
         sources: &'a [Source],
         tree: &'a TreeParts,
@@ -109,18 +110,18 @@ impl<'a, F: NamedIndex> EntryBuilder<'a, F, IndexEntry<F>> {
     ) -> Result<EntryBuilder<'a, F, IndexEntry<F>>, AllocError>
         // The parts are those of the tree of these files, as `tree_parts` returns them.
         requires parts { (files : List ModuleFile) × ArePartsOfTree sources.now files tree.now }
-        // The type names these files.
+        // `F.files` are the files that these sources and their parts describe.
         requires files { F.files ≡ file_models sources.now tree.now.modules.items }
-        // The type names this graph.
+        // `F.graph` is the tree's graph of imports.
         requires graph { F.graph ≡ tree.now.graph }
-        // The type names this package.
+        // `F.package_name` is this package.
         requires package { F.package_name ≡ package_name.now }
         // The package isn't `.` and doesn't begin with a space.
         requires right { is_wrong_part F.package_name ≡ false }
-        // With `Ok` the builder is that of the named graph.
+        // With `Ok` the builder has the graph that the type `F` names.
         ensures { IfOk result (λ work. work ≡ F.graph) }
     {
-        let precomputed_chains = PrecomputedChains::of_files(
+        let precomputed_chains = PrecomputedChains::from_files(
             alloc,
             sources,
             tree.modules.as_slice(),
@@ -135,11 +136,11 @@ impl<'a, F: NamedIndex> EntryBuilder<'a, F, IndexEntry<F>> {
         ))
     }
 
-    /// The entry of a claimed module. Holds no lock. Fails with `AllocError` if an allocation fails.
+    /// Makes the entry of a job's module, without holding a lock. Fails with `AllocError` if an allocation fails.
     pub fn entry(&self, job: &Job<F>) -> Result<IndexEntry<F>, AllocError>
-        // The entry has the module's name.
+        // With `Ok` the entry has the name of the job's module.
         ensures named { IfOk result (λ e. e.name ≡ list_at (modules_of F.graph).names job.now) }
-        // The entry is the module's in this tree and package.
+        // With `Ok` the entry is that of the job's module, in the tree and the package that the type `F` names.
         ensures exact { IfOk result (IsEntryOf F.files F.package_name (list_at (modules_of F.graph).names job.now)) }
     {
         self.invariants();
@@ -148,18 +149,18 @@ impl<'a, F: NamedIndex> EntryBuilder<'a, F, IndexEntry<F>> {
         Ok(built)
     }
 
-    /// The index of the tree, gathered from the entries that any workers have delivered: the documents in the order of the files, and the
-    /// external symbols sorted by symbol string, each once.
-    /// The result is `None` if a module has no entry. Fails with `AllocError` if an allocation fails.
+    /// Gathers the index of the tree from the entries that the workers have delivered: the documents in the order of the files, and the
+    /// external symbols sorted by symbol string, each once. `root` is the project root in the metadata.
+    /// Returns `Ok(None)` if a module's entry wasn't delivered. Fails with `AllocError` if an allocation fails.
     pub fn gather(&self, board: TreeBoard<'_, F>, root: &str) -> Result<Option<Index>, AllocError>
-        // With an index, it is the index of the files.
+        // If an index is returned, it is the index of the files that the type `F` names.
         ensures exact { IfOk result (λ outcome. IfSome outcome (λ index. IsIndexOf F.files F.package_name root.now (index_model index))) }
-        // With an index, every module was delivered.
+        // If an index is returned, no module's entry is missing.
         ensures whole { IfOk result (λ outcome. IfSome outcome (λ index. missing board.entry ≡ 0)) }
-        // Without an index, a module wasn't delivered.
+        // With `Ok(None)` a module's entry is missing.
         ensures none { IfOk result (λ outcome. IfNone outcome (0 < missing board.entry)) }
     {
-        match all_entries(self.alloc, board.gather())? {
+        match collect_if_complete(self.alloc, board.gather())? {
             Some(entries) => Ok(Some(assemble_index(self.alloc, entries, root)?)),
             None => Ok(None),
         }

@@ -1,5 +1,7 @@
-//! The entries of a tree's modules, each with its document as the bytes of its record. The worker that makes an entry also encodes the
-//! document.
+//! Makes the entries of a tree's modules. An entry contains the encoded record of the module's document, so each worker also encodes.
+//! In the clauses: `input`: the parts are those of a file of the tree, with the interfaces of the modules that its module reaches.
+//! `named`: the names in these interfaces are identifiers. `precomputed_chains`: the chains are those of the tree's modules.
+//! `package`: the type `F` names this package. `right`: the package isn't `.` and doesn't begin with a space.
 ghost use Rattle.std.specs.Prelude.{◌≡◌, false, map, IfOk};
 ghost use Rattle.scip_index.specs.Plain.{symbol_model};
 ghost use Rattle.std.specs.Arc.{arc_value};
@@ -10,7 +12,7 @@ ghost use Rattle.ob_board.specs.Entries.{AreAllNamed};
 ghost use Rattle.ob_board.specs.UnresolvedEntry.{IsModuleInput};
 
 use crate::built::EntryBuilder;
-use crate::laws::reached_by_names;
+use crate::laws::reach_by_names_agrees;
 use crate::named_index::NamedIndex;
 use crate::precomputed_chains::PrecomputedChains;
 use crate::written::{EncodedDocument, encode_module};
@@ -23,7 +25,8 @@ use std::marker::{Model, PhantomData};
 use std::sync::Arc;
 use work_board::WorkEntry;
 
-/// The entry of a module, with the record of its document. The type parameter `F` identifies the tree and the package.
+/// The entry of a module of a tree, with the encoded record of the module's document in `bytes`. The type parameter `F` names the tree and
+/// the package.
 #[derive(Drop)]
 pub(crate) struct EncodedEntry<F: NamedIndex> {
     name: String,
@@ -49,7 +52,7 @@ impl<F: NamedIndex> Model for EncodedEntry<F> {
 }
 
 impl<F: NamedIndex> EncodedEntry<F> {
-    /// The record of the document, and the external symbols.
+    /// Moves the record of the document and the external symbols out of the entry.
     pub(crate) fn into_record(self) -> EncodedDocument
         ensures bytes { result.bytes.items ≡ self.bytes }
         ensures externals { map symbol_model result.externals.items ≡ self.externals }
@@ -85,7 +88,8 @@ impl<F: NamedIndex> WorkEntry for EncodedEntry<F> {
     }
 }
 
-/// The entry of a module, by its parts, the interfaces of the modules that it reaches, and the precomputed type chains.
+/// Makes the entry of a module from the module's parts, the interfaces of the modules that it reaches, and the tree's precomputed type
+/// chains.
 fn encode_entry<F: NamedIndex>(
     alloc: Global,
     source: &Source,
@@ -99,6 +103,7 @@ fn encode_entry<F: NamedIndex>(
     requires precomputed_chains { ServesModule (map arc_value reached.now) precomputed_chains.now }
     requires package { package_name.now ≡ F.package_name }
     requires right { is_wrong_part F.package_name ≡ false }
+    // With `Ok` the entry has the name of the module, which is token 1.
     ensures { IfOk result (λ r. r.name ≡ text_at source.now.bytes.items parts.now.tokens 1) }
 {
     let EncodedDocument { bytes, externals } = encode_module(
@@ -128,7 +133,7 @@ impl<F: NamedIndex> Work for EntryBuilder<'_, F, EncodedEntry<F>> {
     ghost graph = { λ w. modules_of w };
 
     fn make(&self, number: u32, parts: &[Arc<Interface>]) -> Result<EncodedEntry<F>, AllocError> {
-        reached_by_names();
+        reach_by_names_agrees();
         let place = number as usize;
         let encoded = encode_entry(
             self.alloc,

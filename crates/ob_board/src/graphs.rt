@@ -1,4 +1,5 @@
-//! The graph of a scheduler, from the graph of a tree's imports.
+//! Makes the graph of a scheduler from the graph of a tree's imports, by leaving out the external modules. In a graph of imports, the
+//! modules of the tree have the smallest numbers.
 ghost use Rattle.std.specs.Prelude.{◌≡◌, ◌<◌, length, map, take, IfOk};
 ghost use Rattle.std.specs.String.{string_bytes};
 ghost use Rattle.work_board.specs.Graphs.{lists, IsAcyclic};
@@ -7,7 +8,7 @@ ghost use Rattle.ob_board.specs.BoardGraphs.{modules_of, rows_below, tree_import
 use ob_imports::Graph;
 use std::alloc::{AllocError, Global};
 
-/// The names of the modules of the tree.
+/// The names of the modules of the tree, by module number; external modules are left out.
 fn tree_module_names(alloc: Global, graph: &Graph) -> Result<Vec<String>, AllocError>
     ensures { IfOk result (λ names. map string_bytes names.items ≡ take graph.now.modules graph.now.names) }
 {
@@ -19,8 +20,9 @@ fn tree_module_names(alloc: Global, graph: &Graph) -> Result<Vec<String>, AllocE
     Ok(names)
 }
 
-/// The modules of the tree that a module imports.
+/// The numbers of the modules of the tree that module `node` imports; external modules are left out.
 fn tree_imports_of_module(alloc: Global, graph: &Graph, node: u32) -> Result<Vec<u32>, AllocError>
+    // The graph has a module with this number.
     requires { node < length graph.now.names }
     ensures { IfOk result (λ row. row.items ≡ tree_imports graph.now node) }
 {
@@ -34,7 +36,7 @@ fn tree_imports_of_module(alloc: Global, graph: &Graph, node: u32) -> Result<Vec
     Ok(row)
 }
 
-/// The imports of each module of the tree, without external modules.
+/// For each module of the tree, the numbers of the modules of the tree that it imports.
 fn all_tree_imports(alloc: Global, graph: &Graph) -> Result<Vec<Vec<u32>>, AllocError>
     ensures { IfOk result (λ rows. lists rows.items ≡ rows_below graph.now graph.now.modules) }
 {
@@ -46,8 +48,8 @@ fn all_tree_imports(alloc: Global, graph: &Graph) -> Result<Vec<Vec<u32>>, Alloc
     Ok(rows)
 }
 
-/// The modules of the tree in a graph of imports, by their numbers in that graph, with the imports among them. The result has no cycle.
-/// Fails with `AllocError` if an allocation fails.
+/// Makes the graph of a scheduler: the modules of the tree with their numbers in `graph`, and the imports among them. External modules are
+/// left out. The result has no cycle. Fails with `AllocError` if an allocation fails.
 pub fn board_graph(alloc: Global, graph: &Graph) -> Result<work_board::Graph, AllocError>
     // With `Ok` the graph has exactly the modules of the tree and the imports among them.
     ensures graph { IfOk result (λ board. board ≡ modules_of graph.now) }

@@ -1,4 +1,4 @@
-//! The entries of a tree's modules, and its index.
+//! Computes the entries of a tree's modules, and from them the index of the tree.
 ghost use Rattle.std.specs.Prelude.{◌≡◌, false, map, IfErr, IfOk};
 ghost use Rattle.std.specs.List.{flat_map};
 ghost use Rattle.std.specs.String.{string_bytes};
@@ -15,7 +15,7 @@ use crate::named_index::NamedIndex;
 use crate::precomputed_chains::PrecomputedChains;
 use crate::{Entry, board_graph};
 use board_workers::BoardGate;
-use ob_emit::all_externals;
+use ob_emit::merge_externals;
 use scip_index::{Document, Index, Metadata, SymbolInfo, ToolInfo};
 use source_tree::{Source, TreeFault, TreeParts, tree_parts};
 use std::alloc::{AllocError, Global};
@@ -23,15 +23,15 @@ use std::marker::Brand;
 use std::sync::Wait;
 use std::thread::Threads;
 
-/// The options of an index: the package of its symbols, and the project root.
+/// The options of an index: the package in its symbols, and the project root in its metadata.
 #[derive(Drop)]
 pub struct IndexOptions {
-    /// The package, which isn't `.` and doesn't begin with a space.
+    /// The package. Callers have to make sure that it isn't `.` and doesn't begin with a space.
     pub package: String,
     pub root: String,
 }
 
-/// The entries of the modules, in order.
+/// Converts the entries into plain ones, whose type names no tree, in the same order.
 fn into_entries<F: NamedIndex>(
     alloc: Global,
     all: Vec<IndexEntry<F>>,
@@ -45,7 +45,7 @@ fn into_entries<F: NamedIndex>(
     Ok(entries)
 }
 
-/// The entries of the tree with these parts, in the order of the files.
+/// Makes the entries of the tree from the parts of its files, with at most `workers` workers, in the order of the files.
 fn entries_of_parts<F: NamedIndex + Send + Sync, G: BoardGate + Sync, R: Threads + Wait + Sync>(
     rt: &R,
     alloc: Global,
@@ -55,14 +55,17 @@ fn entries_of_parts<F: NamedIndex + Send + Sync, G: BoardGate + Sync, R: Threads
     workers: u32,
     gate: &G,
 ) -> Result<Vec<Entry>, AllocError>
+    // The type `F` names the files, the graph and the package.
     requires files { F.files ≡ file_models sources.now tree.now.modules.items }
     requires graph { F.graph ≡ tree.now.graph }
+    // The parts and the graph are those of the sources.
     requires seen { AreSourcesRead sources.now tree.now.modules.items tree.now.graph }
     requires package { string_bytes options.now.package ≡ F.package_name }
+    // The package isn't `.` and doesn't begin with a space.
     requires right { is_wrong_part F.package_name ≡ false }
     ensures { IfOk result (λ entries. AreEntriesOf F.files F.package_name (map entry_model entries.items)) }
 {
-    let precomputed_chains = PrecomputedChains::of_files(alloc, sources, tree.modules.as_slice());
+    let precomputed_chains = PrecomputedChains::from_files(alloc, sources, tree.modules.as_slice());
     let graph = board_graph(alloc, &tree.graph)?;
     let work = EntryBuilder::<F, IndexEntry<F>>::new(
         alloc,
@@ -72,14 +75,14 @@ fn entries_of_parts<F: NamedIndex + Send + Sync, G: BoardGate + Sync, R: Threads
         options.package.as_str(),
         precomputed_chains,
     );
-    let all = board_workers::entries(rt, alloc, &graph, workers, &work, gate);
+    let all = board_workers::make_entries(rt, alloc, &graph, workers, &work, gate);
     drop(graph);
     into_entries(alloc, all?)
 }
 
 /// Computes the entries of a tree's modules, in the order of the files. At most `workers` threads read the files. The calling thread and at
-/// most `workers - 1` others make the entries. Each of them calls the gate between claiming and delivering a module.
-/// Fails with the fault of the tree, or with its `Memory` if an allocation fails. It may wait for a lock and for its threads.
+/// most `workers - 1` others make the entries. Each thread calls the gate between claiming and delivering a module.
+/// Fails with the fault of the tree, or with `TreeFault::Memory` if an allocation fails. It may wait for a lock and for its threads.
 pub fn entries<G: BoardGate + Sync, R: Threads + Wait + Sync>(
     rt: &R,
     alloc: Global,
@@ -90,7 +93,7 @@ pub fn entries<G: BoardGate + Sync, R: Threads + Wait + Sync>(
 ) -> Result<Vec<Entry>, TreeFault>
     // The package isn't `.` and doesn't begin with a space.
     requires package { is_wrong_part (string_bytes options.now.package) ≡ false }
-    // With `Ok` the entries are exactly the tree's, whatever the order of the workers' steps.
+    // With `Ok` the result is exactly the tree's list of entries, whatever the order of the workers' steps.
     ensures exact { IfOk result (λ entries. AreTreeEntries sources.now (string_bytes options.now.package) (map entry_model entries.items)) }
     // The error is a fault of the tree.
     ensures fault { IfErr result (IsTreeFault sources.now) }
@@ -103,7 +106,7 @@ pub fn entries<G: BoardGate + Sync, R: Threads + Wait + Sync>(
     Ok(entries?)
 }
 
-/// The metadata of an index: the tool, the encoding of the files, and the project root.
+/// Makes the metadata of an index: the tool `oscip`, version 1, UTF-8 as the encoding of the files, and the project root.
 pub(crate) fn metadata(alloc: Global, root: &str) -> Result<Metadata, AllocError>
     ensures { IfOk result (λ m. metadata_model m ≡ tool_metadata root.now) }
 {
@@ -120,14 +123,15 @@ pub(crate) fn metadata(alloc: Global, root: &str) -> Result<Metadata, AllocError
     })
 }
 
-/// The documents and the external symbols of all entries, concatenated.
+/// The documents of all entries in one list, and the external symbols of all entries in another one (`rows`), both in the order of the
+/// entries.
 #[derive(Drop)]
 struct Gathered {
     documents: Vec<Document>,
     rows: Vec<SymbolInfo>,
 }
 
-/// Concatenates the documents and the external symbols of the entries.
+/// Collects the documents of the entries in one list, and the external symbols of the entries in another one.
 fn gather(alloc: Global, entries: Vec<Entry>) -> Result<Gathered, AllocError>
     ensures documents { IfOk result (λ all. map document_model all.documents.items ≡ map (λ e. (entry_model e).document) entries.items) }
     ensures rows { IfOk result (λ all. map symbol_model all.rows.items ≡ flat_map (λ e. (entry_model e).externals) entries.items) }
@@ -148,12 +152,14 @@ fn gather(alloc: Global, entries: Vec<Entry>) -> Result<Gathered, AllocError>
     Ok(Gathered { documents, rows })
 }
 
-/// The index with these entries.
+/// Makes the index with the documents of these entries, in their order, and with the entries' external symbols, sorted by symbol string,
+/// each once.
 pub(crate) fn assemble_index(
     alloc: Global,
     entries: Vec<Entry>,
     root: &str,
 ) -> Result<Index, AllocError>
+    // Each external symbol of an entry is the symbol information of a module, or of a name of a module.
     requires { AreExternalRows (flat_map (λ e. (entry_model e).externals) entries.items) }
     ensures { IfOk result (λ index. IsBuiltFrom (map entry_model entries.items) root.now (index_model index)) }
 {
@@ -162,12 +168,13 @@ pub(crate) fn assemble_index(
     Ok(Index {
         metadata: Some(metadata),
         documents,
-        external_symbols: all_externals(rows),
+        external_symbols: merge_externals(rows),
     })
 }
 
-/// Makes the index of a tree, by `entries`: the documents sorted by path, and the external symbols sorted by symbol string, each once.
-/// Fails with the fault of the tree, or with its `Memory` if an allocation fails. It may wait for a lock and for its threads.
+/// Makes the index of a tree from the result of `entries`: the documents sorted by path, and the external symbols sorted by symbol string,
+/// each once.
+/// Fails with the fault of the tree, or with `TreeFault::Memory` if an allocation fails. It may wait for a lock and for its threads.
 pub fn index_tree<G: BoardGate + Sync, R: Threads + Wait + Sync>(
     rt: &R,
     alloc: Global,

@@ -1,10 +1,12 @@
-//! The types of a module of a tree.
+//! Makes the types of a module of a tree, a graph in which the designators of the module are followed. In the clauses:
+//! `in_text`: the tokens are nonempty ranges of the bytes, each before the next. `few`: indices of reached modules fit 32 bits.
+//! `by_name`: the reached modules are sorted by name. `ServesModule` adds: precomputed chains are for a tree that has these modules.
 ghost use Rattle.std.specs.Prelude.{◌≡◌, ◌≤◌, ◌^◌, length, map, IfOk};
 ghost use Rattle.std.specs.Arc.{arc_value};
 ghost use Rattle.module_table.specs.Tables.{rows_in};
 ghost use Rattle.ob_scan.specs.Spelling.{AreInText};
-ghost use Rattle.ob_types.specs.ModuleNumbers.{AreByName};
-ghost use Rattle.ob_types.specs.World.{world};
+ghost use Rattle.ob_view.specs.ModuleNumbers.{AreByName};
+ghost use Rattle.ob_view.specs.World.{world};
 ghost use Rattle.ob_board.specs.PrecomputedChains.{ServesModule};
 
 use crate::precomputed_chains::PrecomputedChains;
@@ -14,7 +16,8 @@ use source_tree::{ModuleParts, Source};
 use std::alloc::{AllocError, Global};
 use std::sync::Arc;
 
-/// The types of a module, by its parts and these interfaces.
+/// Makes the types of a module from the module's source and parts and from the interfaces of the modules that it reaches, without
+/// precomputed chains.
 pub(crate) fn types_with_interfaces<'a>(
     alloc: Global,
     source: &'a Source,
@@ -36,7 +39,8 @@ pub(crate) fn types_with_interfaces<'a>(
     )
 }
 
-/// The types of a module, by its parts, the interfaces of the modules that it reaches, and the precomputed type chains.
+/// Makes the types of a module from the module's source and parts, the interfaces of the modules that it reaches, and the tree's
+/// precomputed type chains.
 pub(crate) fn module_types<'a>(
     alloc: Global,
     source: &'a Source,

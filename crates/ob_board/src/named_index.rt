@@ -1,10 +1,10 @@
-//! What an index is made from, named by a type: the files of a tree, the graph of their imports, and a package.
+//! A trait whose types name what an index is made from: the files of a tree, the graph of their imports, and a package.
 
 use std::marker::{Brand, PhantomData};
 use work_board::NamedTree;
 
-/// A type that names the files of a tree, the graph of their imports, and the package of its symbols. So entries of another tree or package
-/// have another type. At a call with `Brand` the proof chooses them.
+/// A type that names the files of a tree, the graph of their imports, and a package; this serves proofs alone. Entries of another tree or
+/// package have another type. In a call with the type `Brand`, the proof of the call chooses what the type names.
 pub trait NamedIndex {
     ghost use Rattle.std.specs.Prelude.{ℕ, List};
     ghost use Rattle.ob_imports.specs.Graphs.{ImportGraph};
@@ -27,7 +27,7 @@ impl NamedIndex for Brand {
     ghost package_name = { [] };
 }
 
-/// A type that names the scheduler's graph of this tree: its modules by number, with the imports among them.
+/// A type that names the scheduler's graph of the tree that `F` names: the tree's modules by number, with the imports among them.
 #[derive(Drop)]
 pub struct BoardOf<F: NamedIndex>(PhantomData<F>);
 

@@ -1,4 +1,5 @@
-//! Types of a tree that are computed once and shared by all its modules.
+//! Precomputes the type chains of a tree: long chains are followed once for all modules. A step of a chain leads from a type to the type
+//! that it names, points to or extends.
 ghost use Rattle.std.specs.Prelude.{◌≡◌, ◌<◌, length, map, IfOk, IfSome, IsPermutation};
 ghost use Rattle.std.specs.Arc.{arc_value};
 ghost use Rattle.std.specs.Cmp.Lexicographic.{slice_cmp};
@@ -19,16 +20,17 @@ use source_tree::{ModuleParts, Source};
 use std::alloc::{AllocError, Global};
 use std::sync::Arc;
 
-/// The minimum number of modules of a tree for which types are precomputed.
+/// Type chains are precomputed only for a tree with at least this number of modules.
 const MIN_MODULES: usize = 2;
 
-/// The precomputed type chains of all modules, which each module uses for the modules that it reaches.
+/// The precomputed type chains of all modules of a tree; `None` if none are precomputed. A module uses the chains in the modules that it
+/// reaches.
 #[derive(Drop)]
 pub(crate) struct PrecomputedChains {
     pub(crate) precomputed: Option<Box<PrecomputedTypes>>,
 }
 
-/// The interfaces of all modules.
+/// The interfaces in the parts of all modules, as shared pointers, in the order of the modules.
 fn interfaces(
     alloc: Global,
     modules: &[Box<ModuleParts>],
@@ -42,7 +44,7 @@ fn interfaces(
     Ok(all)
 }
 
-/// Sorts modules by name. If they are sorted already, one pass suffices.
+/// Sorts interfaces by the names of their modules.
 fn sort_by_name(all: &mut Vec<Arc<Interface>>)
     ensures same { IsPermutation all.old.items all.new.items }
     ensures sorted { IsSortedBy (λ (a b : ModuleInterface). is_lt (slice_cmp nat_cmp a.name b.name)) (map arc_value all.new.items) }
@@ -50,7 +52,7 @@ fn sort_by_name(all: &mut Vec<Arc<Interface>>)
     all.sort_unstable_by(|a, b| a.name().cmp(&b.name()));
 }
 
-/// The index of the source with the fewest bytes.
+/// The index of the source with the fewest bytes. The contract promises only that it is an index of the list, which mustn't be empty.
 fn shortest_source(sources: &[Source]) -> usize
     requires { 0 < length sources.now }
     ensures { result < length sources.now }
@@ -64,15 +66,17 @@ fn shortest_source(sources: &[Source]) -> usize
     place
 }
 
-/// The precomputed type chains of all modules of these files. They are computed from the types of one module, the one whose source has the
-/// fewest bytes, and from the interfaces of all modules.
-/// `None` for a single module, or if no chain is long: following the chains then costs less than precomputing them.
+/// Precomputes the type chains of all modules of these files, from the interfaces of all modules. This needs the types of some module; it
+/// takes the one with the shortest source.
+/// Returns `Ok(None)` for fewer than two modules, or if no chain is long: following the chains then costs less than precomputing them.
 fn precompute_chains(
     alloc: Global,
     sources: &[Source],
     modules: &[Box<ModuleParts>],
 ) -> Result<Option<Box<PrecomputedTypes>>, AllocError>
+    // The parts are those of the sources, with some graph of imports.
     requires { (graph : ImportGraph) × AreSourcesRead sources.now modules.now graph }
+    // Chains that are returned are those of the given modules, sorted by name.
     ensures { IfOk result (λ outcome. IfSome outcome (λ s. AreAllByName (interfaces_of modules.now) s.value)) }
 {
     if modules.len() < MIN_MODULES {
@@ -87,9 +91,9 @@ fn precompute_chains(
 }
 
 impl PrecomputedChains {
-    /// The precomputed type chains of the modules of these files. If an allocation fails, there are none, and each module follows its
+    /// Precomputes the type chains of the modules of these files. If an allocation fails, the result has none; then each module follows the
     /// chains itself.
-    pub(crate) fn of_files(
+    pub(crate) fn from_files(
         alloc: Global,
         sources: &[Source],
         modules: &[Box<ModuleParts>],
@@ -103,7 +107,7 @@ impl PrecomputedChains {
         }
     }
 
-    /// The precomputed type chains of all modules, if there are any.
+    /// Borrows the precomputed type chains of all modules; `None` if none are precomputed.
     pub(crate) fn precomputed(&self) -> Option<&PrecomputedTypes>
         ensures { option_copied result ≡ option_map (λ s. s.value) self.now.precomputed }
     {

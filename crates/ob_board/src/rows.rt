@@ -1,4 +1,6 @@
-//! The locations of a file's unresolved identifiers.
+//! Finds the paths, positions and names of a file's unresolved identifiers from their token numbers. In the clauses:
+//! `in_text`: the tokens are nonempty ranges of the bytes, each before the next. `lined`: `lines` has the offsets of the line starts.
+//! `text`, `texts`: the bytes of the tokens are UTF-8.
 ghost use Rattle.std.specs.Prelude.{◌≡◌, map, All, IfOk};
 ghost use Rattle.std.specs.Arc.{arc_value};
 ghost use Rattle.std.specs.Str.{IsUtf8};
@@ -13,8 +15,8 @@ use ob_scan::{Lines, Token, TokenTexts, lines};
 use std::alloc::{AllocError, Global};
 use std::sync::Arc;
 
-/// The location and the name of an unresolved identifier.
-fn row_of(
+/// The unresolved identifier at token `number`, with the path of its file, its position and its name.
+fn locate_unresolved(
     alloc: Global,
     path: &Arc<String>,
     text: &TokenTexts,
@@ -32,8 +34,8 @@ fn row_of(
     Ok(Unresolved { path, at, name })
 }
 
-/// The locations and the names of these identifiers.
-pub(crate) fn rows_of(
+/// The unresolved identifiers at the tokens `numbers`, in this order, each with the path of its file, its position and its name.
+pub(crate) fn locate_all_unresolved(
     alloc: Global,
     path: &str,
     bytes: &[u8],
@@ -52,7 +54,7 @@ pub(crate) fn rows_of(
     let shared = Arc::new(alloc, String::from_str(alloc, path)?)?;
     let mut rows = Vec::new(alloc);
     for number in numbers {
-        rows.push(row_of(alloc, &shared, &text, &lines, *number)?)?;
+        rows.push(locate_unresolved(alloc, &shared, &text, &lines, *number)?)?;
     }
     Ok(rows)
 }

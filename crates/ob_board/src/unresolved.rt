@@ -1,9 +1,10 @@
-//! Unresolved identifiers.
+//! The type of an unresolved identifier of a tree.
 
 use ob_scan::Position;
 use std::sync::Arc;
 
-/// An identifier that can't be resolved: the path of its file, which all identifiers of the file share, its position, and its name.
+/// An unresolved identifier, which denotes nothing: the path of its file, its position in the file, and its name. The identifiers of a file
+/// share one allocation of the path.
 #[derive(Drop)]
 pub struct Unresolved {
     pub path: Arc<String>,

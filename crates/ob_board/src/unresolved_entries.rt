@@ -1,12 +1,15 @@
-//! The entries of modules for `unresolved_in_tree`: the interface and the unresolved identifiers of each module.
+//! Makes the entries of modules for `unresolved_in_tree`: the interface and the unresolved identifiers of each module. In the clauses:
+//! `input`: the parts are those of a file of the tree, with the interfaces of the modules that its module reaches.
+//! `in_text`: the tokens are nonempty ranges of the bytes, each before the next. `few`: indices of reached modules fit 32 bits.
+//! `precomputed_chains`: the chains are those of the tree's modules. `seen`: the parts and the graph are those of the sources.
 ghost use Rattle.std.specs.Prelude.{◌≡◌, ◌≤◌, ◌^◌, length, map, IfOk, List};
 ghost use Rattle.std.specs.Arc.{arc_value};
 ghost use Rattle.module_table.specs.Tables.{rows_in};
 ghost use Rattle.ob_scan.specs.Spelling.{AreInText};
 ghost use Rattle.ob_scan.specs.Texts.{text_at};
-ghost use Rattle.ob_targets.specs.declared.target.Reference.{Reference};
+ghost use Rattle.ob_view.specs.declared.target.Reference.{Reference};
 ghost use Rattle.ob_targets.specs.Refers.{unresolved, AreReferences};
-ghost use Rattle.ob_types.specs.World.{world};
+ghost use Rattle.ob_view.specs.World.{world};
 ghost use Rattle.ob_board.specs.PrecomputedChains.{AreChainsOf, ServesModule};
 ghost use Rattle.ob_board.specs.SourceParts.{file_models, AreSourcesRead};
 ghost use Rattle.ob_board.specs.Entries.{interfaces_of};
@@ -15,10 +18,10 @@ ghost use Rattle.ob_board.specs.Unresolved.{unresolved_model};
 
 use crate::Unresolved;
 use crate::files::NamedFiles;
-use crate::laws::reached_by_names;
+use crate::laws::reach_by_names_agrees;
 use crate::module_types::module_types;
 use crate::precomputed_chains::PrecomputedChains;
-use crate::rows::rows_of;
+use crate::rows::locate_all_unresolved;
 use board_workers::Work;
 use ob_imports::Graph;
 use ob_interface::Interface;
@@ -31,7 +34,8 @@ use std::marker::{Model, PhantomData};
 use std::sync::Arc;
 use work_board::WorkEntry;
 
-/// The entry of a module: its interface and its unresolved identifiers. The type parameter `F` identifies the tree.
+/// The result of processing a module for `unresolved_in_tree`: the module's name, its interface, and its unresolved identifiers (`rows`).
+/// The type parameter `F` names the files of the tree.
 #[derive(Drop)]
 pub(crate) struct UnresolvedEntry<F: NamedFiles> {
     name: String,
@@ -55,7 +59,7 @@ impl<F: NamedFiles> Model for UnresolvedEntry<F> {
 }
 
 impl<F: NamedFiles> UnresolvedEntry<F> {
-    /// The module's unresolved identifiers.
+    /// Moves the module's unresolved identifiers out of the entry.
     pub(crate) fn into_rows(self) -> Vec<Unresolved>
         ensures { map unresolved_model result.items ≡ self.rows }
     {
@@ -89,7 +93,7 @@ impl<F: NamedFiles> WorkEntry for UnresolvedEntry<F> {
     }
 }
 
-/// The token numbers of a module's unresolved identifiers, by its types.
+/// Finds the token numbers of a module's unresolved identifiers, from the types of the module.
 fn find_unresolved_tokens(alloc: Global, types: &Types<'_>) -> Result<Vec<u32>, AllocError>
     ensures { IfOk result (λ numbers. (refs : List Reference) × (numbers.items ≡ unresolved refs) × AreReferences types.now refs) }
 {
@@ -99,9 +103,9 @@ fn find_unresolved_tokens(alloc: Global, types: &Types<'_>) -> Result<Vec<u32>, 
     numbers
 }
 
-/// The token numbers of a module's unresolved identifiers, by its parts, the interfaces of the modules that it reaches, and the precomputed
-/// type chains.
-fn unresolved_numbers(
+/// Finds the token numbers of a module's unresolved identifiers, from the module's parts, the interfaces of the modules that it reaches,
+/// and the tree's precomputed type chains.
+fn unresolved_tokens_of_module(
     alloc: Global,
     source: &Source,
     parts: &ModuleParts,
@@ -120,7 +124,8 @@ fn unresolved_numbers(
     numbers
 }
 
-/// The entry of a module, by its parts, the interfaces of the modules that it reaches, and the precomputed type chains.
+/// Makes the entry of a module from the module's parts, the interfaces of the modules that it reaches, and the tree's precomputed type
+/// chains.
 fn build_unresolved_entry<F: NamedFiles>(
     alloc: Global,
     source: &Source,
@@ -130,12 +135,13 @@ fn build_unresolved_entry<F: NamedFiles>(
 ) -> Result<UnresolvedEntry<F>, AllocError>
     requires input { IsModuleInput F.files source.now parts.now (map arc_value reached.now) }
     requires precomputed_chains { ServesModule (map arc_value reached.now) precomputed_chains.now }
+    // With `Ok` the entry has the name of the module, which is token 1.
     ensures { IfOk result (λ found. found.name ≡ text_at source.now.bytes.items parts.now.tokens 1) }
 {
     tokens_in_text();
-    let numbers = unresolved_numbers(alloc, source, parts, reached, precomputed_chains)?;
+    let numbers = unresolved_tokens_of_module(alloc, source, parts, reached, precomputed_chains)?;
     let bytes = source.bytes.as_slice();
-    let rows = rows_of(
+    let rows = locate_all_unresolved(
         alloc,
         source.path.as_str(),
         bytes,
@@ -152,7 +158,8 @@ fn build_unresolved_entry<F: NamedFiles>(
     })
 }
 
-/// Computes the entries of a tree's modules. The type parameter `F` identifies the tree. The value in contracts is the graph of imports.
+/// Makes the entries of a tree's modules, each with the module's unresolved identifiers. The type parameter `F` names the files of the
+/// tree. Contracts describe a finder by the tree's graph of imports.
 #[derive(Drop)]
 pub(crate) struct UnresolvedFinder<'a, F: NamedFiles> {
     alloc: Global,
@@ -180,7 +187,7 @@ impl<'a, F: NamedFiles> Model for UnresolvedFinder<'a, F> {
 }
 
 impl<'a, F: NamedFiles> UnresolvedFinder<'a, F> {
-    /// The computation of the entries of these files' modules, with the precomputed type chains.
+    /// A finder for the modules of these files, with the precomputed type chains.
     pub(crate) fn new(
         alloc: Global,
         sources: &'a [Source],
@@ -216,7 +223,7 @@ impl<F: NamedFiles> Work for UnresolvedFinder<'_, F> {
         number: u32,
         parts: &[Arc<Interface>],
     ) -> Result<UnresolvedEntry<F>, AllocError> {
-        reached_by_names();
+        reach_by_names_agrees();
         let place = number as usize;
         let found = build_unresolved_entry(
             self.alloc,

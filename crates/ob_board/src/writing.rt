@@ -1,5 +1,5 @@
-//! The index of a tree with encoded documents. The worker that makes a document encodes it, so the calling thread only writes bytes, and no
-//! document is stored as a message.
+//! Makes the index of a tree with encoded documents. The worker that makes a module's document also encodes it. So the calling thread only
+//! has to write bytes, and no document is kept as a message in memory.
 ghost use Rattle.std.specs.Prelude.{◌≡◌, false, map, IfErr, IfOk};
 ghost use Rattle.std.specs.List.{flat_map};
 ghost use Rattle.std.specs.String.{string_bytes};
@@ -20,7 +20,7 @@ use crate::precomputed_chains::PrecomputedChains;
 use crate::written::EncodedDocument;
 use crate::{IndexOptions, board_graph};
 use board_workers::BoardGate;
-use ob_emit::all_externals;
+use ob_emit::merge_externals;
 use scip_index::{Metadata, SymbolInfo};
 use source_tree::{Source, TreeFault, TreeParts, tree_parts};
 use std::alloc::{AllocError, Global};
@@ -28,24 +28,25 @@ use std::marker::Brand;
 use std::sync::Wait;
 use std::thread::Threads;
 
-/// An index (scip.proto, `Index`) as its parts.
+/// An index (scip.proto, `Index`) whose documents are encoded already.
 #[derive(Drop)]
 pub struct EncodedIndex {
-    /// The metadata.
+    /// The tool, the encoding of the files, and the project root.
     pub metadata: Metadata,
-    /// The records of the documents, in order, as the index contains them.
+    /// The encoded records of the documents, in the order of the files: their concatenation is the field `documents` of an encoded index.
     pub records: Vec<Vec<u8>>,
     pub external_symbols: Vec<SymbolInfo>,
 }
 
-/// The records and the external symbols of all entries, concatenated.
+/// The records of all entries in one list, and the external symbols of all entries in another one (`rows`), both in the order of the
+/// entries.
 #[derive(Drop)]
 struct Gathered {
     records: Vec<Vec<u8>>,
     rows: Vec<SymbolInfo>,
 }
 
-/// Concatenates the records and the external symbols of the entries.
+/// Collects the documents' records of the entries in one list, and the external symbols of the entries in another one.
 fn gather<F: NamedIndex>(alloc: Global, all: Vec<EncodedEntry<F>>) -> Result<Gathered, AllocError>
     ensures records { IfOk result (λ g. map (λ row. row.items) g.records.items ≡ map (λ r. r.bytes) all.items) }
     ensures rows { IfOk result (λ g. map symbol_model g.rows.items ≡ flat_map (λ r. r.externals) all.items) }
@@ -61,7 +62,8 @@ fn gather<F: NamedIndex>(alloc: Global, all: Vec<EncodedEntry<F>>) -> Result<Gat
     Ok(Gathered { records, rows })
 }
 
-/// The records and the external symbols of the tree with these parts, in the order of the files.
+/// Makes the documents' records and the external symbols of the tree from the parts of its files, with at most `workers` workers, in the
+/// order of the files.
 fn records_of_parts<F: NamedIndex + Send + Sync, G: BoardGate + Sync, R: Threads + Wait + Sync>(
     rt: &R,
     alloc: Global,
@@ -71,14 +73,17 @@ fn records_of_parts<F: NamedIndex + Send + Sync, G: BoardGate + Sync, R: Threads
     workers: u32,
     gate: &G,
 ) -> Result<Gathered, AllocError>
+    // The type `F` names the files, the graph and the package.
     requires files { F.files ≡ file_models sources.now tree.now.modules.items }
     requires graph { F.graph ≡ tree.now.graph }
+    // The parts and the graph are those of the sources.
     requires seen { AreSourcesRead sources.now tree.now.modules.items tree.now.graph }
     requires package { string_bytes options.now.package ≡ F.package_name }
+    // The package isn't `.` and doesn't begin with a space.
     requires right { is_wrong_part F.package_name ≡ false }
     ensures { IfOk result (λ g. AreRecordsOf F.files F.package_name (map (λ row. row.items) g.records.items) (map symbol_model g.rows.items)) }
 {
-    let precomputed_chains = PrecomputedChains::of_files(alloc, sources, tree.modules.as_slice());
+    let precomputed_chains = PrecomputedChains::from_files(alloc, sources, tree.modules.as_slice());
     let graph = board_graph(alloc, &tree.graph)?;
     let work = EntryBuilder::<F, EncodedEntry<F>>::new(
         alloc,
@@ -88,12 +93,13 @@ fn records_of_parts<F: NamedIndex + Send + Sync, G: BoardGate + Sync, R: Threads
         options.package.as_str(),
         precomputed_chains,
     );
-    let all = board_workers::entries(rt, alloc, &graph, workers, &work, gate);
+    let all = board_workers::make_entries(rt, alloc, &graph, workers, &work, gate);
     drop(graph);
     gather(alloc, all?)
 }
 
-/// The records and the external symbols of a tree, whose files are read by at most `workers` threads. Fails with the fault of the tree.
+/// Makes the documents' records and the external symbols of a tree. At most `workers` threads read the files. Fails with the fault of the
+/// tree, or with `TreeFault::Memory` if an allocation fails.
 fn tree_records<G: BoardGate + Sync, R: Threads + Wait + Sync>(
     rt: &R,
     alloc: Global,
@@ -114,12 +120,13 @@ fn tree_records<G: BoardGate + Sync, R: Threads + Wait + Sync>(
     Ok(gathered?)
 }
 
-/// The parts of the index with these records and external symbols.
+/// Makes the encoded index with these records, in their order, and with these external symbols, sorted by symbol string, each once.
 fn make_encoded_index(
     alloc: Global,
     gathered: Gathered,
     root: &str,
 ) -> Result<EncodedIndex, AllocError>
+    // Each external symbol is the symbol information of a module, or of a name of a module.
     requires { AreExternalRows (map symbol_model gathered.rows.items) }
     ensures metadata { IfOk result (λ w. metadata_model w.metadata ≡ tool_metadata root.now) }
     ensures records { IfOk result (λ w. w.records.items ≡ gathered.records.items) }
@@ -130,14 +137,14 @@ fn make_encoded_index(
     Ok(EncodedIndex {
         metadata,
         records,
-        external_symbols: all_externals(rows),
+        external_symbols: merge_externals(rows),
     })
 }
 
-/// Makes the index of a tree as its parts, with each document as its record in the index that `index_tree` returns. The worker that makes a
+/// Makes the index of a tree, as `index_tree` does, but with each document encoded as its record in the index. The worker that makes a
 /// module's entry encodes its document.
-/// Fails with the fault of the tree, or with its `Memory` if an allocation fails. It may wait for a lock and for its threads.
-pub fn written_index<G: BoardGate + Sync, R: Threads + Wait + Sync>(
+/// Fails with the fault of the tree, or with `TreeFault::Memory` if an allocation fails. It may wait for a lock and for its threads.
+pub fn encode_tree_index<G: BoardGate + Sync, R: Threads + Wait + Sync>(
     rt: &R,
     alloc: Global,
     sources: &[Source],

@@ -1,4 +1,8 @@
-//! The document and the external symbols of a module.
+//! Makes the document and the external symbols of one module, as a message in memory or as an encoded record. In the clauses:
+//! - `spelled`: the bytes spell the tokens. `short`: there are fewer than 2^31 bytes.
+//! - `scoped`: the scopes are those of the module's table. `named`: the names in question are identifiers.
+//! - `few`: indices of reached modules fit 32 bits. `precomputed_chains`: the chains are for a tree that has the reached modules.
+//! - `package`: the package isn't `.` and doesn't begin with a space.
 ghost use Rattle.std.specs.Prelude.{◌≡◌, ◌<◌, ◌≤◌, ◌^◌, false, length, map, IfOk, Ok};
 ghost use Rattle.std.specs.Arc.{arc_value};
 ghost use Rattle.module_table.specs.Tables.{rows_in};
@@ -13,7 +17,8 @@ ghost use Rattle.ob_board.specs.Records.{IsEncoded, IsEncodedBy};
 
 use crate::module_types::module_types;
 use crate::precomputed_chains::PrecomputedChains;
-use ob_emit::laws::{names_of_references, names_of_scopes};
+use crate::reference_laws::reference_names_are_identifiers;
+use ob_emit::laws::scoped_names_are_identifiers;
 use ob_emit::{EmitFault, document, document_record, externals};
 use ob_interface::Interface;
 use ob_resolve::references;
@@ -31,7 +36,7 @@ pub(crate) struct EmittedDocument {
     pub(crate) externals: Vec<SymbolInfo>,
 }
 
-/// The document of a module at this path and its external symbols, by its types.
+/// Makes the document of the module at this path, and the list of its external symbols, from the types of the module.
 fn emit_document(
     alloc: Global,
     path: &str,
@@ -44,12 +49,13 @@ fn emit_document(
     requires package { is_wrong_part package_name.now ≡ false }
     ensures { IfOk result (λ w. IsDocumentBy types.now path.now package_name.now (document_model w.document) (map symbol_model w.externals.items)) }
 {
-    names_of_references();
-    types.invariants();
+    reference_names_are_identifiers();
+    let view = types.view();
+    view.invariants();
     let refs = references(alloc, types)?;
-    match document(alloc, path, types, refs.as_slice(), package_name) {
+    match document(alloc, path, view, refs.as_slice(), package_name) {
         Ok(document) => {
-            let externals = externals(alloc, types, refs.as_slice())?;
+            let externals = externals(alloc, view, refs.as_slice())?;
             Ok(EmittedDocument {
                 document,
                 externals,
@@ -60,8 +66,8 @@ fn emit_document(
     }
 }
 
-/// The document of a module and its external symbols, by its parts, the interfaces of the modules that it reaches, and the precomputed type
-/// chains.
+/// Makes the document and the list of external symbols of a module, from the module's parts, the interfaces of the modules that it reaches,
+/// and the tree's precomputed type chains.
 pub(crate) fn emit_module(
     alloc: Global,
     source: &Source,
@@ -79,21 +85,21 @@ pub(crate) fn emit_module(
     ensures { IfOk result (λ w. IsWritten source.now parts.now (map arc_value reached.now) package_name.now (document_model w.document) (map symbol_model w.externals.items)) }
 {
     tokens_in_text();
-    names_of_scopes();
+    scoped_names_are_identifiers();
     let types = module_types(alloc, source, parts, reached, precomputed_chains)?;
     let written = emit_document(alloc, source.path.as_str(), &types, package_name);
     drop(types);
     written
 }
 
-/// The record of a module's document, and the external symbols that the module uses.
+/// The encoded record of a module's document (`bytes`), and the external symbols that the module uses.
 #[derive(Drop)]
 pub(crate) struct EncodedDocument {
     pub(crate) bytes: Vec<u8>,
     pub(crate) externals: Vec<SymbolInfo>,
 }
 
-/// The record of the document of a module at this path and its external symbols, by its types.
+/// Makes the encoded record of the document of the module at this path, and the list of its external symbols, from the types of the module.
 fn encode_document(
     alloc: Global,
     path: &str,
@@ -106,12 +112,13 @@ fn encode_document(
     requires package { is_wrong_part package_name.now ≡ false }
     ensures { IfOk result (λ w. IsEncodedBy types.now path.now package_name.now w.bytes.items (map symbol_model w.externals.items)) }
 {
-    names_of_references();
-    types.invariants();
+    reference_names_are_identifiers();
+    let view = types.view();
+    view.invariants();
     let refs = references(alloc, types)?;
-    match document_record(alloc, path, types, refs.as_slice(), package_name) {
+    match document_record(alloc, path, view, refs.as_slice(), package_name) {
         Ok(bytes) => {
-            let externals = externals(alloc, types, refs.as_slice())?;
+            let externals = externals(alloc, view, refs.as_slice())?;
             Ok(EncodedDocument { bytes, externals })
         }
         Err(EmitFault::Memory) => Err(AllocError),
@@ -119,8 +126,8 @@ fn encode_document(
     }
 }
 
-/// The record of a module's document and its external symbols, by its parts, the interfaces of the modules that it reaches, and the
-/// precomputed type chains. It is the record of the document that `emit_module` returns; no message is made.
+/// Makes the encoded record of a module's document and the list of the module's external symbols, as `emit_module` does, but without making
+/// the document as a message in memory.
 pub(crate) fn encode_module(
     alloc: Global,
     source: &Source,
@@ -138,7 +145,7 @@ pub(crate) fn encode_module(
     ensures { IfOk result (λ w. IsEncoded source.now parts.now (map arc_value reached.now) package_name.now w.bytes.items (map symbol_model w.externals.items)) }
 {
     tokens_in_text();
-    names_of_scopes();
+    scoped_names_are_identifiers();
     let types = module_types(alloc, source, parts, reached, precomputed_chains)?;
     let encoded = encode_document(alloc, source.path.as_str(), &types, package_name);
     drop(types);

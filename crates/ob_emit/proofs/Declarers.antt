@@ -4,7 +4,7 @@ use Rattle.std.specs.Prelude.{◌==◌, find, not}
 use Rattle.module_table.specs.declared.rows.Declared.{Declared}
 use Rattle.module_table.specs.declared.rows.DeclGroup.{DeclGroup}
 use Rattle.module_table.specs.Parts.{Rows}
-use Rattle.ob_types.specs.World.{World, declared_at, decl_group_from, decl_group_of}
+use Rattle.ob_view.specs.World.{World, declared_at, decl_group_from, decl_group_of}
 use Rattle.ob_emit.specs.Symbols.{is_local}
 
 -- the declaration group that was found, and the identifier

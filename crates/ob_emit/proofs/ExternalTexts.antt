@@ -8,12 +8,12 @@ use Rattle.scip_symbol.specs.SymbolTexts.{DescriptorModel, SymbolModel, Local, G
 use Rattle.scip_symbol.proofs.PlainTexts.{texts_apart}
 use Rattle.scip_index.specs.Plain.{SymbolModel as SymbolRow}
 use Rattle.module_table.specs.declared.rows.Import.{Import}
-use Rattle.ob_targets.specs.declared.target.Reference.{Reference}
-use Rattle.ob_targets.specs.declared.target.Target.{Target}
-use Rattle.ob_targets.specs.declared.target.Target.TheVariants as targets
-use Rattle.ob_types.specs.World.{World, module_of_item, text}
+use Rattle.ob_view.specs.declared.target.Reference.{Reference}
+use Rattle.ob_view.specs.declared.target.Target.{Target}
+use Rattle.ob_view.specs.declared.target.Target.TheVariants as targets
+use Rattle.ob_view.specs.World.{World, module_of_item, text}
 use Rattle.module_table.proofs.Elements.{contains_slice, slice_contains, some_one}
-use Rattle.ob_emit.specs.Externals.{AreExternalRows, IsExternalRow, external_module, external_row, externals_in, of_module, of_name, symbol_info}
+use Rattle.ob_emit.specs.Externals.{AreExternalRows, IsExternalRow, external_module, external_symbol_info, externals_in, of_module, of_name, symbol_info}
 use Rattle.ob_emit.specs.Named.{NamesAreIdentifiers, ReferencesAreIdentifiers, IsName}
 use Rattle.ob_emit.specs.Symbols.{descriptor, global, module_path, package_of}
 use Rattle.ob_emit.proofs.Naming.{import_named}
@@ -78,7 +78,7 @@ module _ (w : World) (named : NamesAreIdentifiers w) where
     | inr b ↦ absurd (let none : None ≡ Some x = rw b at e in cc)
   ]
 
-  row_told : (t : Target) (x : SymbolRow) → ((item name : ℕ) → t ≡ targets.External item name → IsName (text w name)) → external_row w t ≡ Some x → IsExternalRow x
+  row_told : (t : Target) (x : SymbolRow) → ((item name : ℕ) → t ≡ targets.External item name → IsName (text w name)) → external_symbol_info w t ≡ Some x → IsExternalRow x
   row_told (targets.Declared k) x names e = absurd (let none : None ≡ Some x = e in cc)
   row_told (targets.Imported i d) x names e = absurd (let none : None ≡ Some x = e in cc)
   row_told (targets.External item name) x names e = name_row item name x (slice_get w.rows.imports item) (names item name refl) refl e
@@ -90,5 +90,5 @@ module _ (w : World) (named : NamesAreIdentifiers w) where
   pub rows_told : (refs : List Reference) → ReferencesAreIdentifiers w refs → AreExternalRows (externals_in w refs)
   rows_told refs names x h =
       let at = slice_contains (externals_in w refs) x h in
-      let r = row_of (λ (r : Reference). external_row w r.target) refs x at.0 at.1 in
+      let r = row_of (λ (r : Reference). external_symbol_info w r.target) refs x at.0 at.1 in
       row_told r.row.target x (names.external r.row (contains_slice refs r.place r.row r.at)) r.tells

@@ -11,33 +11,33 @@ use Rattle.std.proofs.lemmas.Option.{slice_get-get_or}
 use Rattle.std.proofs.lemmas.Slice.Eq.{bytes_eq-Decides}
 use Rattle.indexmap.specs.IndexSet.{contains, IndexSet}
 use Rattle.module_table.proofs.Elements.{contains_slice, slice_contains}
-use Rattle.ob_targets.specs.declared.target.Reference.{Reference}
-use Rattle.ob_types.specs.World.{World}
+use Rattle.ob_view.specs.declared.target.Reference.{Reference}
+use Rattle.ob_view.specs.World.{World}
 use Rattle.scip_index.specs.Plain.{SymbolModel as SymbolRow}
-use Rattle.ob_emit.specs.Externals.{external_row, externals_in, AreExternals}
-use Rattle.ob_emit.specs.StoredTexts.{external_row_of_key, is_same_external_key, CoverExternals, ExternalKey}
+use Rattle.ob_emit.specs.Externals.{external_symbol_info, externals_in, AreExternals}
+use Rattle.ob_emit.specs.StoredTexts.{external_symbol_info_of_key, is_same_external_key, CoverExternals, ExternalKey}
 use Rattle.ob_emit.specs.Named.{ReferencesAreIdentifiers}
 use Rattle.ob_emit.proofs.NamesGiven.{row_of}
 use Rattle.ob_emit.proofs.OneMember.{mapped}
 
 -- targets with equal keys have equal symbol information
 module _ (w : World) where
-  one_name : (item : ℕ) (m n : Option (Bor (List ℕ))) → option_eq (λ (a b : Bor (List ℕ)). bytes_eq a.now b.now) m n ≡ true → external_row_of_key w (item, m) ≡ external_row_of_key w (item, n)
+  one_name : (item : ℕ) (m n : Option (Bor (List ℕ))) → option_eq (λ (a b : Bor (List ℕ)). bytes_eq a.now b.now) m n ≡ true → external_symbol_info_of_key w (item, m) ≡ external_symbol_info_of_key w (item, n)
   one_name item None None e = refl
   one_name item None (Some n) e = absurd cc
   one_name item (Some m) None e = absurd cc
   one_name item (Some m) (Some n) e = rw ((bytes_eq-Decides m.now n.now).0 e) refl
 
-  one_outside : (a b : ExternalKey) → is_same_external_key a b ≡ true → external_row_of_key w a ≡ external_row_of_key w b
+  one_outside : (a b : ExternalKey) → is_same_external_key a b ≡ true → external_symbol_info_of_key w a ≡ external_symbol_info_of_key w b
   one_outside a b e =
       let parts = and_parts (nat_eq a.0 b.0) (option_eq (λ (m n : Bor (List ℕ)). bytes_eq m.now n.now) a.1 b.1) e in
-      ap (λ (item : ℕ). external_row_of_key w (item, a.1)) (eqb-true a.0 b.0 parts.0) ∙ one_name b.0 a.1 b.1 parts.1
+      ap (λ (item : ℕ). external_symbol_info_of_key w (item, a.1)) (eqb-true a.0 b.0 parts.0) ∙ one_name b.0 a.1 b.1 parts.1
 
 -- the invariant: the kept references are references, and the symbol information of the visited keys and references is theirs
 pub record AreFirst {S : Type 0} (w : World) (refs : List Reference) (seen : IndexSet ExternalKey S) (part stored_text : List Reference) : Type 0 where
   pub among : (r : Reference) → Contains stored_text r → Contains refs r
-  pub known : (k : ExternalKey) (x : SymbolRow) → contains is_same_external_key seen k ≡ true → external_row_of_key w k ≡ Some x → Contains (externals_in w stored_text) x
-  pub each : (r : Reference) (x : SymbolRow) → Contains part r → external_row w r.target ≡ Some x → Contains (externals_in w stored_text) x
+  pub known : (k : ExternalKey) (x : SymbolRow) → contains is_same_external_key seen k ≡ true → external_symbol_info_of_key w k ≡ Some x → Contains (externals_in w stored_text) x
+  pub each : (r : Reference) (x : SymbolRow) → Contains part r → external_symbol_info w r.target ≡ Some x → Contains (externals_in w stored_text) x
 
 only_one : {X : Type 0} (x y : X) → Contains (x ∷ []) y → x ≡ y
 only_one x y (k, l, e) = let zero_is : k ≡ 0 = omega (arith, l) in subst (λ (n : ℕ). get_or (x ∷ []) n y ≡ y) zero_is e
@@ -48,25 +48,25 @@ module _ {S : Type 0} (w : World) (refs : List Reference) (i : ℕ) (d : Referen
 
   -- one more reference, whose symbol information is there already
   module _ (more : List Reference) (stay : (x : SymbolRow) → Contains (externals_in w stored_text) x → Contains (externals_in w more) x)
-      (here : (x : SymbolRow) → external_row w this.target ≡ Some x → Contains (externals_in w more) x) where
-    each_more : (r : Reference) (x : SymbolRow) → Contains (take (i + 1) refs) r → external_row w r.target ≡ Some x → Contains (externals_in w more) x
+      (here : (x : SymbolRow) → external_symbol_info w this.target ≡ Some x → Contains (externals_in w more) x) where
+    each_more : (r : Reference) (x : SymbolRow) → Contains (take (i + 1) refs) r → external_symbol_info w r.target ≡ Some x → Contains (externals_in w more) x
     each_more r x there e = elim (Contains-append_cases (take i refs) (this ∷ []) r (subst (λ (rs : List Reference). Contains rs r) (take_more refs i d l) there)) [
       | inl earlier ↦ stay x (before.each r x earlier e)
-      | inr last ↦ here x (ap (λ (s : Reference). external_row w s.target) (only_one this r last) ∙ e)
+      | inr last ↦ here x (ap (λ (s : Reference). external_symbol_info w s.target) (only_one this r last) ∙ e)
     ]
 
   -- the reference has no external target
-  pub nothing_more : option_and_then (external_row_of_key w) None ≡ external_row w this.target → AreFirst w refs old (take (i + 1) refs) stored_text
+  pub nothing_more : option_and_then (external_symbol_info_of_key w) None ≡ external_symbol_info w this.target → AreFirst w refs old (take (i + 1) refs) stored_text
   nothing_more e = record {
     among = before.among;
     known = before.known;
     each = each_more stored_text (λ x h. h) (λ x f. absurd (let none : None ≡ Some x = e ∙ f in cc));
   }
 
-  module _ (new : IndexSet ExternalKey S) (key : ExternalKey) (is : external_row_of_key w key ≡ external_row w this.target)
+  module _ (new : IndexSet ExternalKey S) (key : ExternalKey) (is : external_symbol_info_of_key w key ≡ external_symbol_info w this.target)
       (updates : (q : ExternalKey) → contains is_same_external_key new q ≡ cond (is_same_external_key key q) true (contains is_same_external_key old q)) where
     known_more : (more : List Reference) → ((x : SymbolRow) → Contains (externals_in w stored_text) x → Contains (externals_in w more) x)
-        → ((x : SymbolRow) → external_row w this.target ≡ Some x → Contains (externals_in w more) x) → (q : ExternalKey) (x : SymbolRow) → contains is_same_external_key new q ≡ true → external_row_of_key w q ≡ Some x
+        → ((x : SymbolRow) → external_symbol_info w this.target ≡ Some x → Contains (externals_in w more) x) → (q : ExternalKey) (x : SymbolRow) → contains is_same_external_key new q ≡ true → external_symbol_info_of_key w q ≡ Some x
         → Contains (externals_in w more) x
     known_more more stay here q x h e = at (is_same_external_key key q) refl (sym (updates q) ∙ h)
       where
@@ -77,7 +77,7 @@ module _ {S : Type 0} (w : World) (refs : List Reference) (i : ℕ) (d : Referen
     -- the reference's target has been visited
     pub seen_more : contains is_same_external_key old key ≡ true → AreFirst w refs new (take (i + 1) refs) stored_text
     seen_more h =
-        let here : (x : SymbolRow) → external_row w this.target ≡ Some x → Contains (externals_in w stored_text) x = λ x f. before.known key x h (is ∙ f) in
+        let here : (x : SymbolRow) → external_symbol_info w this.target ≡ Some x → Contains (externals_in w stored_text) x = λ x f. before.known key x h (is ∙ f) in
         record {
           among = before.among;
           known = known_more stored_text (λ x g. g) here;
@@ -88,11 +88,11 @@ module _ {S : Type 0} (w : World) (refs : List Reference) (i : ℕ) (d : Referen
     pub first_more : AreFirst w refs new (take (i + 1) refs) (stored_text ++ this ∷ [])
     first_more =
         let more = stored_text ++ this ∷ [] in
-        let split = filter_map-append (λ (r : Reference). external_row w r.target) stored_text (this ∷ []) in
+        let split = filter_map-append (λ (r : Reference). external_symbol_info w r.target) stored_text (this ∷ []) in
         let stay : (x : SymbolRow) → Contains (externals_in w stored_text) x → Contains (externals_in w more) x =
         λ x g. subst (λ (rows : List SymbolRow). Contains rows x) (sym split) (Contains-append_left (externals_in w stored_text) (externals_in w (this ∷ [])) x g) in
-        let here : (x : SymbolRow) → external_row w this.target ≡ Some x → Contains (externals_in w more) x =
-        λ x f. mapped (λ (r : Reference). external_row w r.target) more this x (Contains-append_right stored_text (this ∷ []) this (0, omega arith, refl)) f in
+        let here : (x : SymbolRow) → external_symbol_info w this.target ≡ Some x → Contains (externals_in w more) x =
+        λ x f. mapped (λ (r : Reference). external_symbol_info w r.target) more this x (Contains-append_right stored_text (this ∷ []) this (0, omega arith, refl)) f in
         record {
           among = λ r h. elim (Contains-append_cases stored_text (this ∷ []) r h) [
             | inl earlier ↦ before.among r earlier
@@ -118,7 +118,7 @@ module _ (w : World) (refs stored_text : List Reference) (enough : CoverExternal
   kept_named names = record { own = λ r h. names.own r (enough.among r h); external = λ r h. names.external r (enough.among r h) }
 
   abbrev row : Reference → Option SymbolRow
-  row r = external_row w r.target
+  row r = external_symbol_info w r.target
 
   pub in_all : (x : SymbolRow) → Contains (externals_in w stored_text) x → Contains (externals_in w refs) x
   in_all x h =

@@ -10,7 +10,7 @@ use Rattle.std.specs.String.{string_bytes}
 use Rattle.std.specs.Str.{bytes_eq}
 use Rattle.std.proofs.lemmas.Slice.Eq.{bytes_eq-Decides}
 use Rattle.indexmap.specs.IndexMap.{get, IndexMap}
-use Rattle.ob_types.specs.World.{World}
+use Rattle.ob_view.specs.World.{World}
 use Rattle.ob_emit.specs.declared.imported_cache.ImportedText.{ImportedText}
 use Rattle.scip_symbol.specs.SymbolTexts.{canonical_text}
 use Rattle.ob_emit.specs.StoredTexts.{is_same_name_key, named_symbol, AreExternalTexts, AreImportedTexts, AreTextsByKey, AreModuleTexts, NameKey}

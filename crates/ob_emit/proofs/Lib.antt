@@ -1,5 +1,4 @@
 pub mod Declarers
-pub mod DefinedRanges
 pub mod ExternalOrder
 pub mod ExternalTexts
 pub mod FirstUses
@@ -21,7 +20,5 @@ pub mod SeenOrder
 pub mod SeenOwners
 pub mod SeenPaths
 pub mod SeenSymbols
-pub mod SomeSymbol
-pub mod SomeTargets
 pub mod SymbolsTexted
 pub mod Texting

@@ -14,8 +14,8 @@ use Rattle.ob_scan.specs.Texts.{text_at}
 use Rattle.scopes.specs.Members.{decl_group_at, declared_member, members_of}
 use Rattle.module_table.proofs.Elements.{contains_slice, some_one}
 use Rattle.ob_scope.proofs.Names.{same_test}
-use Rattle.ob_types.specs.World.{World, declared_at, decl_group_from, decl_group_of, text}
-use Rattle.ob_types.specs.World.{owner_at}
+use Rattle.ob_view.specs.World.{World, declared_at, decl_group_from, decl_group_of, text}
+use Rattle.ob_view.specs.World.{owner_at}
 use Rattle.ob_interface.specs.Interfaces.{Declaration, ModuleInterface}
 use Rattle.ob_interface.specs.Placed.{declaration_at, owner_index}
 use Rattle.module_table.specs.declared.rows.DeclKind.{DeclKind}

@@ -11,7 +11,7 @@ use Rattle.module_table.specs.declared.rows.Record.{Record as RecordRow}
 use Rattle.scopes.specs.declared.members.Member.{Member}
 use Rattle.scopes.specs.Members.{decl_group_at, declared_member, members_of, group_scope}
 use Rattle.scopes.specs.Scope.{HasNoDuplicates}
-use Rattle.ob_types.specs.World.{World, declared_at, decl_group_from, decl_group_of, owner_at, record_at}
+use Rattle.ob_view.specs.World.{World, declared_at, decl_group_from, decl_group_of, owner_at, record_at}
 
 pub in_head : {X : Type 0} (x : X) (xs : List X) → Contains (x ∷ xs) x
 in_head x xs = (zero, omega arith, refl)

@@ -16,7 +16,7 @@ use Rattle.scopes.specs.declared.members.Scope.{Scope}
 use Rattle.scopes.specs.declared.members.Scope.TheVariants.{Block, Record}
 use Rattle.scopes.specs.Members.{members_of, group_scope}
 use Rattle.ob_scan.specs.Texts.{text_at}
-use Rattle.ob_types.specs.World.{World, text, decl_group_of, owner_at}
+use Rattle.ob_view.specs.World.{World, text, decl_group_of, owner_at}
 use Rattle.scip_symbol.specs.declared.kind.DescriptorKind.{DescriptorKind}
 use Rattle.scip_symbol.specs.declared.kind.DescriptorKind.TheVariants.{Namespace, Term}
 use Rattle.scip_symbol.specs.SymbolTexts.{DescriptorModel, SymbolModel, Local}

@@ -8,7 +8,7 @@ use Rattle.module_table.specs.declared.rows.DeclKind.{DeclKind}
 use Rattle.ob_interface.specs.Interfaces.{Declaration, ModuleInterface}
 use Rattle.ob_interface.specs.Placed.{declaration_at, owner_index}
 use Rattle.module_table.proofs.Elements.{some_one}
-use Rattle.ob_types.specs.World.{World, decl_group_of, owner_at, text}
+use Rattle.ob_view.specs.World.{World, decl_group_of, owner_at, text}
 use Rattle.scip_symbol.specs.declared.kind.DescriptorKind.{DescriptorKind}
 use Rattle.scip_symbol.specs.declared.kind.DescriptorKind.TheVariants.{Term}
 use Rattle.ob_emit.specs.StoredTexts.{OwnersPrecede}

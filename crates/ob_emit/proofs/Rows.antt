@@ -5,9 +5,9 @@ use Rattle.std.specs.Option.{option_map}
 use Rattle.std.proofs.lemmas.List.{map_push, take_all, take_more}
 use Rattle.std.proofs.lemmas.List.Elements.{filter_map-append}
 use Rattle.std.proofs.lemmas.Option.{get_or_from_slice_get, slice_get-get_or}
-use Rattle.ob_targets.specs.declared.target.Reference.{Reference}
-use Rattle.ob_targets.specs.declared.target.Target.TheVariants as targets
-use Rattle.ob_types.specs.World.{World, text}
+use Rattle.ob_view.specs.declared.target.Reference.{Reference}
+use Rattle.ob_view.specs.declared.target.Target.TheVariants as targets
+use Rattle.ob_view.specs.World.{World, text}
 use Rattle.ob_emit.specs.Named.{ReferencesAreIdentifiers, IsName}
 
 pub external_named : (w : World) (refs : List Reference) → ReferencesAreIdentifiers w refs → (i : ℕ) (d : Reference) → i < length refs → (item name : ℕ) → (get_or refs i d).target ≡ targets.External item name → IsName (text w name)

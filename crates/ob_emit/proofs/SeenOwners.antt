@@ -21,12 +21,17 @@ use Rattle.table_laws.specs.Owners.{has_type, EndsTypeExpr, IsFieldOf, IsOfRecor
 use Rattle.table_laws.proofs.StandingModules.{behind_first, ends_form, has_owner, of_record}
 use Rattle.module_table.proofs.Around.{ascend_one}
 use Rattle.module_table.proofs.Elements.{contains_slice, slice_contains}
-use Rattle.ob_types.specs.World.{World, owner_at}
+use Rattle.ob_view.specs.World.{World, owner_at, record_at}
 use Rattle.ob_emit.specs.DistinctSymbols.{exported_tokens}
+use Rattle.ob_emit.proofs.Numbered.{find_among}
 use Rattle.ob_emit.proofs.SeenLists.{find_only, last_map, last_passed, passed, position_first, PassedAt}
 use Rattle.ob_emit.proofs.SeenOrder.{ascend, number_there, index_of, PlaceOf}
 use Rattle.ob_emit.proofs.SeenSymbols.{row_at, seen_by, RowAt, SeenBy}
-use Rattle.ob_emit.proofs.SomeSymbol.{owner_is}
+
+-- the owner of a record
+pub owner_is : (w : World) → AreRowsSorted w.rows → (row : RecordRow) (r : ℕ) → Contains w.rows.records row → row.number ≡ r → owner_at w r ≡ Some row.owner
+unfolding owner_at record_at
+owner_is w order row r h e = rw (find_among (λ (x : RecordRow). x.number) w.rows.records r row order.records h e) refl
 
 -- a declaration with a type is in the interface
 seen_type : (s : DeclKind) → has_type s ≡ true → is_exportable s ≡ true
@@ -154,7 +159,7 @@ module _ (v : World) (m : Module) (same : v.rows ≡ rows_of m) (order : AreRows
         place = p.place;
         it = it;
         at = p.at;
-        here = owner_is v m same order x.row r x.among x.number;
+        here = owner_is v order x.row r x.among x.number;
         there = ap (owner_index (interface_of v.bytes v.tokens v.rows)) (sym x.number) ∙ there;
         number = number;
         before = x.before;

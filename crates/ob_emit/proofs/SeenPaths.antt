@@ -12,7 +12,7 @@ use Rattle.module_table.specs.Order.{AreRowsSorted}
 use Rattle.ob_interface.specs.Interfaces.{declaration_of, interface_of, module_level_by, Declaration, ModuleInterface}
 use Rattle.ob_interface.specs.Placed.{owner_index}
 use Rattle.module_table.proofs.Elements.{contains_slice, some_one}
-use Rattle.ob_types.specs.World.{World, imported_declaration, owner_at, text}
+use Rattle.ob_view.specs.World.{World, imported_declaration, owner_at, text}
 use Rattle.scip_symbol.specs.declared.kind.DescriptorKind.{DescriptorKind}
 use Rattle.scip_symbol.specs.declared.kind.DescriptorKind.TheVariants.{Term}
 use Rattle.scip_symbol.specs.SymbolTexts.{DescriptorModel}
@@ -137,8 +137,8 @@ module _ (v : World) (m : Module) (same : v.rows ≡ rows_of m) (order : AreRows
 pub elsewhere : (w : World) (m : ModuleInterface) (p : List ℕ) (i d : ℕ) → slice_get w.reached i ≡ Some m → imported_symbol w p i d ≡ option_map (global p) (interface_path m d)
 elsewhere w m p i d there = rw there refl
 
-pub one_symbol : (w v : World) (m : Module) (p : List ℕ) (i d k : ℕ) (it : Declaration) → v.rows ≡ rows_of m → AreRowsSorted v.rows → slice_get w.reached i ≡ Some (interface_of v.bytes v.tokens v.rows)
+pub imported_symbol_equals_declared : (w v : World) (m : Module) (p : List ℕ) (i d k : ℕ) (it : Declaration) → v.rows ≡ rows_of m → AreRowsSorted v.rows → slice_get w.reached i ≡ Some (interface_of v.bytes v.tokens v.rows)
     → slice_get (exported_tokens v) d ≡ Some k → imported_declaration w i d ≡ Some it → imported_symbol w p i d ≡ declared_symbol v p k
-one_symbol w v m p i d k it same order reached number is =
+imported_symbol_equals_declared w v m p i d k it same order reached number is =
     let at : slice_get (interface_of v.bytes v.tokens v.rows).declarations d ≡ Some it = seen_at w (interface_of v.bytes v.tokens v.rows) i d it reached is in
     elsewhere w (interface_of v.bytes v.tokens v.rows) p i d reached ∙ ap (option_map (global p)) (path_seen_is v m same order d k it number at) ∙ sym (symbol_here v m same order p d k it number at)

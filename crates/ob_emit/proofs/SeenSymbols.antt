@@ -9,7 +9,7 @@ use Rattle.module_table.specs.declared.rows.DeclGroup.{DeclGroup}
 use Rattle.module_table.specs.Order.{AreRowsSorted}
 use Rattle.ob_interface.specs.Interfaces.{declaration, declaration_by, is_module_level, is_exportable, module_level_by, Declaration, ModuleInterface}
 use Rattle.ob_interface.specs.Placed.{declaration_at}
-use Rattle.ob_types.specs.World.{World, imported_declaration, declared_at, decl_group_from, decl_group_of}
+use Rattle.ob_view.specs.World.{World, imported_declaration, declared_at, decl_group_from, decl_group_of}
 use Rattle.module_table.proofs.Elements.{contains_slice}
 use Rattle.ob_emit.specs.Symbols.{declared_symbol, global, is_local, declared_path, declared_step_by, declared_steps}
 use Rattle.ob_emit.proofs.Naming.{found_there}

@@ -14,9 +14,9 @@ use Rattle.module_table.specs.declared.rows.Import.{Import}
 use Rattle.module_table.specs.Tables.{module_name_token}
 use Rattle.ob_interface.specs.Interfaces.{ModuleInterface}
 use Rattle.module_table.proofs.Elements.{some_one}
-use Rattle.ob_targets.specs.declared.target.Target.{Target}
-use Rattle.ob_targets.specs.declared.target.Target.TheVariants as targets
-use Rattle.ob_types.specs.World.{World, module_of_item, text}
+use Rattle.ob_view.specs.declared.target.Target.{Target}
+use Rattle.ob_view.specs.declared.target.Target.TheVariants as targets
+use Rattle.ob_view.specs.World.{World, module_of_item, text}
 use Rattle.scip_symbol.specs.declared.kind.DescriptorKind.TheVariants.{Namespace, Term}
 use Rattle.scip_symbol.specs.Outcomes.{begins_with_space, is_stop, is_wrong_part}
 use Rattle.scip_symbol.specs.SymbolTexts.{BeginsLocal, DescriptorText, DescriptorTexts, IsOptionalPart, DescriptorModel, SymbolModel, Local, SymbolText, are_simple, is_simple, canonical_descriptor_text, canonical_name, canonical_text}
@@ -118,8 +118,8 @@ digits_simple : (ds : List ℕ) → AllDigits 10 ds → are_simple ds ≡ true
 digits_simple [] h = refl
 digits_simple (c ∷ ds) h = rw (digit_simple c h.0) (digits_simple ds h.1)
 
-local_text : (n : ℕ) → n < 2 ^ 64 → SymbolText (Local (decimal n)) (canonical_text (Local (decimal n)))
-local_text n l =
+local_symbol_text : (n : ℕ) → n < 2 ^ 64 → SymbolText (Local (decimal n)) (canonical_text (Local (decimal n)))
+local_symbol_text n l =
     let numeral = (decimal_is_IsNumeral n l).0 in
     (record { some = λ none. absurd (let size : length (decimal n) ≡ 0 = ap length none in omega (arith, size, numeral.0)); simple = digits_simple (decimal n) numeral.1 }, refl)
 
@@ -130,7 +130,7 @@ module _ (w : World) (p : List ℕ) (names : NamesAreIdentifiers w) (right : is_
   by_symbol : (i : ℕ) (d : Declared) (s : SymbolModel) → SymbolBy w p i d s → HasText s
   by_symbol i d s (within is_d is) =
       let count = count_by-le-length (is_local w) (take i w.rows.declared) in
-      subst HasText (sym is) (local_text (count_by (is_local w) (take i w.rows.declared)) (omega (arith, count, length-take i w.rows.declared, few)))
+      subst HasText (sym is) (local_symbol_text (count_by (is_local w) (take i w.rows.declared)) (omega (arith, count, length-take i w.rows.declared, few)))
   by_symbol i d s (outside {ds = ds} path is) =
       let m = text w module_name_token in
       subst HasText (sym is)

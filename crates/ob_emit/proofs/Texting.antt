@@ -6,7 +6,7 @@ use Rattle.std.proofs.lemmas.Bool.{cases_lt}
 use Rattle.std.proofs.lemmas.List.{length-append}
 use Rattle.std.proofs.lemmas.Option.{slice_get_within, get_or_from_slice_get}
 use Rattle.module_table.specs.declared.rows.Declared.{Declared}
-use Rattle.ob_types.specs.World.{World}
+use Rattle.ob_view.specs.World.{World}
 use Rattle.ob_emit.specs.StoredTexts.{AreDeclaredTexts}
 use Rattle.ob_emit.specs.Symbols.{symbol_at}
 use Rattle.std.specs.Prelude.{◌==◌, count_by, position, Bool, true, false, String}
@@ -19,7 +19,7 @@ use Rattle.std.proofs.Common.{append_assoc}
 use Rattle.module_table.specs.Parts.{Rows}
 use Rattle.module_table.specs.declared.rows.Import.{Import}
 use Rattle.module_table.proofs.Elements.{slice_there, some_one}
-use Rattle.ob_types.specs.World.{text}
+use Rattle.ob_view.specs.World.{text}
 use Rattle.ob_interface.specs.Interfaces.{ModuleInterface}
 use Rattle.scip_symbol.specs.SymbolTexts.{canonical_descriptor_text, DescriptorModel}
 use Rattle.scip_symbol.specs.declared.kind.DescriptorKind.TheVariants.{Term}

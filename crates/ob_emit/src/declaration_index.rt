@@ -1,4 +1,5 @@
-//! The indices of declarations by token number, found by a stored index for each sixteenth token.
+//! Finds the index of a declaration by the number of its token, with the help of a stored index for each sixteenth token.
+//! In the clauses, a key `number` is the token number of a declaration.
 ghost use Rattle.std.specs.Prelude.{◌≡◌, ◌==◌, ◌<◌, IfNone, IfOk, IfSome, position};
 ghost use Rattle.std.specs.Bool.{OnTrue};
 ghost use Rattle.module_table.specs.declared.rows.Declared.{Declared};
@@ -8,25 +9,28 @@ ghost use Rattle.ob_emit.specs.Boundaries.{AreBefore, AreAfter, AreBoundaries, I
 use module_table::{Declared, index_of};
 use std::alloc::{AllocError, Global};
 
-/// The number of tokens between two stored indices.
+/// The number of tokens for which one index into the declarations is stored.
 const STRIDE: usize = 16;
 
-/// The number of cache entries.
+/// The number of entries of the cache of recently found indices.
 const RECENT: usize = 128;
 
-/// Declarations sorted by token number. A lookup compares at most sixteen of them: those between two stored indices.
+/// The declarations of a module, sorted by token number, with stored indices. A lookup compares at most sixteen declarations: those
+/// between two consecutive stored indices.
 #[derive(Drop)]
 pub(crate) struct DeclarationIndex<'a> {
     pub(crate) declared: &'a [Declared],
-    /// For each sixteenth token, the index of the first declaration from that token on.
+    /// For each sixteenth token, the index of the first declaration at that token or after it.
     firsts: Vec<usize>,
-    /// A direct-mapped cache of the indices found last, by some bits of the token number. Each is checked before use.
+    /// A direct-mapped cache of the indices found last: a token number modulo the cache's size selects the entry. A cached index is checked
+    /// before use.
     recent: Vec<usize>,
     ghost ascend: { IsIncreasingBy (λ (d : Declared). d.number) declared.now },
     ghost boundaries: { AreBoundaries declared.now firsts.items },
 }
 
-/// The index of the first declaration from a token on, by a linear search from an index before which all declarations are earlier.
+/// The index of the first declaration at token `number` or after it, found by a linear search from index `from`. If there is none, the
+/// result is the number of declarations. All declarations before index `from` have to be before the token.
 fn first_index_from(declared: &[Declared], from: usize, number: usize) -> usize
     requires ascend { IsIncreasingBy (λ (d : Declared). d.number) declared.now }
     requires before { AreBefore declared.now number from }
@@ -39,8 +43,8 @@ fn first_index_from(declared: &[Declared], from: usize, number: usize) -> usize
     place
 }
 
-/// For each of the first `count` multiples of the stride, the index of the first declaration from that token on.
-fn stride_starts(
+/// For each of the tokens 0, 16, 32 and so on, `count` in all, the index of the first declaration at that token or after it.
+fn first_index_by_stride(
     alloc: Global,
     declared: &[Declared],
     count: usize,
@@ -58,10 +62,11 @@ fn stride_starts(
     Ok(firsts)
 }
 
-/// The index of the declaration of this token, if there is one, by a linear search between two indices.
+/// The index of the declaration with this token number, or `None` if there is none. A linear search from index `low` to before `high`.
 fn find_between(declared: &[Declared], low: usize, high: usize, number: u32) -> Option<usize>
+    // The declarations before index `low` are before the token, and those from index `high` on are after it.
     requires before { AreBefore declared.now number low }
-    requires behind { AreAfter declared.now number high }
+    requires after { AreAfter declared.now number high }
     ensures found { IfSome result (IsIndexBy (λ (d : Declared). d.number) declared.now number) }
     ensures none { IfNone result (HasNoneBy (λ (d : Declared). d.number) declared.now number) }
 {
@@ -76,7 +81,7 @@ fn find_between(declared: &[Declared], low: usize, high: usize, number: u32) -> 
 }
 
 impl<'a> DeclarationIndex<'a> {
-    /// The indices of these declarations, in a source of `tokens` tokens.
+    /// Makes the index of these declarations, which have to be sorted by token number. `tokens` is the number of the module's tokens.
     pub(crate) fn new(
         alloc: Global,
         declared: &'a [Declared],
@@ -86,7 +91,7 @@ impl<'a> DeclarationIndex<'a> {
         ensures { IfOk result (λ p. p.declared.now ≡ declared.now) }
     {
         let count = tokens.min(u32::MAX as usize) / STRIDE + 2;
-        let firsts = stride_starts(alloc, declared, count)?;
+        let firsts = first_index_by_stride(alloc, declared, count)?;
         let recent = vec![in alloc; 0; RECENT]?;
         Ok(DeclarationIndex {
             declared,
@@ -95,10 +100,11 @@ impl<'a> DeclarationIndex<'a> {
         })
     }
 
-    /// Two stored indices between which the declaration of a token is, if there is one. `None` if the table ends before the token.
+    /// Two stored indices: the declaration with this token number, if it exists, is at the first one or after it, and before the second.
+    /// `None` if no index is stored for a token after this one.
     fn bounds(&self, number: u32) -> Option<(usize, usize)>
         ensures before { IfSome result (λ b. AreBefore self.now.declared.now number b.0) }
-        ensures behind { IfSome result (λ b. AreAfter self.now.declared.now number b.1) }
+        ensures after { IfSome result (λ b. AreAfter self.now.declared.now number b.1) }
     {
         let mark = number as usize / STRIDE;
         let low = *self.firsts.get(mark)?;
@@ -106,8 +112,8 @@ impl<'a> DeclarationIndex<'a> {
         Some((low, high))
     }
 
-    /// The index of the declaration of this token, if there is one: between the stored indices, or by a binary search if the table ends
-    /// before the token.
+    /// The index of the declaration with this token number, or `None` if there is none. Searches between two stored indices, or by a binary
+    /// search if these indices aren't stored.
     fn lookup(&self, number: u32) -> Option<usize>
         ensures found { IfSome result (IsIndexBy (λ (d : Declared). d.number) self.now.declared.now number) }
         ensures none { IfNone result (HasNoneBy (λ (d : Declared). d.number) self.now.declared.now number) }
@@ -118,15 +124,15 @@ impl<'a> DeclarationIndex<'a> {
         }
     }
 
-    /// The index of the declaration of this token, if there is one.
+    /// The index of the declaration with this token number, or `None` if there is none.
     pub(crate) fn index_of(&self, number: u32) -> Option<usize>
         ensures { result ≡ position (λ (d : Declared). d.number == number) self.now.declared.now }
     {
         self.lookup(number)
     }
 
-    /// Whether the declaration at this index is that of this token.
-    fn is_at(&self, place: usize, number: u32) -> bool
+    /// Whether the declaration at index `place` has this token number; false if there is no declaration at this index.
+    fn is_declaration_at(&self, place: usize, number: u32) -> bool
         ensures { OnTrue result (IsIndexBy (λ (d : Declared). d.number) self.now.declared.now number place) }
     {
         match self.declared.get(place) {
@@ -135,18 +141,19 @@ impl<'a> DeclarationIndex<'a> {
         }
     }
 
-    /// The index of the declaration of this token, if there is one. Tries index `hint` first.
-    pub(crate) fn index_from(&self, hint: usize, number: u32) -> Option<usize>
+    /// The index of the declaration with this token number, or `None` if there is none. Tries index `hint` before it searches.
+    pub(crate) fn index_by_hint(&self, hint: usize, number: u32) -> Option<usize>
         ensures { result ≡ position (λ (d : Declared). d.number == number) self.now.declared.now }
     {
-        if self.is_at(hint, number) {
+        if self.is_declaration_at(hint, number) {
             Some(hint)
         } else {
             self.index_of(number)
         }
     }
 
-    /// Finds the index of the declaration of this token and stores it in the cache. Returns it, or 0 if there is none.
+    /// Looks up the index of the declaration with this token number, and stores it in the cache. If there is no such declaration, stores
+    /// and returns 0.
     fn store_in_cache(&mut self, number: u32) -> usize
         ensures { self.new.declared ≡ self.old.declared }
     {
@@ -157,15 +164,16 @@ impl<'a> DeclarationIndex<'a> {
         place
     }
 
-    /// The index of the declaration of this token, by the cache or else by a lookup. Any index if the token declares nothing.
-    pub(crate) fn intern(&mut self, number: u32) -> usize
+    /// The index of the declaration with this token number, from the cache or else by a lookup. Nothing is promised of the result, which is
+    /// a hint: if the token declares nothing, it is 0.
+    pub(crate) fn index_by_cache(&mut self, number: u32) -> usize
         ensures { self.new.declared ≡ self.old.declared }
     {
         let hint = match self.recent.get(number as usize % RECENT) {
             Some(place) => *place,
             None => 0,
         };
-        if self.is_at(hint, number) {
+        if self.is_declaration_at(hint, number) {
             return hint;
         }
         self.store_in_cache(number)

@@ -1,19 +1,19 @@
-//! Table lookups in a pass over a module in order: each begins at the entry that was found last.
+//! Lookups in the module table for a pass over a module in source order. Each lookup begins at the entry that the last one found.
 ghost use Rattle.std.specs.Prelude.{◌≡◌, ◌==◌, find, Contains, IfNone, IfSome};
 ghost use Rattle.module_table.specs.declared.rows.Declared.{Declared};
 ghost use Rattle.module_table.specs.declared.rows.DeclGroup.{DeclGroup};
 ghost use Rattle.module_table.specs.Tables.{rows_in};
 ghost use Rattle.module_table.specs.Order.{IsIncreasingBy, HasNoneBy, IsIndexBy};
-ghost use Rattle.ob_types.specs.World.{decl_group_of};
+ghost use Rattle.ob_view.specs.World.{decl_group_of};
 
 use module_table::{DeclGroup, Declared, Keyed, Table, index_of};
-use ob_types::Types;
+use ob_view::View;
 
-/// The number of entries that are tried before the binary search.
+/// The number of entries that a lookup tries, from the hint on, before it falls back to a binary search.
 const MAX_PROBES: usize = 4;
 
-/// The line, and the indices of the identifier and of the declaration group, that a pass found last. They are hints: the results don't
-/// depend on them.
+/// What the lookups of a pass found last: a line, the index of a declared identifier, and the index of a declaration group. The values are
+/// hints, which make lookups faster and don't affect their results.
 #[derive(Clone, Copy, Drop)]
 pub(crate) struct Hints {
     pub(crate) line: u32,
@@ -22,7 +22,7 @@ pub(crate) struct Hints {
 }
 
 impl Hints {
-    /// The hints at the start of a pass.
+    /// The hints at the start of a pass: all are 0.
     pub(crate) fn new() -> Hints {
         Hints {
             line: 0,
@@ -32,8 +32,10 @@ impl Hints {
     }
 }
 
-/// The index of the entry with this number. Tries some entries from index `hint` on, then a binary search.
+/// The index of the entry whose key is this number, or `None` if there is none. Tries some entries from index `hint` on, then searches by a
+/// binary search.
 fn row_index_by_hint<T: Keyed>(rows: &[T], hint: usize, number: u32) -> Option<usize>
+    // The entries are sorted by key, and no two have the same key.
     requires { IsIncreasingBy T.number_in rows.now }
     ensures found { IfSome result (IsIndexBy T.number_in rows.now number) }
     ensures none { IfNone result (HasNoneBy T.number_in rows.now number) }
@@ -48,8 +50,10 @@ fn row_index_by_hint<T: Keyed>(rows: &[T], hint: usize, number: u32) -> Option<u
     index_of(rows, number)
 }
 
-/// The entry with this number. The search begins at index `hint`, where the index of the entry is then stored.
+/// The entry whose key is this number, or `None` if there is none. The search begins at the index in `hint`; if it finds the entry, it
+/// stores the entry's index in `hint`.
 fn row_by_hint<'r, T: Keyed>(rows: &'r [T], hint: &mut usize, number: u32) -> Option<&'r T>
+    // The entries are sorted by key, and no two have the same key.
     requires { IsIncreasingBy T.number_in rows.now }
     ensures found { IfSome result (λ row. Contains rows.now row.now) }
     ensures number { IfSome result (λ row. T.number_in row.now ≡ number) }
@@ -60,7 +64,7 @@ fn row_by_hint<'r, T: Keyed>(rows: &'r [T], hint: &mut usize, number: u32) -> Op
     Some(&rows[at])
 }
 
-/// The declaration group that begins with this token. The search begins at index `hint`.
+/// The declaration group whose first token is `first`, or `None` if there is none. The search begins at the index in `hint` and updates it.
 pub(crate) fn decl_group_by_hint(table: &Table, hint: &mut usize, first: u32) -> Option<DeclGroup>
     ensures { result ≡ find (λ (by : DeclGroup). by.first == first) (rows_in table.now).decl_groups }
 {
@@ -68,7 +72,8 @@ pub(crate) fn decl_group_by_hint(table: &Table, hint: &mut usize, first: u32) ->
     row_by_hint(table.decl_groups(), hint, first).copied()
 }
 
-/// The entry of the identifier that this token declares. The search begins at index `hint`.
+/// The entry of the identifier that this token declares, or `None` if there is none. The search begins at the index in `hint` and updates
+/// it.
 fn declared_by_hint(table: &Table, hint: &mut usize, number: u32) -> Option<Declared>
     ensures { result ≡ find (λ (d : Declared). d.number == number) (rows_in table.now).declared }
 {
@@ -76,14 +81,15 @@ fn declared_by_hint(table: &Table, hint: &mut usize, number: u32) -> Option<Decl
     row_by_hint(table.declared(), hint, number).copied()
 }
 
-/// The declaration group of the identifier with this token. The searches begin at the entries that the pass found last.
-pub(crate) fn decl_group_of_hinted(
-    types: &Types<'_>,
+/// The declaration group of the identifier that this token declares, or `None` if it declares none. The searches begin at the indices in
+/// `hint` and update them.
+pub(crate) fn decl_group_by_hints(
+    view: &View<'_>,
     hint: &mut Hints,
     number: u32,
 ) -> Option<DeclGroup>
-    ensures { result ≡ decl_group_of types.now number }
+    ensures { result ≡ decl_group_of view.now number }
 {
-    let declared = declared_by_hint(types.table(), &mut hint.identifier, number)?;
-    decl_group_by_hint(types.table(), &mut hint.construct, declared.declared_by)
+    let declared = declared_by_hint(view.table(), &mut hint.identifier, number)?;
+    decl_group_by_hint(view.table(), &mut hint.construct, declared.declared_by)
 }

@@ -8,22 +8,24 @@ ghost use Rattle.ob_emit.specs.Named.{NamesAreIdentifiers};
 ghost use Rattle.ob_emit.specs.Symbols.{imported_symbol};
 
 use crate::path::path_text;
-use ob_types::Types;
+use ob_view::View;
 use std::alloc::{AllocError, Global};
 
-/// The symbol string of a declaration of a reached module, by the indices of both; `prefix` is the prefix of the tree's package.
+/// The symbol string of the declaration at index `declaration` in the interface of the reached module `reached`. `None` if there is no such
+/// declaration, or if it has no symbol.
+/// `prefix` is the prefix of the symbol strings of the tree's package.
 pub(crate) fn imported_text(
     alloc: Global,
-    types: &Types<'_>,
+    view: &View<'_>,
     prefix: &str,
     reached: u32,
     declaration: u32,
 ) -> Result<Option<String>, AllocError>
-    requires { NamesAreIdentifiers types.now }
+    requires { NamesAreIdentifiers view.now }
     ensures { (package_name : List ℕ) → prefix.now ≡ prefix_text package_name →
-        IfOk result (λ text. option_map string_bytes text ≡ option_map canonical_text (imported_symbol types.now package_name reached declaration)) }
+        IfOk result (λ text. option_map string_bytes text ≡ option_map canonical_text (imported_symbol view.now package_name reached declaration)) }
 {
-    let Some(interface) = types.interface(reached) else {
+    let Some(interface) = view.interface(reached) else {
         return Ok(None);
     };
     path_text(alloc, prefix, interface.name(), interface, declaration)

@@ -1,4 +1,4 @@
-//! The declarations of a reached module, by their indices in its interface.
+//! The last path steps of the declarations of another module. A declaration is identified by its index in that module's interface.
 ghost use Rattle.std.specs.Prelude.{◌≡◌};
 ghost use Rattle.std.specs.Option.{option_map};
 ghost use Rattle.ob_interface.specs.Views.{declaration_value};
@@ -8,7 +8,8 @@ ghost use Rattle.ob_emit.specs.Symbols.{interface_step, interface_steps};
 use crate::steps::{LastStep, NumberedDeclarations, step_in_block, step_in_record};
 use ob_interface::{Declaration, Interface};
 
-/// The path step of a declaration of an interface.
+/// The last path step of the declaration `it` at index `place` of an interface. `None` for an import item, and for a field whose owner
+/// doesn't have a smaller index.
 fn interface_step<'a>(
     interface: &'a Interface,
     place: u32,

@@ -1,18 +1,20 @@
-//! The ranges of identifiers and constructs as numbers, without the allocations of `ranges`.
+//! The ranges of identifiers and constructs as plain numbers. The functions of `ranges` return the same ranges in vectors, which they
+//! allocate. In the clauses of this file:
+//! - `in_text`: the tokens are nonempty ranges of the bytes, each before the next. `short`: there are fewer than 2^31 bytes.
+//! - `lined`: `lines` has the offsets of the line starts. `fits`: each number of the span is less than 2^31.
 ghost use Rattle.std.specs.Prelude.{◌≡◌, ◌≤◌, ◌<◌, ◌^◌, ℕ, List, length};
 ghost use Rattle.ob_scan.specs.Position.{line_starts};
 ghost use Rattle.ob_scan.specs.Spelling.{AreInText};
-ghost use Rattle.ob_emit.specs.Documents.{column_of, construct_range, enclosing_range, line_number, range_of, span_of};
+ghost use Rattle.ob_emit.specs.Documents.{column_of, declaration_range, enclosing_range, line_number, token_range, span_of};
 ghost use Rattle.scip_index.specs.Ranges.{numbers_in, numbers_of, SpanFits};
 
-use crate::hinted_lookup::{Hints, decl_group_of_hinted};
+use crate::hinted_lookup::{Hints, decl_group_by_hints};
 use crate::ranges::token_offsets;
 use ob_scan::{Lines, Position};
-use ob_targets::{Reference, Target};
-use ob_types::Types;
+use ob_view::{Reference, Target, View};
 use scip_index::{Range, TokenSpan};
 
-/// The line and the column of an offset. The search begins at the line `hint`, where the line is then stored.
+/// The line and the column of an offset, both from 0. The search begins at the line in `hint`, and stores the found line there.
 fn position_by_hint(lines: &Lines, hint: &mut u32, offset: u32) -> Position
     ensures line { (bytes : List ℕ) → lines.now ≡ line_starts bytes → offset ≤ length bytes → result.line ≡ line_number bytes offset }
     ensures column { (bytes : List ℕ) → lines.now ≡ line_starts bytes → offset ≤ length bytes → result.column ≡ column_of bytes offset }
@@ -20,16 +22,17 @@ fn position_by_hint(lines: &Lines, hint: &mut u32, offset: u32) -> Position
     lines.position_from_hint(hint, offset)
 }
 
-/// From the start of one token to the end of another. The search begins at the line `hint`.
-fn span_of(types: &Types<'_>, lines: &Lines, hint: &mut u32, first: usize, last: usize) -> TokenSpan
-    requires in_text { AreInText types.now.bytes types.now.tokens }
-    requires short { length types.now.bytes < 2 ^ 31 }
-    requires lined { lines.now ≡ line_starts types.now.bytes }
-    ensures numbers { numbers_in result ≡ span_of types.now first last }
+/// The line and the column of the start of token `first` and of the end of token `last`. The search for the lines begins at the line in
+/// `hint`, and stores the last found line there.
+fn span_of(view: &View<'_>, lines: &Lines, hint: &mut u32, first: usize, last: usize) -> TokenSpan
+    requires in_text { AreInText view.now.bytes view.now.tokens }
+    requires short { length view.now.bytes < 2 ^ 31 }
+    requires lined { lines.now ≡ line_starts view.now.bytes }
+    ensures numbers { numbers_in result ≡ span_of view.now first last }
     ensures fits { SpanFits result }
 {
-    let (start, _) = token_offsets(types, first);
-    let (_, end) = token_offsets(types, last);
+    let (start, _) = token_offsets(view, first);
+    let (_, end) = token_offsets(view, last);
     let from = position_by_hint(lines, hint, start);
     let to = position_by_hint(lines, hint, end);
     TokenSpan {
@@ -40,25 +43,25 @@ fn span_of(types: &Types<'_>, lines: &Lines, hint: &mut u32, first: usize, last:
     }
 }
 
-/// The range of the construct that declares a target. The searches begin at the entries that the pass found last.
-fn construct_range(types: &Types<'_>, lines: &Lines, hint: &mut Hints, target: Target) -> Range
-    requires in_text { AreInText types.now.bytes types.now.tokens }
-    requires short { length types.now.bytes < 2 ^ 31 }
-    requires lined { lines.now ≡ line_starts types.now.bytes }
-    ensures { numbers_of result ≡ construct_range types.now target }
+/// The range of the construct that declares a target; `Nowhere` if the module has none for it. The searches begin at the entries in `hint`.
+fn declaration_range(view: &View<'_>, lines: &Lines, hint: &mut Hints, target: Target) -> Range
+    requires in_text { AreInText view.now.bytes view.now.tokens }
+    requires short { length view.now.bytes < 2 ^ 31 }
+    requires lined { lines.now ≡ line_starts view.now.bytes }
+    ensures { numbers_of result ≡ declaration_range view.now target }
 {
     let mut line = hint.line;
     match target {
-        Target::Declared(number) => match decl_group_of_hinted(types, hint, number) {
+        Target::Declared(number) => match decl_group_by_hints(view, hint, number) {
             Some(by) => {
                 let (first, last) = (by.first as usize, by.last as usize);
-                span_of(types, lines, &mut line, first, last).range()
+                span_of(view, lines, &mut line, first, last).range()
             }
             None => Range::Nowhere,
         },
         Target::Own => {
-            let last = types.tokens().len().saturating_sub(1);
-            span_of(types, lines, &mut line, 0, last).range()
+            let last = view.tokens().len().saturating_sub(1);
+            span_of(view, lines, &mut line, 0, last).range()
         }
         Target::Imported { .. } => Range::Nowhere,
         Target::External { .. } => Range::Nowhere,
@@ -68,31 +71,33 @@ fn construct_range(types: &Types<'_>, lines: &Lines, hint: &mut Hints, target: T
     }
 }
 
-/// The range of the whole declaration, if the reference is a declaration. The searches begin at the entries that the pass found last.
+/// The range of the construct that declares the target, if the reference is the declaration itself, and otherwise `Nowhere`. The searches
+/// begin at the entries in `hint`.
 pub(crate) fn enclosing_range(
-    types: &Types<'_>,
+    view: &View<'_>,
     lines: &Lines,
     hint: &mut Hints,
     reference: &Reference,
 ) -> Range
-    requires in_text { AreInText types.now.bytes types.now.tokens }
-    requires short { length types.now.bytes < 2 ^ 31 }
-    requires lined { lines.now ≡ line_starts types.now.bytes }
-    ensures { numbers_of result ≡ enclosing_range types.now reference.now }
+    requires in_text { AreInText view.now.bytes view.now.tokens }
+    requires short { length view.now.bytes < 2 ^ 31 }
+    requires lined { lines.now ≡ line_starts view.now.bytes }
+    ensures { numbers_of result ≡ enclosing_range view.now reference.now }
 {
     if reference.role != 1 {
         return Range::Nowhere;
     }
-    construct_range(types, lines, hint, reference.target)
+    declaration_range(view, lines, hint, reference.target)
 }
 
-/// From the start to the end of a token. The search begins at the line `hint`.
-pub(crate) fn token_span(types: &Types<'_>, lines: &Lines, hint: &mut u32, number: u32) -> TokenSpan
-    requires in_text { AreInText types.now.bytes types.now.tokens }
-    requires short { length types.now.bytes < 2 ^ 31 }
-    requires lined { lines.now ≡ line_starts types.now.bytes }
-    ensures numbers { numbers_in result ≡ range_of types.now number }
+/// The line and the column of the start and of the end of token `number`. The search for the lines begins at the line in `hint`, and stores
+/// the last found line there.
+pub(crate) fn token_span(view: &View<'_>, lines: &Lines, hint: &mut u32, number: u32) -> TokenSpan
+    requires in_text { AreInText view.now.bytes view.now.tokens }
+    requires short { length view.now.bytes < 2 ^ 31 }
+    requires lined { lines.now ≡ line_starts view.now.bytes }
+    ensures numbers { numbers_in result ≡ token_range view.now number }
     ensures fits { SpanFits result }
 {
-    span_of(types, lines, hint, number as usize, number as usize)
+    span_of(view, lines, hint, number as usize, number as usize)
 }

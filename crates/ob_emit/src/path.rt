@@ -1,4 +1,6 @@
-//! The symbol strings of paths of descriptors.
+//! The symbol string of a declaration, from its path: the descriptors of the module, of the owner if it is a field, and its own.
+//! In the clauses, `S.steps_in source` is the function from a declaration's number to its last path step.
+//! `named`: the names in the steps are identifiers. `before`: each owner has a smaller number than its field.
 ghost use Rattle.std.specs.Prelude.{◌≡◌, ◌++◌, IfOk};
 ghost use Rattle.std.specs.Option.{option_map};
 ghost use Rattle.std.specs.String.{string_bytes};
@@ -13,7 +15,7 @@ use scip_symbol::{DescriptorKind, append_simple_descriptor};
 use std::alloc::{AllocError, Global};
 
 /// The bytes of a name as a string. An identifier is ASCII, so the conversion can't fail.
-pub(crate) fn name_of(bytes: &[u8]) -> &str
+pub(crate) fn name_str(bytes: &[u8]) -> &str
     requires { IsName bytes.now }
     ensures { result.now ≡ bytes.now }
 {
@@ -23,7 +25,8 @@ pub(crate) fn name_of(bytes: &[u8]) -> &str
     }
 }
 
-/// The initial capacity of a symbol string with this prefix and a name of this module, so that the string rarely has to grow.
+/// The initial capacity for the symbol string of a declaration of this module, with this prefix. It is large enough for most names, so the
+/// string rarely has to grow.
 pub(crate) fn initial_capacity(prefix: &str, module_name: &[u8]) -> usize {
     const NAME: usize = 24;
     prefix
@@ -32,8 +35,8 @@ pub(crate) fn initial_capacity(prefix: &str, module_name: &[u8]) -> usize {
         .saturating_add(NAME)
 }
 
-/// Appends the descriptors of the declaration with this number: those of its owner or else of the module, and its own.
-/// Returns whether it has descriptors; if not, nothing is appended.
+/// Appends the path of the declaration with this number: the path of its owner, or the module's descriptor if it has no owner, and then
+/// its own descriptor. With `Ok(false)` the declaration has no path.
 pub(crate) fn append_path<S: NumberedDeclarations>(
     out: &mut String,
     module_name: &[u8],
@@ -50,18 +53,19 @@ pub(crate) fn append_path<S: NumberedDeclarations>(
     };
     let found = match step.owner {
         None => {
-            append_simple_descriptor(out, DescriptorKind::Namespace, name_of(module_name))?;
+            append_simple_descriptor(out, DescriptorKind::Namespace, name_str(module_name))?;
             true
         }
         Some(owner) => append_path(out, module_name, source, owner)?,
     };
     if found {
-        append_simple_descriptor(out, step.kind, name_of(step.name))?;
+        append_simple_descriptor(out, step.kind, name_str(step.name))?;
     }
     Ok(found)
 }
 
-/// The symbol string with this prefix and the path of the declaration with this number, if it has a path.
+/// The symbol string of the declaration with this number: the prefix and then the declaration's path. `None` if the declaration has no
+/// path.
 pub(crate) fn path_text<S: NumberedDeclarations>(
     alloc: Global,
     prefix: &str,

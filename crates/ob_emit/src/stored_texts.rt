@@ -1,4 +1,5 @@
-//! Look-ups of symbol strings that are already stored, without copying them.
+//! Looks up symbol strings that `Texts` stores already, without copying them.
+//! In the clauses, `AreSymbolTexts view package_name texts` says that the stored strings are those of the targets' symbols in this package.
 ghost use Rattle.std.specs.Prelude.{◌≡◌, ℕ, List, IfSome};
 ghost use Rattle.std.specs.Option.{option_map};
 ghost use Rattle.std.specs.String.{string_bytes};
@@ -7,10 +8,9 @@ ghost use Rattle.ob_emit.specs.StoredTexts.{named_symbol, AreSymbolTexts};
 ghost use Rattle.ob_emit.specs.Symbols.{declared_symbol, imported_symbol, module_symbol, symbol_of};
 
 use crate::target_texts::Texts;
-use ob_targets::Target;
-use ob_types::Types;
+use ob_view::{Target, View};
 
-/// Borrows a string, if there is one.
+/// Borrows the string in an option; `None` if there is none.
 fn borrow_text(text: &Option<String>) -> Option<&str>
     ensures { option_map (λ t. t.now) result ≡ option_map string_bytes text.now }
 {
@@ -21,13 +21,14 @@ fn borrow_text(text: &Option<String>) -> Option<&str>
 }
 
 impl Texts<'_> {
-    /// The symbol string of what this token declares, if it has one. The lookup of the declaration begins at index `slot`.
-    fn stored_declared(&self, types: &Types<'_>, slot: usize, number: u32) -> Option<&str>
-        ensures { (package_name : List ℕ) → AreSymbolTexts types.now package_name self.now →
-            option_map (λ t. t.now) result ≡ option_map canonical_text (declared_symbol types.now package_name number) }
+    /// The symbol string of the declaration at token `number`. `None` if the token declares nothing, or if the declaration has no symbol.
+    /// `slot` is the index of the declaration that is tried first.
+    fn stored_declaration_text(&self, view: &View<'_>, slot: usize, number: u32) -> Option<&str>
+        ensures { (package_name : List ℕ) → AreSymbolTexts view.now package_name self.now →
+            option_map (λ t. t.now) result ≡ option_map canonical_text (declared_symbol view.now package_name number) }
     {
-        let _ = types;
-        match self.locations.index_from(slot, number) {
+        let _ = view;
+        match self.locations.index_by_hint(slot, number) {
             Some(at) => match self.declared.get(at) {
                 Some(text) => borrow_text(text),
                 None => None,
@@ -36,28 +37,30 @@ impl Texts<'_> {
         }
     }
 
-    /// The symbol string of a declaration of a reached module, if it is stored at index `slot`; `Some(None)` if it has no symbol.
-    fn stored_imported(
+    /// The symbol string of a declaration of a reached module. `None` if the string at index `slot` isn't that of this declaration.
+    /// `Some(None)` if the declaration has no symbol.
+    fn stored_imported_text(
         &self,
-        types: &Types<'_>,
+        view: &View<'_>,
         slot: usize,
         reached: u32,
         declaration: u32,
     ) -> Option<Option<&str>>
-        ensures { (package_name : List ℕ) → AreSymbolTexts types.now package_name self.now →
-            IfSome result (λ text. option_map (λ t. t.now) text ≡ option_map canonical_text (imported_symbol types.now package_name reached declaration)) }
+        ensures { (package_name : List ℕ) → AreSymbolTexts view.now package_name self.now →
+            IfSome result (λ text. option_map (λ t. t.now) text ≡ option_map canonical_text (imported_symbol view.now package_name reached declaration)) }
     {
-        let _ = types;
-        match self.foreign.imported.at(slot, reached, declaration) {
+        let _ = view;
+        match self.foreign.imported.text_at(slot, reached, declaration) {
             Some(text) => Some(borrow_text(text)),
             None => None,
         }
     }
 
-    /// The symbol string of the module that an import item names, if it is stored; `Some(None)` if it has no symbol.
-    fn stored_module(&self, types: &Types<'_>, item: u32) -> Option<Option<&str>>
-        ensures { (package_name : List ℕ) → AreSymbolTexts types.now package_name self.now →
-            IfSome result (λ text. option_map (λ t. t.now) text ≡ option_map canonical_text (module_symbol types.now package_name item)) }
+    /// The symbol string of the module that the import item at index `item` names. `None` if no string is stored for this index, and
+    /// `Some(None)` if the module has no symbol.
+    fn stored_module_text(&self, view: &View<'_>, item: u32) -> Option<Option<&str>>
+        ensures { (package_name : List ℕ) → AreSymbolTexts view.now package_name self.now →
+            IfSome result (λ text. option_map (λ t. t.now) text ≡ option_map canonical_text (module_symbol view.now package_name item)) }
     {
         match self.foreign.modules.get(item as usize) {
             Some(text) => Some(borrow_text(text)),
@@ -65,15 +68,16 @@ impl Texts<'_> {
         }
     }
 
-    /// The symbol string of a name of a module that isn't in the tree, if it is stored; `Some(None)` if it has no symbol.
-    fn stored_external<'s>(
+    /// The symbol string of a name of the module that the import item at index `item` names, a module that isn't in the tree. `None` if no
+    /// string is stored for this name, and `Some(None)` if the name has no symbol.
+    fn stored_external_text<'s>(
         &'s self,
-        types: &Types<'_>,
+        view: &View<'_>,
         item: u32,
         name: &'s [u8],
     ) -> Option<Option<&'s str>>
-        ensures { (package_name : List ℕ) → AreSymbolTexts types.now package_name self.now →
-            IfSome result (λ text. option_map (λ t. t.now) text ≡ option_map canonical_text (named_symbol types.now item name.now)) }
+        ensures { (package_name : List ℕ) → AreSymbolTexts view.now package_name self.now →
+            IfSome result (λ text. option_map (λ t. t.now) text ≡ option_map canonical_text (named_symbol view.now item name.now)) }
     {
         match self.foreign.names.get(&(item, name)) {
             Some(text) => Some(borrow_text(text)),
@@ -81,27 +85,31 @@ impl Texts<'_> {
         }
     }
 
-    /// The symbol string of a target, if it is stored; `Some(None)` if the target has no symbol. `symbol` returns a copy of this string.
-    /// `slot` is the index that `intern` returned. A declaration of another module is looked up only at this index; for a declaration of
-    /// the module itself it is tried first.
+    /// The symbol string of a target. `None` if the string isn't found among the stored ones, and `Some(None)` if the target has no symbol.
+    /// `slot` is the index that `intern` returned for the target. The string of a declaration of another module is searched only at this
+    /// index. For a declaration of the module itself, this index is tried first.
     pub(crate) fn stored_symbol<'s>(
         &'s self,
-        types: &'s Types<'_>,
+        view: &'s View<'_>,
         target: Target,
         slot: usize,
     ) -> Option<Option<&'s str>>
-        ensures { (package_name : List ℕ) → AreSymbolTexts types.now package_name self.now →
-            IfSome result (λ text. option_map (λ t. t.now) text ≡ option_map canonical_text (symbol_of types.now package_name target)) }
+        ensures { (package_name : List ℕ) → AreSymbolTexts view.now package_name self.now →
+            IfSome result (λ text. option_map (λ t. t.now) text ≡ option_map canonical_text (symbol_of view.now package_name target)) }
     {
         match target {
-            Target::Declared(number) => Some(self.stored_declared(types, slot, number)),
+            Target::Declared(number) => Some(self.stored_declaration_text(view, slot, number)),
             Target::Imported {
                 reached,
                 declaration,
-            } => self.stored_imported(types, slot, reached, declaration),
-            Target::External { item, name } => self.stored_external(types, item, types.text(name)),
+            } => self.stored_imported_text(view, slot, reached, declaration),
+            Target::External { item, name } => self.stored_external_text(
+                view,
+                item,
+                view.text(name),
+            ),
             Target::Own => Some(Some(self.own.as_str())),
-            Target::Module(item) => self.stored_module(types, item),
+            Target::Module(item) => self.stored_module_text(view, item),
             Target::Predeclared | Target::Unresolved => Some(None),
         }
     }

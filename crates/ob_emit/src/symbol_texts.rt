@@ -1,22 +1,23 @@
-//! The symbol strings of targets: copies of the stored ones, or new ones.
+//! Returns the symbol strings of targets: a copy of the stored string, or else a new string.
+//! In the clauses, `AreSymbolTexts view package_name texts` says that the stored strings are those of the targets' symbols in this package.
+//! `named`, `of_name` and `external` say that names are identifiers.
 ghost use Rattle.std.specs.Prelude.{◌≡◌, ℕ, List, IfOk};
 ghost use Rattle.std.specs.Option.{option_map};
 ghost use Rattle.std.specs.String.{string_bytes};
 ghost use Rattle.scip_symbol.specs.SymbolTexts.{canonical_text};
-ghost use Rattle.ob_targets.specs.declared.target.Target.TheVariants.{External};
+ghost use Rattle.ob_view.specs.declared.target.Target.TheVariants.{External};
 ghost use Rattle.ob_emit.specs.StoredTexts.{named_symbol, AreSymbolTexts};
 ghost use Rattle.ob_emit.specs.Named.{NamesAreIdentifiers, IsName};
 ghost use Rattle.ob_emit.specs.Symbols.{declared_symbol, imported_symbol, module_symbol, symbol_of};
-ghost use Rattle.ob_types.specs.World.{text};
+ghost use Rattle.ob_view.specs.World.{text};
 
 use crate::imported_texts::imported_text;
 use crate::module_texts::{external_text, imported_module_text};
 use crate::target_texts::Texts;
-use ob_targets::Target;
-use ob_types::Types;
+use ob_view::{Target, View};
 use std::alloc::{AllocError, Global};
 
-/// Copies a string, if there is one.
+/// Copies the string in an option; `Ok(None)` if there is none.
 fn copy_text(text: &Option<String>) -> Result<Option<String>, AllocError>
     ensures { IfOk result (λ more. option_map string_bytes more ≡ option_map string_bytes text.now) }
 {
@@ -27,17 +28,18 @@ fn copy_text(text: &Option<String>) -> Result<Option<String>, AllocError>
 }
 
 impl Texts<'_> {
-    /// The symbol string of what this token declares.
-    fn declared(
+    /// A copy of the symbol string of the declaration at token `number`. `Ok(None)` if the token declares nothing, or if the declaration
+    /// has no symbol.
+    fn declared_text(
         &self,
         alloc: Global,
-        types: &Types<'_>,
+        view: &View<'_>,
         number: u32,
     ) -> Result<Option<String>, AllocError>
-        ensures { (package_name : List ℕ) → AreSymbolTexts types.now package_name self.now →
-            IfOk result (λ text. option_map string_bytes text ≡ option_map canonical_text (declared_symbol types.now package_name number)) }
+        ensures { (package_name : List ℕ) → AreSymbolTexts view.now package_name self.now →
+            IfOk result (λ text. option_map string_bytes text ≡ option_map canonical_text (declared_symbol view.now package_name number)) }
     {
-        let _ = types;
+        let _ = view;
         let Some(at) = self.locations.index_of(number) else {
             return Ok(None);
         };
@@ -47,23 +49,24 @@ impl Texts<'_> {
         }
     }
 
-    /// The symbol string of a declaration of a reached module, by the indices of both.
-    fn imported(
+    /// The symbol string of the declaration at index `declaration` in the interface of the reached module `reached`. `Ok(None)` if there is
+    /// no such declaration, or if it has no symbol.
+    fn imported_text(
         &self,
         alloc: Global,
-        types: &Types<'_>,
+        view: &View<'_>,
         reached: u32,
         declaration: u32,
     ) -> Result<Option<String>, AllocError>
-        requires { NamesAreIdentifiers types.now }
-        ensures { (package_name : List ℕ) → AreSymbolTexts types.now package_name self.now →
-            IfOk result (λ text. option_map string_bytes text ≡ option_map canonical_text (imported_symbol types.now package_name reached declaration)) }
+        requires { NamesAreIdentifiers view.now }
+        ensures { (package_name : List ℕ) → AreSymbolTexts view.now package_name self.now →
+            IfOk result (λ text. option_map string_bytes text ≡ option_map canonical_text (imported_symbol view.now package_name reached declaration)) }
     {
         match self.foreign.imported.stored_text(reached, declaration) {
             Some(text) => copy_text(text),
             None => imported_text(
                 alloc,
-                types,
+                view,
                 self.prefixes.tree.as_str(),
                 reached,
                 declaration,
@@ -71,63 +74,69 @@ impl Texts<'_> {
         }
     }
 
-    /// The symbol string of the module that an import item names.
-    fn module(
+    /// The symbol string of the module that the import item at index `item` names. `Ok(None)` if there is no such item.
+    fn module_text(
         &self,
         alloc: Global,
-        types: &Types<'_>,
+        view: &View<'_>,
         item: u32,
     ) -> Result<Option<String>, AllocError>
-        requires { NamesAreIdentifiers types.now }
-        ensures { (package_name : List ℕ) → AreSymbolTexts types.now package_name self.now →
-            IfOk result (λ text. option_map string_bytes text ≡ option_map canonical_text (module_symbol types.now package_name item)) }
+        requires { NamesAreIdentifiers view.now }
+        ensures { (package_name : List ℕ) → AreSymbolTexts view.now package_name self.now →
+            IfOk result (λ text. option_map string_bytes text ≡ option_map canonical_text (module_symbol view.now package_name item)) }
     {
         match self.foreign.modules.get(item as usize) {
             Some(text) => copy_text(text),
-            None => imported_module_text(alloc, types, &self.prefixes, item),
+            None => imported_module_text(alloc, view, &self.prefixes, item),
         }
     }
 
-    /// The symbol string of a name of a module that isn't in the tree.
-    fn external(
+    /// The symbol string of a name of the module that the import item at index `item` names, a module that isn't in the tree. `Ok(None)` if
+    /// there is no such item.
+    fn external_text(
         &self,
         alloc: Global,
-        types: &Types<'_>,
+        view: &View<'_>,
         item: u32,
         name: &[u8],
     ) -> Result<Option<String>, AllocError>
-        requires named { NamesAreIdentifiers types.now }
+        requires named { NamesAreIdentifiers view.now }
         requires of_name { IsName name.now }
-        ensures { (package_name : List ℕ) → AreSymbolTexts types.now package_name self.now →
-            IfOk result (λ text. option_map string_bytes text ≡ option_map canonical_text (named_symbol types.now item name.now)) }
+        ensures { (package_name : List ℕ) → AreSymbolTexts view.now package_name self.now →
+            IfOk result (λ text. option_map string_bytes text ≡ option_map canonical_text (named_symbol view.now item name.now)) }
     {
         match self.foreign.names.get(&(item, name)) {
             Some(text) => copy_text(text),
-            None => external_text(alloc, types, self.prefixes.outside.as_str(), item, name),
+            None => external_text(alloc, view, self.prefixes.outside.as_str(), item, name),
         }
     }
 
-    /// The symbol string of a target, if it has a symbol.
+    /// The symbol string of a target; `Ok(None)` if the target has no symbol.
     pub(crate) fn symbol(
         &self,
         alloc: Global,
-        types: &Types<'_>,
+        view: &View<'_>,
         target: Target,
     ) -> Result<Option<String>, AllocError>
-        requires named { NamesAreIdentifiers types.now }
-        requires external { (item name : ℕ) → target ≡ External item name → IsName (text types.now name) }
-        ensures { (package_name : List ℕ) → AreSymbolTexts types.now package_name self.now →
-            IfOk result (λ text. option_map string_bytes text ≡ option_map canonical_text (symbol_of types.now package_name target)) }
+        requires named { NamesAreIdentifiers view.now }
+        requires external { (item name : ℕ) → target ≡ External item name → IsName (text view.now name) }
+        ensures { (package_name : List ℕ) → AreSymbolTexts view.now package_name self.now →
+            IfOk result (λ text. option_map string_bytes text ≡ option_map canonical_text (symbol_of view.now package_name target)) }
     {
         match target {
-            Target::Declared(number) => self.declared(alloc, types, number),
+            Target::Declared(number) => self.declared_text(alloc, view, number),
             Target::Imported {
                 reached,
                 declaration,
-            } => self.imported(alloc, types, reached, declaration),
-            Target::External { item, name } => self.external(alloc, types, item, types.text(name)),
+            } => self.imported_text(alloc, view, reached, declaration),
+            Target::External { item, name } => self.external_text(
+                alloc,
+                view,
+                item,
+                view.text(name),
+            ),
             Target::Own => Ok(Some(self.own.clone()?)),
-            Target::Module(item) => self.module(alloc, types, item),
+            Target::Module(item) => self.module_text(alloc, view, item),
             Target::Predeclared | Target::Unresolved => Ok(None),
         }
     }

@@ -8,7 +8,7 @@ use Rattle.ob_tree.specs.TreeEvents.{Events, word, times}
 use Rattle.ob_tree.proofs.Eaches.{times_more}
 use Rattle.ob_grammar.specs.declared.cursor.Cursor.{Cursor}
 use Rattle.ob_grammar.specs.Combinators.{Read, many, accept_at, expect_at}
-use Rattle.ob_grammar.specs.AgreesWith.{remaining, kind_of}
+use Rattle.ob_grammar.specs.ParsesAs.{remaining, kind_of}
 use Rattle.ob_grammar.proofs.Remaining.{leaves_length}
 use Rattle.ob_grammar.proofs.Compatible.{expect_held}
 use Rattle.ob_grammar.proofs.Sound.{sound}

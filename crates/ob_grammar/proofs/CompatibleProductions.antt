@@ -31,13 +31,13 @@ module _ {N : ℕ → Type 0} {Q : ℕ → List Leaf → Read → Read → Type 
   qualident_held = seq_held c (name_held c Uses tt) (optional_held c (accept_starts c kinds.Dot) (name_held c Completes tt))
 
   -- a declaring identifier, and the asterisk after it
-  starred : {d : ℕ} (n : ℕ) (ls : List Leaf) → Q d (leafs.Name n ∷ ls) (identdef_after n ls) (identdef_after n ls)
+  is_exported : {d : ℕ} (n : ℕ) (ls : List Leaf) → Q d (leafs.Name n ∷ ls) (identdef_after n ls) (identdef_after n ls)
   unfolding identdef_after accept_at expect_at
-  starred n (leafs.Word kinds.Star ∷ rest) = c.one_after (c.a_name (Declares true) tt n (leafs.Word kinds.Star ∷ rest)) (expect_held c kinds.Star).at
-  starred n ls = c.a_name (Declares false) tt n ls
+  is_exported n (leafs.Word kinds.Star ∷ rest) = c.one_after (c.a_name (Declares true) tt n (leafs.Word kinds.Star ∷ rest)) (expect_held c kinds.Star).at
+  is_exported n ls = c.a_name (Declares false) tt n ls
 
   identdef_after_held : {d : ℕ} (n : ℕ) → Related Q d (leafs.Name n ∷ []) (identdef_after n) (identdef_after n)
-  identdef_after_held n = record { at = starred n }
+  identdef_after_held n = record { at = is_exported n }
 
   pub identdef_held : {d : ℕ} → Related Q d [] identdef_at identdef_at
   unfolding identdef_at

@@ -246,7 +246,7 @@ unfolding identdef_events identifier_at
 again_identdef_then {d} {o} {rest} r i end p = record {
   reads = λ le.
       let it = p.reads (low_right (identdef_events i) o d le) in
-      record { is = ap (after_name (λ n. seq (identdef_after n) (r n))) (split (identdef_events i) o rest) ∙ rw (identdef_after_again i.starred i.name (tokens_of o ++ rest) end, it.is) refl };
+      record { is = ap (after_name (λ n. seq (identdef_after n) (r n))) (split (identdef_events i) o rest) ∙ rw (identdef_after_again i.is_exported i.name (tokens_of o ++ rest) end, it.is) refl };
 }
 
 abbrev answer_outline : Option (Box Expr Global) → Events

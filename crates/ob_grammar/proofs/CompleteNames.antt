@@ -41,4 +41,4 @@ identdef_after_again b n rest end = rw ((star_again b rest end).is, star_read b)
 
 pub identdef_again : (i : Identdef) (rest : List Leaf) → accept_at kinds.Star rest ≡ None → Reads identdef_at (identdef_events i) rest
 unfolding identdef_at identdef_events identifier_at
-identdef_again i rest end = record { is = identdef_after_again i.starred i.name rest end }
+identdef_again i rest end = record { is = identdef_after_again i.is_exported i.name rest end }

@@ -12,8 +12,8 @@ use Rattle.ob_tree.specs.declared.token.Leaf.TheVariants as leafs
 use Rattle.ob_tree.specs.Constructs.{Construct}
 use Rattle.ob_tree.specs.Leaves.{leaf_of, leaves_from}
 use Rattle.ob_tree.specs.TreeEvents.{Ends, Identifier, Events, construct}
-use Rattle.ob_tree.specs.Derives.{endings_in}
-use Rattle.ob_tree.proofs.EndNames.{endings-append}
+use Rattle.ob_tree.specs.Derives.{end_names_in}
+use Rattle.ob_tree.proofs.EndNames.{collect_end_names-append}
 use Rattle.ob_grammar.specs.Lookahead.{uncons}
 use Rattle.ob_grammar.specs.ReadModules.{module_at, nothing_left, read_all}
 use Rattle.ob_grammar.proofs.Compatible.{IsTold}
@@ -34,7 +34,7 @@ pub record LeavesBelow (bound : ℕ) (ls : List Leaf) : Type 0 where
   pub each_one : All (IsBelow bound) ls
 
 pub record EndingsBelow (bound : ℕ) (o : Events) : Type 0 where
-  pub each_one : All (AreBelow bound) (endings_in o)
+  pub each_one : All (AreBelow bound) (end_names_in o)
 
 -- the same for an event sequence, and for the tokens after it
 pub record Known (bound : ℕ) (o : Events) (rest : List Leaf) : Type 0 where
@@ -44,11 +44,11 @@ pub record Known (bound : ℕ) (o : Events) (rest : List Leaf) : Type 0 where
 -- ---- event sequences
 
 both_below : (bound : ℕ) (a b : Events) → EndingsBelow bound a → EndingsBelow bound b → EndingsBelow bound (a ++ b)
-both_below bound a b p q = record { each_one = rw (endings-append a b) (All-append (AreBelow bound) (endings_in a) (endings_in b) p.each_one q.each_one) }
+both_below bound a b p q = record { each_one = rw (collect_end_names-append a b) (All-append (AreBelow bound) (end_names_in a) (end_names_in b) p.each_one q.each_one) }
 
 construct_below : (bound : ℕ) (c : Construct) (o : Events) → EndingsBelow bound o → EndingsBelow bound (construct c o)
 unfolding construct
-construct_below bound c o p = record { each_one = rw (endings-append o (Ends c ∷ []), append-nil (endings_in o)) p.each_one }
+construct_below bound c o p = record { each_one = rw (collect_end_names-append o (Ends c ∷ []), append-nil (end_names_in o)) p.each_one }
 
 nothing_below : (bound : ℕ) → EndingsBelow bound []
 nothing_below bound = record { each_one = All-nil (AreBelow bound) }
@@ -94,7 +94,7 @@ knows_construct : (bound : ℕ) (k : Construct) (from rest : List Leaf) (o : Eve
 knows_construct bound k from rest o p l = let inner = p l in record { in_outline = construct_below bound k o inner.in_outline; in_rest = inner.in_rest }
 
 -- one token of any kind
-knows_token : (bound : ℕ) (t : Leaf) (rest : List Leaf) (o : Events) → [] ≡ endings_in o → Knows bound (t ∷ rest) o rest
+knows_token : (bound : ℕ) (t : Leaf) (rest : List Leaf) (o : Events) → [] ≡ end_names_in o → Knows bound (t ∷ rest) o rest
 knows_token bound t rest o none l = record { in_outline = record { each_one = subst (All (AreBelow bound)) none (All-nil (AreBelow bound)) }; in_rest = tail_below bound t rest l }
 
 knowing : (bound : ℕ) → IsTaking (λ n. n < bound) (λ d. Knows bound)
@@ -114,7 +114,7 @@ nothing_left_is o p None e = ok_is o p e
 nothing_left_is o p (Some t) e = absurd cc
 
 -- each name after END, and the identifier that it has to repeat, is one of the tokens
-pub endings_known : (bound d : ℕ) (ls : List Leaf) (o : Events) → All (IsBelow bound) ls → read_all d ls ≡ Ok o → All (λ e. (e.0 < bound) × (e.1 < bound)) (endings_in o)
+pub endings_known : (bound d : ℕ) (ls : List Leaf) (o : Events) → All (IsBelow bound) ls → read_all d ls ≡ Ok o → All (λ e. (e.0 < bound) × (e.1 < bound)) (end_names_in o)
 unfolding read_all
 endings_known bound d ls o b e =
     let a = bind_ok (module_at d ls) (λ a. nothing_left a.0 (uncons a.1)) o e in

@@ -9,7 +9,7 @@ use Rattle.ob_tree.specs.Constructs as constructs
 use Rattle.ob_grammar.specs.declared.cursor.Cursor.{Cursor}
 use Rattle.ob_grammar.specs.Lookahead.{uncons}
 use Rattle.ob_grammar.specs.Combinators.{Reader, node}
-use Rattle.ob_grammar.specs.AgreesWith.{remaining, with_remaining}
+use Rattle.ob_grammar.specs.ParsesAs.{remaining, with_remaining}
 use Rattle.ob_grammar.specs.ReadExpressions.{expr_at, factor_at, factor_from, factor_with, negated_at, selector_from, selector_with}
 use Rattle.ob_grammar.specs.ReadStatements.{statement_from, statement_with}
 use Rattle.ob_grammar.specs.ReadTypes.{type_from, type_with}

@@ -6,7 +6,7 @@ use Rattle.std.proofs.lemmas.List.{get_or_append_left, length-drop, length-map}
 use Rattle.std.proofs.lemmas.Option.{slice_get_past}
 use Rattle.ob_scan.specs.declared.token.Token.{Token}
 use Rattle.ob_tree.specs.Declaring.{module_events}
-use Rattle.ob_tree.specs.Derives.{endings_in}
+use Rattle.ob_tree.specs.Derives.{end_names_in}
 use Rattle.ob_tree.specs.declared.token.Leaf.{Leaf}
 use Rattle.ob_tree.specs.Leaves.{leaves_from}
 use Rattle.ob_tree.specs.TreeEvents.{Events}
@@ -78,29 +78,29 @@ first_once bytes ts es m n f g = elim (cases_order (length f.before) (length g.b
 
 one_end_fault : (bytes : List ℕ) (ts : List Token) (m n : ℕ) → IsEndFault bytes ts m → IsEndFault bytes ts n → m ≡ n
 one_end_fault bytes ts m n f g =
-    let ends : endings_in (module_events g.of) ≡ endings_in (module_events f.of) = ap endings_in (f.tree.only g.of g.tree.derived) in
-    first_once bytes ts (endings_in (module_events f.of)) m n f.first (subst (λ (es : List (ℕ × ℕ)). IsFirstWrong bytes ts es n) ends g.first)
+    let ends : end_names_in (module_events g.of) ≡ end_names_in (module_events f.of) = ap end_names_in (f.tree.only g.of g.tree.derived) in
+    first_once bytes ts (end_names_in (module_events f.of)) m n f.first (subst (λ (es : List (ℕ × ℕ)). IsFirstWrong bytes ts es n) ends g.first)
 
 ---- all errors
 
-pub one_fault : (bytes : List ℕ) (ts : List Token) (f g : ParseFault) → IsFaultOf bytes ts f → IsFaultOf bytes ts g → (f ≢ faults.Memory) → (g ≢ faults.Memory) → f ≡ g
-one_fault bytes ts (faults.Syntax at) (faults.Syntax to) h k some other =
+pub fault_is_unique : (bytes : List ℕ) (ts : List Token) (f g : ParseFault) → IsFaultOf bytes ts f → IsFaultOf bytes ts g → (f ≢ faults.Memory) → (g ≢ faults.Memory) → f ≡ g
+fault_is_unique bytes ts (faults.Syntax at) (faults.Syntax to) h k some other =
     let same = wrong_is _ (remaining_from ts h.0.number) (remaining_from ts k.0.number) h.0.stops k.0.stops in
     ap faults.Syntax (sym h.0.begins ∙ one_start ts h.0.number k.0.number (length bytes) same ∙ k.0.begins)
-one_fault bytes ts (faults.Syntax at) (faults.EndName to) h k some other = absurd (h.1 k.of k.tree.derived)
-one_fault bytes ts (faults.Syntax at) (faults.TooDeep to) h k some other = absurd (never_deep _ k.0.remaining (remaining_from ts h.0.number) k.0.stops h.0.stops)
-one_fault bytes ts (faults.EndName at) (faults.Syntax to) h k some other = absurd (k.1 h.of h.tree.derived)
-one_fault bytes ts (faults.EndName at) (faults.EndName to) h k some other = ap faults.EndName (one_end_fault bytes ts at to h k)
-one_fault bytes ts (faults.EndName at) (faults.TooDeep to) h k some other = let deep = k.1 h.of h.tree.derived in let shallow = h.tree.shallow in absurd (omega arith)
-one_fault bytes ts (faults.TooDeep at) (faults.Syntax to) h k some other = absurd (never_deep _ h.0.remaining (remaining_from ts k.0.number) h.0.stops k.0.stops)
-one_fault bytes ts (faults.TooDeep at) (faults.EndName to) h k some other = let deep = h.1 k.of k.tree.derived in let shallow = k.tree.shallow in absurd (omega arith)
-one_fault bytes ts (faults.TooDeep at) (faults.TooDeep to) h k some other =
+fault_is_unique bytes ts (faults.Syntax at) (faults.EndName to) h k some other = absurd (h.1 k.of k.tree.derived)
+fault_is_unique bytes ts (faults.Syntax at) (faults.TooDeep to) h k some other = absurd (never_deep _ k.0.remaining (remaining_from ts h.0.number) k.0.stops h.0.stops)
+fault_is_unique bytes ts (faults.EndName at) (faults.Syntax to) h k some other = absurd (k.1 h.of h.tree.derived)
+fault_is_unique bytes ts (faults.EndName at) (faults.EndName to) h k some other = ap faults.EndName (one_end_fault bytes ts at to h k)
+fault_is_unique bytes ts (faults.EndName at) (faults.TooDeep to) h k some other = let deep = k.1 h.of h.tree.derived in let shallow = h.tree.shallow in absurd (omega arith)
+fault_is_unique bytes ts (faults.TooDeep at) (faults.Syntax to) h k some other = absurd (never_deep _ h.0.remaining (remaining_from ts k.0.number) h.0.stops k.0.stops)
+fault_is_unique bytes ts (faults.TooDeep at) (faults.EndName to) h k some other = let deep = h.1 k.of k.tree.derived in let shallow = k.tree.shallow in absurd (omega arith)
+fault_is_unique bytes ts (faults.TooDeep at) (faults.TooDeep to) h k some other =
     let same = deep_is _ h.0.remaining k.0.remaining h.0.stops k.0.stops in
     let from : remaining_from ts h.0.number ≡ remaining_from ts k.0.number = h.0.is_remaining ∙ ap Some same ∙ sym k.0.is_remaining in
     let start : start_or 0 (slice_get ts h.0.number) ≡ start_or 0 (slice_get ts k.0.number) = one_start ts h.0.number k.0.number 0 from in
     ap faults.TooDeep (sym h.0.begins ∙ ap (start_or 0) (sym h.0.is_token) ∙ start ∙ ap (start_or 0) k.0.is_token ∙ k.0.begins)
-one_fault bytes ts f faults.Memory h k some other = absurd (other refl)
-one_fault bytes ts faults.Memory g h k some other = absurd (some refl)
+fault_is_unique bytes ts f faults.Memory h k some other = absurd (other refl)
+fault_is_unique bytes ts faults.Memory g h k some other = absurd (some refl)
 
 ---- offsets
 

@@ -12,7 +12,7 @@ use Rattle.ob_scan.specs.Spelling.{AreInText}
 use Rattle.ob_scan.specs.Texts.{bytes_of}
 use Rattle.ob_tree.specs.declared.declaration.Module.{Module}
 use Rattle.ob_tree.specs.Declaring.{module_events}
-use Rattle.ob_tree.specs.Derives.{Derives, depth, endings_in, spelling}
+use Rattle.ob_tree.specs.Derives.{Derives, depth, end_names_in, spelling}
 use Rattle.ob_tree.specs.declared.token.Leaf.{Leaf}
 use Rattle.ob_tree.specs.Leaves.{leaf_of, leaves_from}
 use Rattle.ob_tree.specs.TreeEvents.{Events}
@@ -20,7 +20,7 @@ use Rattle.ob_grammar.specs.declared.fault.ParseFault.{ParseFault}
 use Rattle.ob_grammar.specs.declared.fault.ParseFault.TheVariants as faults
 use Rattle.ob_grammar.specs.Lookahead.{uncons}
 use Rattle.ob_grammar.specs.Combinators.{ReadError, Unexpected, TooDeep, too_deep_error}
-use Rattle.ob_grammar.specs.AgreesWith.{Fails, remaining}
+use Rattle.ob_grammar.specs.ParsesAs.{Fails, remaining}
 use Rattle.ob_grammar.specs.declared.cursor.Cursor.{Cursor}
 use Rattle.ob_grammar.specs.declared.stop.Stop.{Stop}
 use Rattle.ob_grammar.specs.declared.stop.Stop.TheVariants as stops
@@ -46,8 +46,8 @@ never r o x e f = cc
 again : (kinds : List Kind) (d : ℕ) (m : Module) → Derives kinds m → depth m ≤ d → read_all d (leaves_from 0 kinds) ≡ Ok (module_events m)
 again kinds d m h le = ap (read_all d) h ∙ all_again d m le
 
-pub one_tree : (ts : List Token) (m : Module) → read_all 200 (leaves_from 0 (kinds_of ts)) ≡ Ok (module_events m) → IsOneTree ts m
-one_tree ts m e =
+pub tree_is_unique : (ts : List Token) (m : Module) → read_all 200 (leaves_from 0 (kinds_of ts)) ≡ Ok (module_events m) → IsOneTree ts m
+tree_is_unique ts m e =
     let read = all_sound 200 (leaves_from 0 (kinds_of ts)) (module_events m) e in
     record {
       derived = read.0;
@@ -99,9 +99,9 @@ why_none bytes ts (stops.Unexpected i) few e = wrong_fault bytes ts i.at (e ∙ 
 why_none bytes ts (stops.TooDeep i) few e = deep_fault bytes ts i.at (e ∙ ap (λ (o : Option (Leaf × List Leaf)). refused (too_deep_error o)) (ahead_is ts i few))
 
 -- both indices of each name after END are indices of tokens
-pub endings_are_known : (ts : List Token) (o : Events) → read_all 200 (leaves_from 0 (kinds_of ts)) ≡ Ok o → All (AreTokenNumbers ts) (endings_in o)
+pub endings_are_known : (ts : List Token) (o : Events) → read_all 200 (leaves_from 0 (kinds_of ts)) ≡ Ok o → All (AreTokenNumbers ts) (end_names_in o)
 endings_are_known ts o e =
-    subst (λ (n : ℕ). All (λ (p : ℕ × ℕ). (p.0 < n) × (p.1 < n)) (endings_in o)) (length-map ts (λ (t : Token). t.kind)) (endings_known (length (kinds_of ts)) 200 (leaves_from 0 (kinds_of ts)) o (leaves_below (kinds_of ts)) e)
+    subst (λ (n : ℕ). All (λ (p : ℕ × ℕ). (p.0 < n) × (p.1 < n)) (end_names_in o)) (length-map ts (λ (t : Token). t.kind)) (endings_known (length (kinds_of ts)) 200 (leaves_from 0 (kinds_of ts)) o (leaves_below (kinds_of ts)) e)
 
 pub tokens_placed : (bytes : List ℕ) (ts : List Token) → AreInText bytes ts → All (IsInText bytes) ts
 tokens_placed bytes ts h = λ i d in_i. let a = h.some i d in_i in (omega arith, h.within i d in_i)
@@ -125,7 +125,7 @@ not_wrong bytes ts at e r w = w.differ (pair_texts bytes ts e r.pair w.pair r.sa
 pub no_end_fault : (bytes : List ℕ) (ts : List Token) (m : Module) (at : ℕ) → IsTheTree bytes ts m → IsEndFault bytes ts at → ⊥
 no_end_fault bytes ts m at t f =
     let same : module_events f.of ≡ module_events m = t.tree.only f.of f.tree.derived in
-    let split : endings_in (module_events m) ≡ f.first.before ++ f.first.wrong ∷ f.first.after = ap endings_in (sym same) ∙ f.first.split in
+    let split : end_names_in (module_events m) ≡ f.first.before ++ f.first.wrong ∷ f.first.after = ap end_names_in (sym same) ∙ f.first.split in
     let all : All (IsRightEnd bytes ts) (f.first.before ++ f.first.wrong ∷ f.first.after) = subst (All (IsRightEnd bytes ts)) split t.ended in
     let here : get_or (f.first.before ++ f.first.wrong ∷ f.first.after) (length f.first.before) f.first.wrong ≡ f.first.wrong = get_or-append_seam f.first.before f.first.wrong f.first.after f.first.wrong in
     not_wrong bytes ts at f.first.wrong (subst (IsRightEnd bytes ts) here (all (length f.first.before) f.first.wrong (omega (arith, length-append f.first.before (f.first.wrong ∷ f.first.after))))) f.first.is_wrong

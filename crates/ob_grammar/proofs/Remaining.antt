@@ -7,7 +7,7 @@ use Rattle.ob_tree.specs.declared.token.Leaf.{Leaf}
 use Rattle.ob_tree.specs.Leaves.{leaf_of, leaves_from}
 use Rattle.ob_grammar.specs.declared.cursor.Cursor.{Cursor}
 use Rattle.ob_grammar.specs.Lookahead.{uncons}
-use Rattle.ob_grammar.specs.AgreesWith.{remaining, kind_of}
+use Rattle.ob_grammar.specs.ParsesAs.{remaining, kind_of}
 
 -- there are as many tokens as kinds
 pub leaves_length : (n : ℕ) (kinds : List Kind) → length (leaves_from n kinds) ≡ length kinds

@@ -8,7 +8,7 @@ use Rattle.ob_tree.specs.TreeEvents.{Events, each, word}
 use Rattle.ob_grammar.specs.declared.cursor.Cursor.{Cursor}
 use Rattle.ob_grammar.specs.declared.stop.Stop.{Stop}
 use Rattle.ob_grammar.specs.Combinators.{Lookahead, Reader, Start, many}
-use Rattle.ob_grammar.specs.AgreesWith.{AgreesWith, AppendsItem, Fails, remaining}
+use Rattle.ob_grammar.specs.ParsesAs.{ParsesAs, AppendsItem, Fails, remaining}
 use Rattle.ob_grammar.specs.ReadExpressions.{as_word}
 use Rattle.ob_grammar.proofs.Kept.{kept, unkept}
 use Rattle.ob_grammar.proofs.LoopEnds.{ends}
@@ -32,21 +32,21 @@ AreTurnsRead ts r xs input here = with_front (all_shown r xs) (many r.start r.re
 
 module _ {X T : Type 0} (ts : List Token) (r : Repetition T) (result : Result (X × Cursor) Stop) (value : X → T) (here behind : Cursor) (old new : List T) where
   -- a turn takes tokens
-  pub turn_shorter : (next : Cursor) → r.start (remaining ts here) ≡ Some (r.marks, remaining ts behind) → AgreesWith ts (λ x. (r.shown (value x.0), remaining ts x.1)) result (r.read (remaining ts behind)) →
+  pub turn_shorter : (next : Cursor) → r.start (remaining ts here) ≡ Some (r.marks, remaining ts behind) → ParsesAs ts (λ x. (r.shown (value x.0), remaining ts x.1)) result (r.read (remaining ts behind)) →
       AppendsItem value old new result (Ok next) → length (remaining ts next) < length (remaining ts here)
   turn_shorter next found gives invariants =
       let k = kept ts r.shown result value old new next (r.read (remaining ts behind)) gives invariants in
       r.advances.shorter (remaining ts here) (r.marks, remaining ts behind) (r.shown k.item, remaining ts next) found k.is_read
 
   -- the list has one more
-  pub turn_kept : (next input : Cursor) → r.start (remaining ts here) ≡ Some (r.marks, remaining ts behind) → AgreesWith ts (λ x. (r.shown (value x.0), remaining ts x.1)) result (r.read (remaining ts behind)) →
+  pub turn_kept : (next input : Cursor) → r.start (remaining ts here) ≡ Some (r.marks, remaining ts behind) → ParsesAs ts (λ x. (r.shown (value x.0), remaining ts x.1)) result (r.read (remaining ts behind)) →
       AppendsItem value old new result (Ok next) → AreTurnsRead ts r old input here → AreTurnsRead ts r new input next
   turn_kept next input found gives invariants h =
       let k = kept ts r.shown result value old new next (r.read (remaining ts behind)) gives invariants in
       pushed r.start r.read r.advances (λ x. r.marks ++ r.shown x) old new k.item (remaining ts here) (r.marks, remaining ts behind) (r.shown k.item, remaining ts next) _ k.items found k.is_read refl h
 
   -- a turn that fails: the loop fails with it
-  pub turn_failed : (stop : Stop) (input : Cursor) → r.start (remaining ts here) ≡ Some (r.marks, remaining ts behind) → AgreesWith ts (λ x. (r.shown (value x.0), remaining ts x.1)) result (r.read (remaining ts behind)) →
+  pub turn_failed : (stop : Stop) (input : Cursor) → r.start (remaining ts here) ≡ Some (r.marks, remaining ts behind) → ParsesAs ts (λ x. (r.shown (value x.0), remaining ts x.1)) result (r.read (remaining ts behind)) →
       AppendsItem value old new result (Err stop) → AreTurnsRead ts r old input here → Fails ts stop (many r.start r.read (remaining ts input))
   turn_failed stop input found gives invariants h =
       ends r.start r.read r.advances ts stop (all_shown r old) (remaining ts here) (r.marks, remaining ts behind) _ found (unkept ts r.shown result value old new stop (r.read (remaining ts behind)) gives invariants) h

@@ -88,7 +88,7 @@ unless k ls = if head_is (is_word k) (uncons ls) then None else Some ([], ls)
 abbrev pub nothing : Reader
 nothing ls = Ok ([], ls)
 
--- one reader after the other
+-- the first reader, and then the second reader on the tokens that are left
 abbrev pub seq : Reader → Reader → Reader
 seq r s ls = do
   a ← r ls
@@ -101,13 +101,13 @@ prefixed ms r ls = do
   a ← r ls
   Ok (ms ++ a.0, a.1)
 
--- the events of r, after others that depend on them
+-- the events of r, preceded by events that are a function of them
 abbrev pub led_by : (Events → Events) → Reader → Reader
 led_by ms r ls = do
   a ← r ls
   Ok (ms a.0 ++ a.0, a.1)
 
--- there is an event
+-- whether the list has an event
 abbrev pub is_something : Events → Bool
 is_something [] = false
 is_something (m ∷ ms) = true

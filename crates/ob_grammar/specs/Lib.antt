@@ -1,7 +1,7 @@
 pub mod Combinators
 pub mod Ends
 pub mod Lookahead
-pub mod AgreesWith
+pub mod ParsesAs
 pub mod Parsed
 pub mod ReadExpressions
 pub mod ReadModules

@@ -5,7 +5,7 @@ use Rattle.ob_tree.specs.declared.token.Leaf.TheVariants as leafs
 use Rattle.ob_tree.specs.Leaves.{kind_eq}
 use Rattle.ob_scan.specs.declared.kind.Kind.{Kind}
 
--- the first token and those after it, if there is one
+-- the first token and the tokens after it; None if there is no token
 abbrev pub uncons : List Leaf → Option (Leaf × List Leaf)
 uncons [] = None
 uncons (l ∷ ls) = Some (l, ls)

@@ -6,7 +6,7 @@ use Rattle.ob_scan.specs.declared.token.Token.{Token}
 use Rattle.ob_scan.specs.Texts.{bytes_of}
 use Rattle.ob_tree.specs.declared.declaration.Module.{Module}
 use Rattle.ob_tree.specs.Declaring.{module_events}
-use Rattle.ob_tree.specs.Derives.{Derives, depth, endings_in}
+use Rattle.ob_tree.specs.Derives.{Derives, depth, end_names_in}
 use Rattle.ob_tree.specs.declared.token.Leaf.{Leaf}
 use Rattle.ob_tree.specs.Leaves.{leaves_from}
 use Rattle.ob_tree.specs.TreeEvents.{Events}
@@ -47,7 +47,7 @@ pub record IsOneTree (ts : List Token) (m : Module) : Type 0 where
 -- the one tree of the tokens, whose names after END are right
 pub record IsTheTree (bytes : List ℕ) (ts : List Token) (m : Module) : Type 0 where
   pub tree : IsOneTree ts m
-  pub ended : All (IsRightEnd bytes ts) (endings_in (module_events m))
+  pub ended : All (IsRightEnd bytes ts) (end_names_in (module_events m))
 
 -- the first wrong name after END begins at this offset
 pub record IsFirstWrong (bytes : List ℕ) (ts : List Token) (ends : List (ℕ × ℕ)) (at : ℕ) : Type 0 where
@@ -62,7 +62,7 @@ pub record IsFirstWrong (bytes : List ℕ) (ts : List Token) (ends : List (ℕ �
 pub record IsEndFault (bytes : List ℕ) (ts : List Token) (at : ℕ) : Type 0 where
   pub of : Module
   pub tree : IsOneTree ts of
-  pub first : IsFirstWrong bytes ts (endings_in (module_events of)) at
+  pub first : IsFirstWrong bytes ts (end_names_in (module_events of)) at
 
 -- a token begins at this offset
 pub record IsTokenStart (ts : List Token) (at : ℕ) : Type 0 where
@@ -80,7 +80,7 @@ abbrev pub start_or : ℕ → Option Token → ℕ
 start_or end None = end
 start_or end (Some t) = t.start
 
--- the token with this index and those after it, or nothing after the last one
+-- the token with this index and the tokens after it; None after the last token
 abbrev pub remaining_from : List Token → ℕ → Option (Leaf × List Leaf)
 remaining_from ts n = uncons (leaves_from n (kinds_of (drop n ts)))
 

@@ -166,7 +166,7 @@ unfoldable mutual
   negated_at zero = limit_at factor_first
   negated_at (suc d) = node constructs.Negated (factor_with (expr_at d) (negated_at d))
 
--- constructs that are no level themselves, with n levels left for those in them
+-- constructs that are no level themselves; n levels are left for the constructs in them
 abbrev pub factor_at : ℕ → Reader
 factor_at d = factor_with (expr_at d) (negated_at d)
 

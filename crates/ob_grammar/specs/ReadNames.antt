@@ -12,7 +12,7 @@ qualident_after n = prefixed (used n) (optional (accept_at kinds.Dot) (name_at c
 unfoldable pub qualident_at : Reader
 qualident_at = seq (name_at used) (optional (accept_at kinds.Dot) (name_at completed))
 
--- identdef = ident ["*"], after its identifier, whose event says whether an asterisk follows
+-- identdef = ident ["*"], after its identifier; the event of the identifier has a flag whether an asterisk follows
 unfoldable pub identdef_after : ℕ → Reader
 identdef_after n = led_by (λ star. declared (is_something star) n) (optional (accept_at kinds.Star) nothing)
 

@@ -13,16 +13,16 @@ pub struct Cursor {
 
 impl Cursor {
     ghost use Rattle.ob_grammar.specs.Lookahead.{uncons};
-    ghost use Rattle.ob_grammar.specs.AgreesWith.{remaining, with_remaining};
+    ghost use Rattle.ob_grammar.specs.ParsesAs.{remaining, with_remaining};
 
     /// The cursor before the first token.
     pub const ALL: Cursor = Cursor { at: 0 };
 
     /// The next token, and the cursor after it; `None` after the last token.
     #[inline(always)]
-    #[tactic(auto, unfolding(crate::specs::AgreesWith::remaining))]
+    #[tactic(auto, unfolding(crate::specs::ParsesAs::remaining))]
     pub fn next(self, tokens: &[Token]) -> Option<(Leaf, Cursor)>
-        // Exactly the first of the remaining tokens, and those after it.
+        // The result is the first remaining token, with a cursor at the tokens after it.
         ensures read { with_remaining tokens.now result ≡ uncons (remaining tokens.now self) }
         // The new cursor is one token further.
         ensures number { IfSome result (λ x. x.1.at ≡ self.at + 1) }

@@ -3,7 +3,7 @@
 ghost use Rattle.std.specs.Prelude.{◌≡◌};
 ghost use Rattle.ob_grammar.specs.Lookahead.{head_is, uncons};
 ghost use Rattle.ob_grammar.specs.ReadModules.{is_identifier};
-ghost use Rattle.ob_grammar.specs.AgreesWith.{remaining};
+ghost use Rattle.ob_grammar.specs.ParsesAs.{remaining};
 
 use crate::cursor::Cursor;
 use ob_scan::Token;

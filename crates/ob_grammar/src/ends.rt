@@ -15,9 +15,9 @@ fn token_bytes<'a>(bytes: &'a [u8], token: Token) -> &'a [u8]
     &bytes[token.start as usize..token.end as usize]
 }
 
-/// Whether a name after END is right: whether the bytes of the tokens with these indices are equal.
+/// Whether the name after END, the token `end`, has the bytes of the token `name` of its module or procedure.
 pub fn names_match(bytes: &[u8], tokens: &[Token], name: u32, end: u32) -> bool
-    // Both are indices of tokens.
+    // `name` and `end` are indices of tokens.
     requires in_range { (name < length tokens.now) × (end < length tokens.now) }
     // The tokens are in the bounds of the bytes.
     requires in_text { All (IsInText bytes.now) tokens.now }

@@ -16,8 +16,8 @@ pub const MAX_DEPTH: u32 = 200;
 /// Why there is no tree. Offsets are in bytes, from 0.
 #[derive(Clone, Copy, Debug, PartialEq, Eq, Error)]
 pub enum ParseFault {
-    /// No tree derives the tokens. Parsed from the left, the token at this offset is the first one that is wrong; the offset is the
-    /// length of the text if it ends too early.
+    /// No tree derives the tokens. Parsing from the left, the token at this offset is the first wrong one. If the text ends too early, the
+    /// offset is the length of the text.
     #[error("the token at {offset} is wrong")]
     Syntax { offset: u32 },
     /// A name after an END differs from the name of its module or procedure. The first wrong name begins at this offset.
@@ -54,7 +54,7 @@ fn token_offset(end: u32, tokens: &[Token], number: u32) -> u32
 
 /// The error of a text of `end` bytes for which the parser stopped with `stop`: the offset of the token, or `end` if there is none.
 pub fn stop_fault(end: u32, tokens: &[Token], stop: Stop) -> ParseFault
-    // Exactly this error.
+    // The result is exactly the error for this stop.
     ensures { result ≡ fault_of_stop end tokens.now stop }
 {
     match stop {

@@ -11,17 +11,17 @@ ghost use Rattle.ob_grammar.specs.declared.fault.ParseFault.{ParseFault};
 ghost use Rattle.ob_grammar.specs.declared.fault.ParseFault.TheVariants as faults;
 
 /// The grammar is unambiguous: two trees that derive the tokens have equal event sequences.
-pub fn one_tree()
+pub fn tree_is_unique()
     ensures { (kinds : List Kind) (m n : Module) → Derives kinds m → Derives kinds n → module_events m ≡ module_events n }
 {}
 
 /// If a tree of at most 200 levels, with right names after END, derives the tokens of a text, the text has no error but Memory.
-pub fn no_fault_of_a_tree()
+pub fn tree_excludes_fault()
     ensures { (bytes : List ℕ) (ts : List Token) (m : Module) (fault : ParseFault) → IsTheTree bytes ts m → IsFaultOf bytes ts fault → fault ≡ faults.Memory }
 {}
 
 /// A text has at most one error but Memory: one of Syntax, TooDeep and EndName, at one offset.
-pub fn one_fault()
+pub fn fault_is_unique()
     ensures { (bytes : List ℕ) (ts : List Token) (f g : ParseFault) → IsFaultOf bytes ts f → IsFaultOf bytes ts g →
         (f ≢ faults.Memory) → (g ≢ faults.Memory) → f ≡ g }
 {}

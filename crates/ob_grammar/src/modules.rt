@@ -7,7 +7,7 @@ ghost use Rattle.ob_tree.specs.TreeEvents.{word, if_present, imported};
 ghost use Rattle.ob_tree.specs.Declaring.{import_events};
 ghost use Rattle.ob_grammar.specs.Combinators.{optional, accept_at, name_at};
 ghost use Rattle.ob_grammar.specs.ReadModules.{import_item_at};
-ghost use Rattle.ob_grammar.specs.AgreesWith.{AgreesWith, remaining};
+ghost use Rattle.ob_grammar.specs.ParsesAs.{ParsesAs, remaining};
 
 use crate::cursor::Cursor;
 use crate::stop::Stop;
@@ -18,7 +18,7 @@ use ob_tree::declaration::ImportItem;
 /// Parses `:=` and the name of a module that is imported with an alias, if `:=` is next.
 #[tactic(auto, unfolding(crate::specs::Combinators::name_at))]
 fn alias_target(tokens: &[Token], input: Cursor) -> Result<(Option<u32>, Cursor), Stop>
-    ensures read { AgreesWith tokens.now (λ x. (if_present (λ m. word kinds.Assign ++ imported m) x.0, remaining tokens.now x.1)) result (optional (accept_at kinds.Assign) (name_at imported) (remaining tokens.now input)) }
+    ensures read { ParsesAs tokens.now (λ x. (if_present (λ m. word kinds.Assign ++ imported m) x.0, remaining tokens.now x.1)) result (optional (accept_at kinds.Assign) (name_at imported) (remaining tokens.now input)) }
     ensures number { IfOk result (λ x. x.1.at + 1 ≡ input.at + name_width x.0) }
 {
     match accept(tokens, input, Kind::Assign) {
@@ -33,8 +33,8 @@ fn alias_target(tokens: &[Token], input: Cursor) -> Result<(Option<u32>, Cursor)
 /// Parses an import item.
 #[tactic(auto, using(ob_tree::proofs::DeclarationLayers::declaring_made), unfolding(crate::specs::ReadModules::import_item_at, crate::specs::Combinators::name_at))]
 pub fn import(tokens: &[Token], input: Cursor) -> Result<(ImportItem, Cursor), Stop>
-    // What it returns is what the grammar reads, or the error is.
-    ensures read { AgreesWith tokens.now (λ x. (import_events x.0, remaining tokens.now x.1)) result (import_item_at (remaining tokens.now input)) }
+    // The result is the item and the remaining tokens that the grammar reads, or the grammar's error.
+    ensures read { ParsesAs tokens.now (λ x. (import_events x.0, remaining tokens.now x.1)) result (import_item_at (remaining tokens.now input)) }
     // The cursor is advanced by the tokens of the item.
     ensures number { IfOk result (λ x. x.1.at ≡ input.at + name_width x.0.of) }
 {

@@ -3,7 +3,7 @@
 ghost use Rattle.std.specs.Prelude.{◌≡◌, ◌+◌, IfOk};
 ghost use Rattle.ob_tree.specs.Widths.{identdef_width, name_width};
 ghost use Rattle.ob_tree.specs.Names.{qualident_events, identdef_events};
-ghost use Rattle.ob_grammar.specs.AgreesWith.{AgreesWith, remaining};
+ghost use Rattle.ob_grammar.specs.ParsesAs.{ParsesAs, remaining};
 ghost use Rattle.ob_grammar.specs.ReadNames as readers;
 
 use crate::cursor::Cursor;
@@ -20,7 +20,7 @@ pub fn qualident_after(
     input: Cursor,
 ) -> Result<(Qualident, Cursor), Stop>
     // The result is what the grammar reads, or the grammar's error.
-    ensures read { AgreesWith tokens.now (λ x. (qualident_events x.0, remaining tokens.now x.1)) result (readers.qualident_after head (remaining tokens.now input)) }
+    ensures read { ParsesAs tokens.now (λ x. (qualident_events x.0, remaining tokens.now x.1)) result (readers.qualident_after head (remaining tokens.now input)) }
     // The cursor is advanced by these tokens.
     ensures number { IfOk result (λ x. x.1.at + 1 ≡ input.at + name_width x.0.member) }
 {
@@ -43,7 +43,7 @@ pub fn qualident_after(
 #[tactic(auto, unfolding(crate::specs::ReadNames::qualident_after, crate::specs::ReadNames::qualident_at, crate::specs::Combinators::name_at))]
 pub fn qualident(tokens: &[Token], input: Cursor) -> Result<(Qualident, Cursor), Stop>
     // The result is what the grammar reads, or the grammar's error.
-    ensures read { AgreesWith tokens.now (λ x. (qualident_events x.0, remaining tokens.now x.1)) result (readers.qualident_at (remaining tokens.now input)) }
+    ensures read { ParsesAs tokens.now (λ x. (qualident_events x.0, remaining tokens.now x.1)) result (readers.qualident_at (remaining tokens.now input)) }
     // The cursor is advanced by these tokens.
     ensures number { IfOk result (λ x. x.1.at ≡ input.at + name_width x.0.member) }
 {
@@ -55,11 +55,11 @@ pub fn qualident(tokens: &[Token], input: Cursor) -> Result<(Qualident, Cursor),
 #[tactic(auto, using(crate::proofs::Stars::star_read), unfolding(ob_tree::specs::Names::identdef_events, crate::specs::ReadNames::identdef_at, crate::specs::ReadNames::identdef_after))]
 pub fn identdef(tokens: &[Token], input: Cursor) -> Result<(Identdef, Cursor), Stop>
     // The result is what the grammar reads, or the grammar's error.
-    ensures read { AgreesWith tokens.now (λ x. (identdef_events x.0, remaining tokens.now x.1)) result (readers.identdef_at (remaining tokens.now input)) }
+    ensures read { ParsesAs tokens.now (λ x. (identdef_events x.0, remaining tokens.now x.1)) result (readers.identdef_at (remaining tokens.now input)) }
     // The cursor is advanced by these tokens.
     ensures number { IfOk result (λ x. x.1.at ≡ input.at + identdef_width x.0) }
 {
     let (name, rest) = identifier(tokens, input)?;
-    let (starred, rest) = skip(tokens, rest, Kind::Star);
-    Ok((Identdef { name, starred }, rest))
+    let (is_exported, rest) = skip(tokens, rest, Kind::Star);
+    Ok((Identdef { name, is_exported }, rest))
 }

@@ -1,12 +1,12 @@
-//! Operators, and the first tokens of expressions and their parts (Oberon-07 report, section 8). An operator's function reads it, if it
-//! is next.
+//! Operators, and the first tokens of expressions, factors and selectors (Oberon-07 report, section 8). The functions of operators parse
+//! an operator if it is the next token.
 
 ghost use Rattle.std.specs.Prelude.{◌≡◌, ◌+◌, Ok, is_some, IfSome, if◌then◌else◌};
 ghost use Rattle.ob_tree.specs.TreeEvents.{word, if_present};
 ghost use Rattle.ob_tree.specs.Expressions.{sign_kind};
 ghost use Rattle.ob_grammar.specs.Lookahead.{uncons, head_is};
 ghost use Rattle.ob_grammar.specs.Combinators.{nothing, optional};
-ghost use Rattle.ob_grammar.specs.AgreesWith.{remaining, with_remaining};
+ghost use Rattle.ob_grammar.specs.ParsesAs.{remaining, with_remaining};
 ghost use Rattle.ob_grammar.specs.ReadExpressions.{relation_at, add_at, mul_at, sign_start, expr_first, factor_first, selector_first};
 
 use crate::cursor::Cursor;
@@ -17,7 +17,7 @@ use ob_tree::token::Leaf;
 /// The relation that is next, if one is, and the cursor after it.
 #[tactic(auto, unfolding(crate::specs::ReadExpressions::relation_at))]
 pub fn relation(tokens: &[Token], input: Cursor) -> Option<(Relation, Cursor)>
-    // Exactly what the grammar reads.
+    // The result is exactly what the grammar reads here.
     ensures read { with_remaining tokens.now result ≡ relation_at (remaining tokens.now input) }
     // The cursor is advanced by the token, if there is one.
     ensures number { IfSome result (λ x. x.1.at ≡ input.at + 1) }
@@ -40,7 +40,7 @@ pub fn relation(tokens: &[Token], input: Cursor) -> Option<(Relation, Cursor)>
 /// The sign that is next, if one is, and the cursor after it.
 #[tactic(auto, unfolding(crate::specs::ReadExpressions::sign_at))]
 pub fn sign(tokens: &[Token], input: Cursor) -> (Option<Sign>, Cursor)
-    // Exactly what the grammar reads.
+    // The result is exactly what the grammar reads here.
     ensures read { Ok (if_present (λ x. word (sign_kind x)) result.0, remaining tokens.now result.1) ≡ optional sign_start nothing (remaining tokens.now input) }
     // The cursor is advanced by the token, if there is one.
     ensures number { result.1.at ≡ input.at + (if is_some result.0 then 1 else 0) }
@@ -54,8 +54,8 @@ pub fn sign(tokens: &[Token], input: Cursor) -> (Option<Sign>, Cursor)
 
 /// The operator between terms that is next, if one is, and the cursor after it.
 #[tactic(auto, unfolding(crate::specs::ReadExpressions::add_at))]
-pub fn add_operator(tokens: &[Token], input: Cursor) -> Option<(AddOperator, Cursor)>
-    // Exactly what the grammar reads.
+pub fn parse_add_operator(tokens: &[Token], input: Cursor) -> Option<(AddOperator, Cursor)>
+    // The result is exactly what the grammar reads here.
     ensures read { with_remaining tokens.now result ≡ add_at (remaining tokens.now input) }
     // The cursor is advanced by the token, if there is one.
     ensures number { IfSome result (λ x. x.1.at ≡ input.at + 1) }
@@ -70,8 +70,8 @@ pub fn add_operator(tokens: &[Token], input: Cursor) -> Option<(AddOperator, Cur
 
 /// The operator between factors that is next, if one is, and the cursor after it.
 #[tactic(auto, unfolding(crate::specs::ReadExpressions::mul_at))]
-pub fn mul_operator(tokens: &[Token], input: Cursor) -> Option<(MulOperator, Cursor)>
-    // Exactly what the grammar reads.
+pub fn parse_mul_operator(tokens: &[Token], input: Cursor) -> Option<(MulOperator, Cursor)>
+    // The result is exactly what the grammar reads here.
     ensures read { with_remaining tokens.now result ≡ mul_at (remaining tokens.now input) }
     // The cursor is advanced by the token, if there is one.
     ensures number { IfSome result (λ x. x.1.at ≡ input.at + 1) }

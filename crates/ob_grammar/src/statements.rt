@@ -2,7 +2,7 @@
 
 ghost use Rattle.std.specs.Prelude.{◌≡◌};
 ghost use Rattle.ob_grammar.specs.Lookahead.{uncons, head_is};
-ghost use Rattle.ob_grammar.specs.AgreesWith.{remaining};
+ghost use Rattle.ob_grammar.specs.ParsesAs.{remaining};
 ghost use Rattle.ob_grammar.specs.ReadStatements.{statement_first};
 
 use crate::cursor::Cursor;
@@ -11,7 +11,7 @@ use ob_tree::token::Leaf;
 
 /// Whether a statement that is not empty begins here.
 pub fn begins_statement(tokens: &[Token], input: Cursor) -> bool
-    // Exactly if the next token is one of those that begin a statement.
+    // True exactly if a statement can begin with the next token.
     ensures { result ≡ head_is statement_first (uncons (remaining tokens.now input)) }
 {
     match input.next(tokens) {

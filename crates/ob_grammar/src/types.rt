@@ -9,7 +9,7 @@ ghost use Rattle.ob_grammar.specs.Lookahead.{head_is, uncons};
 ghost use Rattle.ob_grammar.specs.Combinators.{optional, accept_at, expect_at, seq};
 ghost use Rattle.ob_grammar.specs.ReadNames.{qualident_at};
 ghost use Rattle.ob_grammar.specs.ReadTypes.{type_first, field_start};
-ghost use Rattle.ob_grammar.specs.AgreesWith.{AgreesWith, remaining, skipped};
+ghost use Rattle.ob_grammar.specs.ParsesAs.{ParsesAs, remaining, skipped};
 
 use crate::cursor::Cursor;
 use crate::names::qualident;
@@ -21,7 +21,7 @@ use ob_tree::token::Leaf;
 
 /// Whether a type begins here.
 pub fn begins_type(tokens: &[Token], input: Cursor) -> bool
-    // Exactly if the next token is one of those that begin a type.
+    // True exactly if a type can begin with the next token.
     ensures { result ≡ head_is type_first (uncons (remaining tokens.now input)) }
 {
     match input.next(tokens) {
@@ -34,11 +34,12 @@ pub fn begins_type(tokens: &[Token], input: Cursor) -> bool
     }
 }
 
-/// The cursor after a semicolon, if a field list follows it: the second token of look-ahead that the grammar needs.
+/// The cursor after a semicolon, if a semicolon is next and an identifier, with which a field list begins, follows it. Here alone the
+/// grammar needs two tokens of look-ahead.
 #[inline(always)]
 #[tactic(auto, unfolding(crate::specs::ReadTypes::field_start))]
 pub fn accept_field_separator(tokens: &[Token], input: Cursor) -> Option<Cursor>
-    // Exactly what the grammar reads.
+    // The result is exactly what the grammar reads here.
     ensures read { skipped tokens.now kinds.Semicolon result ≡ field_start (remaining tokens.now input) }
     // The cursor is one token further.
     ensures number { IfSome result (λ rest. rest.at ≡ input.at + 1) }
@@ -55,8 +56,8 @@ pub fn accept_field_separator(tokens: &[Token], input: Cursor) -> Option<Cursor>
 /// Parses the base of a record in parentheses, if an opening parenthesis is next.
 #[inline(always)]
 pub fn base(tokens: &[Token], input: Cursor) -> Result<(Option<Qualident>, Cursor), Stop>
-    // What it returns is what the grammar reads, or the error is.
-    ensures read { AgreesWith tokens.now (λ x. (if_present (λ q. word kinds.LeftParen ++ (qualident_events q ++ word kinds.RightParen)) x.0, remaining tokens.now x.1)) result
+    // The result is the base and the remaining tokens that the grammar reads, or the grammar's error.
+    ensures read { ParsesAs tokens.now (λ x. (if_present (λ q. word kinds.LeftParen ++ (qualident_events q ++ word kinds.RightParen)) x.0, remaining tokens.now x.1)) result
         (optional (accept_at kinds.LeftParen) (seq qualident_at (expect_at kinds.RightParen)) (remaining tokens.now input)) }
     // The cursor is advanced by these tokens.
     ensures number { IfOk result (λ x. x.1.at ≡ input.at + base_width x.0) }

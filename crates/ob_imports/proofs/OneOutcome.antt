@@ -18,7 +18,7 @@ use Rattle.ob_imports.specs.Names.{LeadsBy, texts}
 use Rattle.ob_imports.specs.Outcomes.{AreFilesOfGraph, Cycle, GraphError, IsCycle, IsCycleOf, IsGraphOutcome, IsTwoModules, HasOutcome, TooMany, TwoModules}
 use Rattle.digraph.proofs.Ascending.{same_edges, same_names}
 use Rattle.ob_imports.proofs.KeptGraphs.{acyclic_places}
-use Rattle.digraph.proofs.OneCycle.{cyclic, one_cycle}
+use Rattle.digraph.proofs.OneCycle.{cyclic, cycle_is_unique}
 use Rattle.ob_imports.proofs.OneOrder.{neither, one_sorting}
 use Rattle.ob_imports.proofs.SameNames.{once_from, paths_times, times}
 
@@ -46,7 +46,7 @@ one_cycle_of files nodes a b s t =
     let order : s.order ≡ t.order = same_names s.order t.order s.ascend t.ascend
     (λ n h. Contains-permutation nodes t.order n t.same (Contains-permutation s.order nodes n (IsPermutation-sym nodes s.order s.same) h))
     (λ n h. Contains-permutation nodes s.order n s.same (Contains-permutation t.order nodes n (IsPermutation-sym nodes t.order t.same) h)) in
-    let cycle : s.cycle ≡ t.cycle = one_cycle (LeadsBy (Imports files) s.order) s.cycle t.cycle s.is_cycle (subst (λ (ns : List (List ℕ)). IsCanonicalCycle (LeadsBy (Imports files) ns) t.cycle) (sym order) t.is_cycle) in
+    let cycle : s.cycle ≡ t.cycle = cycle_is_unique (LeadsBy (Imports files) s.order) s.cycle t.cycle s.is_cycle (subst (λ (ns : List (List ℕ)). IsCanonicalCycle (LeadsBy (Imports files) ns) t.cycle) (sym order) t.is_cycle) in
     s.are_names ∙ ap (λ (ns : List (List ℕ)). map (λ r. get_or ns r []) s.cycle) order ∙ ap (map (λ r. get_or t.order r [])) cycle ∙ sym t.are_names
 
 no_cycle : (files : List File) (names : List (List ℕ)) → IsAcyclic (Imports files) → IsCycle files names → ⊥
@@ -106,30 +106,30 @@ not_kept_many files g kept (inr (inr h)) =
 
 ---- outcomes
 
-pub one_outcome : (files : List File) (o p : Result ImportGraph GraphError) → IsGraphOutcome files o → IsGraphOutcome files p → o ≡ p
-one_outcome files (Ok g) (Ok h) a b = ap Ok (one_graph files g h a.0.is_graph b.0.is_graph)
-one_outcome files (Ok g) (Err (TwoModules m c d)) a b = absurd (not_differ files m c d b a.0.are_files.differ)
-one_outcome files (Ok g) (Err (Cycle names)) a b = absurd (no_cycle files names a.1 b)
-one_outcome files (Ok g) (Err TooMany) a b = absurd (not_kept_many files g a.0 b)
-one_outcome files (Err (TwoModules m c d)) (Ok g) a b = absurd (not_differ files m c d a b.0.are_files.differ)
-one_outcome files (Err (TwoModules n a b)) (Err (TwoModules m c d)) s t = ap Err (one_two files n a b m c d s t)
-one_outcome files (Err (TwoModules m c d)) (Err (Cycle names)) a b = absurd (not_differ files m c d a b.kept.are_files.differ)
-one_outcome files (Err (TwoModules m c d)) (Err TooMany) a b = absurd (not_two_many files m c d a b)
-one_outcome files (Err (Cycle names)) (Ok g) a b = absurd (no_cycle files names b.1 a)
-one_outcome files (Err (Cycle names)) (Err (TwoModules m c d)) a b = absurd (not_differ files m c d b a.kept.are_files.differ)
-one_outcome files (Err (Cycle names)) (Err (Cycle others)) a b =
+pub outcome_is_unique : (files : List File) (o p : Result ImportGraph GraphError) → IsGraphOutcome files o → IsGraphOutcome files p → o ≡ p
+outcome_is_unique files (Ok g) (Ok h) a b = ap Ok (one_graph files g h a.0.is_graph b.0.is_graph)
+outcome_is_unique files (Ok g) (Err (TwoModules m c d)) a b = absurd (not_differ files m c d b a.0.are_files.differ)
+outcome_is_unique files (Ok g) (Err (Cycle names)) a b = absurd (no_cycle files names a.1 b)
+outcome_is_unique files (Ok g) (Err TooMany) a b = absurd (not_kept_many files g a.0 b)
+outcome_is_unique files (Err (TwoModules m c d)) (Ok g) a b = absurd (not_differ files m c d a b.0.are_files.differ)
+outcome_is_unique files (Err (TwoModules n a b)) (Err (TwoModules m c d)) s t = ap Err (one_two files n a b m c d s t)
+outcome_is_unique files (Err (TwoModules m c d)) (Err (Cycle names)) a b = absurd (not_differ files m c d a b.kept.are_files.differ)
+outcome_is_unique files (Err (TwoModules m c d)) (Err TooMany) a b = absurd (not_two_many files m c d a b)
+outcome_is_unique files (Err (Cycle names)) (Ok g) a b = absurd (no_cycle files names b.1 a)
+outcome_is_unique files (Err (Cycle names)) (Err (TwoModules m c d)) a b = absurd (not_differ files m c d b a.kept.are_files.differ)
+outcome_is_unique files (Err (Cycle names)) (Err (Cycle others)) a b =
     let same : a.graph ≡ b.graph = one_graph files a.graph b.graph a.kept.is_graph b.kept.is_graph in
     let there : IsCycleOf files a.graph.names others = subst (λ (g : ImportGraph). IsCycleOf files g.names others) (sym same) b.is_cycle in
     ap (λ (x : List (List ℕ)). Err (Cycle x)) (one_cycle_of files a.graph.names names others a.is_cycle there)
-one_outcome files (Err (Cycle names)) (Err TooMany) a b = absurd (not_kept_many files a.graph a.kept b)
-one_outcome files (Err TooMany) (Ok g) a b = absurd (not_kept_many files g b.0 a)
-one_outcome files (Err TooMany) (Err (TwoModules m c d)) a b = absurd (not_two_many files m c d b a)
-one_outcome files (Err TooMany) (Err (Cycle names)) a b = absurd (not_kept_many files b.graph b.kept a)
-one_outcome files (Err TooMany) (Err TooMany) a b = refl
+outcome_is_unique files (Err (Cycle names)) (Err TooMany) a b = absurd (not_kept_many files a.graph a.kept b)
+outcome_is_unique files (Err TooMany) (Ok g) a b = absurd (not_kept_many files g b.0 a)
+outcome_is_unique files (Err TooMany) (Err (TwoModules m c d)) a b = absurd (not_two_many files m c d b a)
+outcome_is_unique files (Err TooMany) (Err (Cycle names)) a b = absurd (not_kept_many files b.graph b.kept a)
+outcome_is_unique files (Err TooMany) (Err TooMany) a b = refl
 
 pub only_said : (files : List File) (answer : Result ImportGraph GraphFault) → HasOutcome answer (IsGraphOutcome files) → (o : Result ImportGraph GraphError) → IsGraphOutcome files o → HasOutcome answer (λ p. p ≡ o)
-only_said files (Ok g) told o is = one_outcome files (Ok g) o told is
-only_said files (Err (faults.TwoModules name first second)) told o is = one_outcome files (Err (TwoModules (string_bytes name) (string_bytes first) (string_bytes second))) o told is
-only_said files (Err (faults.Cycle names)) told o is = one_outcome files (Err (Cycle (texts names.items))) o told is
-only_said files (Err faults.TooMany) told o is = one_outcome files (Err TooMany) o told is
+only_said files (Ok g) told o is = outcome_is_unique files (Ok g) o told is
+only_said files (Err (faults.TwoModules name first second)) told o is = outcome_is_unique files (Err (TwoModules (string_bytes name) (string_bytes first) (string_bytes second))) o told is
+only_said files (Err (faults.Cycle names)) told o is = outcome_is_unique files (Err (Cycle (texts names.items))) o told is
+only_said files (Err faults.TooMany) told o is = outcome_is_unique files (Err TooMany) o told is
 only_said files (Err faults.Memory) told o is = tt

@@ -8,7 +8,7 @@ use Rattle.std.proofs.lemmas.Map.Views.{exact_unsigned_eq, Contains-from_any, li
 use Rattle.std.proofs.lemmas.Cmp.{nat_eq_equiv}
 use Rattle.digraph.specs.declared.edge.Edge.{Edge}
 use Rattle.digraph.specs.Chains.{IsAcyclic}
-use Rattle.digraph.specs.Cycle.{ClosesAt, EachLeadsToMember, IsCycleCore, IsLeast, IsNext, IsRotated, IsCanonicalCycle}
+use Rattle.digraph.specs.Cycle.{ClosesAt, EachLeadsToMember, IsCycleCore, IsLeast, IsSmallestSuccessor, IsRotated, IsCanonicalCycle}
 use Rattle.digraph.specs.Edges.{successors, AreBetween, Leads}
 use Rattle.digraph.specs.Marks.{marked}
 use Rattle.digraph.proofs.Successors.{successor}
@@ -210,7 +210,7 @@ module _ (edges : List Edge) (n : ℕ) (between : AreBetween edges n) where
       first v = nat_lt v n
 
   module _ (e : CycleCore) where
-    next : (v : ℕ) → e.set v ≡ true → (w : ℕ) × IsNext (Leads edges) e.set v w
+    next : (v : ℕ) → e.set v ≡ true → (w : ℕ) × IsSmallestSuccessor (Leads edges) e.set v w
     next v member = elim (found (λ w. e.set w && list_any (nat_eq w) (successors edges v)) n) [
       | inl (w, h) ↦
           let both = and_parts (e.set w) (list_any (nat_eq w) (successors edges v)) h.passes in (
@@ -271,5 +271,5 @@ module _ (edges : List Edge) (n : ℕ) (between : AreBetween edges n) where
       | inr none ↦ inl (acyclic_without_endless (Leads edges) e.set e.is (λ v is. false≢true (sym (none v (e.within v is)) ∙ is)))
     ]
 
-  pub some_cycle : IsAcyclic (Leads edges) ⊎ ((cycle : List ℕ) × IsCanonicalCycle (Leads edges) cycle)
-  some_cycle = decided core_nodes
+  pub acyclic_or_has_cycle : IsAcyclic (Leads edges) ⊎ ((cycle : List ℕ) × IsCanonicalCycle (Leads edges) cycle)
+  acyclic_or_has_cycle = decided core_nodes

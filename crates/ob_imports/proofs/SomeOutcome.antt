@@ -25,7 +25,7 @@ use Rattle.ob_imports.specs.Outcomes.{AreFiles, AreFilesOfGraph, Cycle, GraphErr
 use Rattle.ob_imports.proofs.ByName.{acyclic_names, between_names}
 use Rattle.ob_imports.proofs.Nodes.{are_nodes, nodes_apart, nodes_known, pairs_lead}
 use Rattle.ob_imports.proofs.SameNames.{differ_unless_alike, is_two, many_paths}
-use Rattle.ob_imports.proofs.SomeCycle.{found, some_cycle}
+use Rattle.ob_imports.proofs.SomeCycle.{found, acyclic_or_has_cycle}
 use Rattle.ob_imports.proofs.Sortings.{sorting}
 
 -- the outcome of files
@@ -74,7 +74,7 @@ of_graph files g kept =
     let known : (n : List ℕ) → IsNode files n → Contains order n = λ n node. Contains-permutation g.names order n moved (nodes_known files g.names nodes n node) in
     let edges = all_pairs order files in
     let lead : (v w : ℕ) → Leads edges v w ↔ LeadsBy (Imports files) order v w = pairs_lead order files apart known in
-    elim (some_cycle edges (length order) (between_names files order edges lead)) [
+    elim (acyclic_or_has_cycle edges (length order) (between_names files order edges lead)) [
       | inl none ↦ (Ok g, (kept, acyclic_names files order known (acyclic_as (Leads edges) (LeadsBy (Imports files) order) lead none)))
       | inr (cycle, named) ↦ (
         Err (Cycle (map (λ r. get_or order r []) cycle)),
@@ -99,8 +99,8 @@ of_nodes files names are nodes few =
       | inr few_pairs ↦ of_graph files g (record { are_files = are; is_graph = is_graph; few_names = few; few_pairs = few_pairs })
     ]
 
-names_of_files : (files : List File) → AreFiles files → Makes files
-names_of_files files are =
+module_name_table : (files : List File) → AreFiles files → Makes files
+module_name_table files are =
     let (others, up, same) = names_at (all_lacked (names_of files) files) in
     let names = names_of files ++ others in
     let nodes : AreNodes files names = are_nodes files (names_of files) (all_lacked (names_of files) files) others refl refl up same names refl in
@@ -119,11 +119,11 @@ of_few files few =
           let same = length_permutation (paths_of files (get_or names p [])) paths paths_moved in
           let two : 2 ≤ length paths = omega arith in
           (Err (TwoModules (get_or names p []) (get_or paths 0 []) (get_or paths 1 [])), is_two files names paths p few moved sorted first paths_moved paths_sorted two)
-      | inr apart ↦ names_of_files files (record { few_modules = few; differ = differ_unless_alike files names moved sorted apart })
+      | inr apart ↦ module_name_table files (record { few_modules = few; differ = differ_unless_alike files names moved sorted apart })
     ]
 
-pub some_outcome : (files : List File) → (o : Result ImportGraph GraphError) × IsGraphOutcome files o
-some_outcome files = elim (cases_lt 4096 (length files)) [
+pub outcome_exists : (files : List File) → (o : Result ImportGraph GraphError) × IsGraphOutcome files o
+outcome_exists files = elim (cases_lt 4096 (length files)) [
   | inl many ↦ (Err TooMany, inl many)
   | inr few ↦ of_few files few
 ]

@@ -42,7 +42,7 @@ IsExternal files n = ((m : List ℕ) × Imports files m n) × (Contains (names_o
 abbrev pub DifferInName : List File → Type 0
 DifferInName files = IsDistinct bytes_eq (names_of files)
 
--- the names of all modules: those of the files in their order, then the external ones, strictly sorted
+-- the names of all modules: first the modules of the files, in the order of the files, then the external modules, strictly sorted by name
 pub record AreNodes (files : List File) (names : List (List ℕ)) : Type 0 where
   pub others : List (List ℕ)
   pub whole : names ≡ names_of files ++ others

@@ -10,7 +10,7 @@ use Rattle.ob_imports.specs.Names.{LeadsBy, texts}
 use Rattle.digraph.specs.Edges.{AreBetween, IsAscending, Leads}
 pub use Rattle.digraph.specs.Edges.{successors as imported, predecessors as importing}
 
--- the names of the modules by number, the number of those of the tree, which come first, and the imports
+-- the names of the modules by number; how many of them are modules of the tree, which come first; and the imports
 pub record ImportGraph : Type 0 where
   pub names : List (List ℕ)
   pub modules : ℕ

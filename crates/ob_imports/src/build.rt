@@ -15,7 +15,7 @@ use crate::edges::import_edges;
 use crate::names::collect_node_names;
 use crate::order::order_by_name;
 use crate::{Edge, Graph, GraphFault, Parsed};
-use digraph::{cycle, ranks_of, renumber_edges};
+use digraph::{find_canonical_cycle, ranks_of, renumber_edges};
 use indexmap::IndexSet;
 use std::alloc::{AllocError, Global};
 use text_hash::Seed;
@@ -24,7 +24,7 @@ const MAX_MODULES: usize = 4096;
 
 const MAX_IMPORTS: usize = 65536;
 
-/// The names of the modules at these indices of an order.
+/// The names of the modules that `order`, a list of module numbers, has at the indices `places`.
 fn names_at(
     alloc: Global,
     names: &[String],
@@ -43,7 +43,8 @@ fn names_at(
     Ok(named)
 }
 
-/// The names on the canonical cycle, for which modules are compared by name; `None` if the imports are acyclic.
+/// The names of the modules on the canonical cycle, which is found in the graph with modules numbered by name; `None` if the imports are
+/// acyclic.
 fn find_cycle(
     alloc: Global,
     pairs: &[Edge],
@@ -59,7 +60,7 @@ fn find_cycle(
 {
     let ranks = ranks_of(alloc, order)?;
     let others = renumber_edges(alloc, pairs, ranks.as_slice())?;
-    match cycle(alloc, others.as_slice(), order.len())? {
+    match find_canonical_cycle(alloc, others.as_slice(), order.len())? {
         None => Ok(None),
         Some(cycle) => Ok(Some(names_at(alloc, names, order, cycle.as_slice())?)),
     }
@@ -73,11 +74,12 @@ fn graph_from_names(
     pairs: Vec<Edge>,
 ) -> Result<Graph, GraphFault>
     requires { AreFilesOfGraph (files_of parsed.now) (graph_with names.keys (length parsed.now) pairs.items) }
+    // The result is the graph of the files or their first error, unless an allocation fails.
     ensures { HasOutcome result (IsGraphOutcome (files_of parsed.now)) }
 {
     let order = order_by_name(alloc, names.as_slice())?;
     match find_cycle(alloc, pairs.as_slice(), names.as_slice(), order.as_slice())? {
-        None => Ok(Graph::of(alloc, names, parsed.len() as u32, pairs, order)?),
+        None => Ok(Graph::from_parts(alloc, names, parsed.len() as u32, pairs, order)?),
         Some(names) => Err(GraphFault::Cycle { names }),
     }
 }
@@ -88,9 +90,12 @@ fn graph_from_nodes(
     parsed: &[Parsed],
     names: IndexSet<String, Seed>,
 ) -> Result<Graph, GraphFault>
+    // There are at most 4,096 files, and their module names are distinct.
     requires files { AreFiles (files_of parsed.now) }
+    // The table has exactly the names of all modules.
     requires nodes { AreNodes (files_of parsed.now) (texts names.keys) }
     requires few { length names.keys ≤ 8192 }
+    // The result is the graph of the files or their first error, unless an allocation fails.
     ensures { HasOutcome result (IsGraphOutcome (files_of parsed.now)) }
 {
     let pairs = import_edges(alloc, parsed, &names)?;
@@ -102,7 +107,9 @@ fn graph_from_nodes(
 
 /// The outcome of files with distinct module names: the graph, or the first error.
 fn graph_from_files(alloc: Global, parsed: &[Parsed]) -> Result<Graph, GraphFault>
+    // There are at most 4,096 files, and their module names are distinct.
     requires { AreFiles (files_of parsed.now) }
+    // The result is the graph of the files or their first error, unless an allocation fails.
     ensures { HasOutcome result (IsGraphOutcome (files_of parsed.now)) }
 {
     match collect_node_names(alloc, parsed)? {
@@ -113,6 +120,7 @@ fn graph_from_files(alloc: Global, parsed: &[Parsed]) -> Result<Graph, GraphFaul
 
 /// The outcome of the files: the graph, or the first error.
 fn build_graph(alloc: Global, parsed: &[Parsed]) -> Result<Graph, GraphFault>
+    // The result is the graph of the files or their first error, unless an allocation fails.
     ensures { HasOutcome result (IsGraphOutcome (files_of parsed.now)) }
 {
     if parsed.len() > MAX_MODULES {

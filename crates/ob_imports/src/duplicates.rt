@@ -8,7 +8,8 @@ use crate::names::module_names;
 use crate::{GraphFault, Parsed};
 use std::alloc::{AllocError, Global};
 
-fn sort_all(names: &mut Vec<String>)
+/// Sorts strings, names or paths, by their bytes.
+fn sort_strings(names: &mut Vec<String>)
     ensures same { IsPermutation (texts names.old.items) (texts names.new.items) }
     ensures in_order { AreNamesSorted (texts names.new.items) }
 {
@@ -48,13 +49,13 @@ pub(crate) fn check_distinct(alloc: Global, parsed: &[Parsed]) -> Result<(), Gra
     ensures fault { IfErr result (λ fault. UnlessMemory fault (λ refusal. IsGraphOutcome (files_of parsed.now) (Err refusal))) }
 {
     let mut names = module_names(alloc, parsed)?;
-    sort_all(&mut names);
+    sort_strings(&mut names);
     let Some(place) = first_repeat(names.as_slice()) else {
         return Ok(());
     };
     let name = String::from_str(alloc, names[place].as_str())?;
     let mut paths = module_paths(alloc, parsed, name.as_str())?;
-    sort_all(&mut paths);
+    sort_strings(&mut paths);
     let first_path = String::from_str(alloc, paths[0].as_str())?;
     let second_path = String::from_str(alloc, paths[1].as_str())?;
     Err(GraphFault::TwoModules {

@@ -15,12 +15,14 @@ use indexmap::IndexSet;
 use std::alloc::{AllocError, Global};
 use text_hash::Seed;
 
+/// Appends an edge for each import item of the file, from the index of the file's module to that of the imported module.
 fn append_edges(
     pairs: &mut Vec<Edge>,
     file: &Parsed,
     table: &IndexSet<String, Seed>,
 ) -> Result<(), AllocError>
     requires few { length table.now.keys ≤ 8192 }
+    // The table has all names that are looked up.
     requires known { (n : List ℕ) → IsNode (files_of (file.now ∷ [])) n → Contains (texts table.now.keys) n }
     ensures { OnOk result (pairs.new.items ≡ pairs.old.items ++ pairs_from (texts table.now.keys) (string_bytes file.now.name) (texts file.now.imports.items)) }
 {
@@ -35,12 +37,14 @@ fn append_edges(
     Ok(())
 }
 
+/// The import items of all files as edges, in the order of the files, with repeats.
 fn all_edges(
     alloc: Global,
     parsed: &[Parsed],
     table: &IndexSet<String, Seed>,
 ) -> Result<Vec<Edge>, AllocError>
     requires few { length table.now.keys ≤ 8192 }
+    // The table has all names that are looked up.
     requires known { (n : List ℕ) → IsNode (files_of parsed.now) n → Contains (texts table.now.keys) n }
     ensures { IfOk result (λ pairs. pairs.items ≡ all_pairs (texts table.now.keys) (files_of parsed.now)) }
 {
@@ -59,6 +63,7 @@ pub(crate) fn import_edges(
 ) -> Result<Vec<Edge>, AllocError>
     requires few { length table.now.keys ≤ 8192 }
     requires once { IsDistinct bytes_eq (texts table.now.keys) }
+    // The table has all names that are looked up.
     requires known { (n : List ℕ) → IsNode (files_of parsed.now) n → Contains (texts table.now.keys) n }
     ensures ascending { IfOk result (λ pairs. IsAscending pairs.items) }
     ensures leads { IfOk result (λ pairs. (v w : ℕ) → Leads pairs.items v w ↔ LeadsBy (Imports (files_of parsed.now)) (texts table.now.keys) v w) }

@@ -7,7 +7,7 @@ ghost use Rattle.ob_imports.specs.Names.{index_in, texts, IsByName};
 
 use crate::Edge;
 use crate::ready::ready_modules;
-use digraph::{predecessor_lists, transposed};
+use digraph::{predecessor_lists, transpose};
 use indexmap::IndexSet;
 use std::alloc::{AllocError, Global};
 use std::marker::Model;
@@ -28,7 +28,7 @@ pub struct Graph {
     pub(crate) importers: Vec<Vec<u32>>,
 }
 
-/// For each module the modules that it imports, and those that import it.
+/// For each module the list of modules that it imports, and the list of modules that import it.
 fn adjacency_lists(
     alloc: Global,
     pairs: &[Edge],
@@ -40,7 +40,7 @@ fn adjacency_lists(
     ensures imports { IfOk result (λ rows. (v : ℕ) → list_at (lists rows.0.items) v ≡ imported pairs.now v) }
     ensures importers { IfOk result (λ rows. (v : ℕ) → list_at (lists rows.1.items) v ≡ importing pairs.now v) }
 {
-    let others = transposed(alloc, pairs)?;
+    let others = transpose(alloc, pairs)?;
     let imports = predecessor_lists(alloc, others.as_slice(), nodes)?;
     let importers = predecessor_lists(alloc, pairs, nodes)?;
     Ok((imports, importers))
@@ -65,7 +65,7 @@ impl Model for Graph {
 
 impl Graph {
     /// The graph of these names and imports, which satisfy the invariant.
-    pub(crate) fn of(
+    pub(crate) fn from_parts(
         alloc: Global,
         names: IndexSet<String, Seed>,
         modules: u32,

@@ -16,7 +16,7 @@ mod ready;
 mod seeds;
 
 pub use build::graph;
-pub use digraph::{Edge, cycle};
+pub use digraph::{Edge, find_canonical_cycle};
 pub use fault::GraphFault;
 pub use graphs::Graph;
 pub use parsed::Parsed;

@@ -1,4 +1,4 @@
-//! Tables of module names: those of the files, then the external ones, sorted.
+//! Tables of module names: first the modules of the files, then the external modules, sorted by name.
 ghost use Rattle.std.specs.Prelude.{◌≡◌, ◌≤◌, ◌↔◌, ◌++◌, Contains, IfNone, IfOk, IfSome, List, OnOk, length, ℕ};
 ghost use Rattle.std.specs.List.{IsDistinct};
 ghost use Rattle.std.specs.Str.{bytes_eq};
@@ -15,6 +15,7 @@ use text_hash::Seed;
 
 const MAX_NODES: usize = 8192;
 
+/// The names of the files' modules, in the order of the files.
 pub(crate) fn module_names(alloc: Global, parsed: &[Parsed]) -> Result<Vec<String>, AllocError>
     ensures { IfOk result (λ names. texts names.items ≡ names_of (files_of parsed.now)) }
 {
@@ -25,7 +26,7 @@ pub(crate) fn module_names(alloc: Global, parsed: &[Parsed]) -> Result<Vec<Strin
     Ok(names)
 }
 
-/// Appends names that the table lacks.
+/// Appends the names to the table. They are distinct, and the table has none of them.
 pub(crate) fn append_names(
     alloc: Global,
     table: &mut IndexSet<String, Seed>,
@@ -40,7 +41,7 @@ pub(crate) fn append_names(
     Ok(())
 }
 
-/// Appends the names that the table lacks.
+/// Appends to `others` each of `names` that the table lacks.
 fn append_missing_names(
     alloc: Global,
     others: &mut Vec<String>,
@@ -81,8 +82,8 @@ fn sort_and_dedup(names: &mut Vec<String>)
     names.dedup();
 }
 
-/// The names of the files' modules.
-fn names_of_files(alloc: Global, parsed: &[Parsed]) -> Result<IndexSet<String, Seed>, AllocError>
+/// A hash table of the names of the files' modules, in the order of the files.
+fn module_name_table(alloc: Global, parsed: &[Parsed]) -> Result<IndexSet<String, Seed>, AllocError>
     requires { DifferInName (files_of parsed.now) }
     ensures { IfOk result (λ table. texts table.keys ≡ names_of (files_of parsed.now)) }
 {
@@ -93,7 +94,7 @@ fn names_of_files(alloc: Global, parsed: &[Parsed]) -> Result<IndexSet<String, S
 }
 
 /// The imported names that the table lacks, strictly sorted.
-fn sorted_missing(
+fn sorted_missing_names(
     alloc: Global,
     parsed: &[Parsed],
     table: &IndexSet<String, Seed>,
@@ -112,13 +113,14 @@ pub(crate) fn collect_node_names(
     alloc: Global,
     parsed: &[Parsed],
 ) -> Result<Option<IndexSet<String, Seed>>, AllocError>
+    // There are at most 4,096 files, and their module names are distinct.
     requires { AreFiles (files_of parsed.now) }
     ensures named { IfOk result (λ nodes. IfSome nodes (λ table. AreNodes (files_of parsed.now) (texts table.keys))) }
     ensures few { IfOk result (λ nodes. IfSome nodes (λ table. length table.keys ≤ 8192)) }
     ensures many { IfOk result (λ nodes. IfNone nodes (ExceedsNodeLimit (files_of parsed.now))) }
 {
-    let mut table = names_of_files(alloc, parsed)?;
-    let others = sorted_missing(alloc, parsed, &table)?;
+    let mut table = module_name_table(alloc, parsed)?;
+    let others = sorted_missing_names(alloc, parsed, &table)?;
     if others.len() > MAX_NODES {
         return Ok(None);
     }

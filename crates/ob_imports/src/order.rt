@@ -1,4 +1,4 @@
-//! The order of names.
+//! Sorting the indices of names by name.
 ghost use Rattle.std.specs.Prelude.{◌≡◌, ◌≤◌, ◌<◌, All, IfOk, length, map};
 ghost use Rattle.std.specs.List.{IsDistinct};
 ghost use Rattle.std.specs.Str.{bytes_eq};
@@ -7,7 +7,7 @@ ghost use Rattle.ob_imports.specs.Numbering.{IsNumbered};
 
 use std::alloc::{AllocError, Global};
 
-/// Each name with its number.
+/// Each name with its index.
 fn number_names<'a>(alloc: Global, names: &'a [String]) -> Result<Vec<(&'a str, u32)>, AllocError>
     requires few { length names.now ≤ 8192 }
     ensures names { IfOk result (λ pairs. map (λ p. p.0.now) pairs.items ≡ texts names.now) }
@@ -20,7 +20,7 @@ fn number_names<'a>(alloc: Global, names: &'a [String]) -> Result<Vec<(&'a str, 
     Ok(pairs)
 }
 
-/// The numbers of the pairs.
+/// The second elements of the pairs.
 fn pair_numbers(alloc: Global, pairs: &[(&str, u32)]) -> Result<Vec<u32>, AllocError>
     ensures { IfOk result (λ numbers. numbers.items ≡ map (λ p. p.1) pairs.now) }
 {

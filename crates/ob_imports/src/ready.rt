@@ -18,7 +18,7 @@ fn all_done(row: &[u32], done: &[bool]) -> bool
     true
 }
 
-/// Whether the module isn't done and its imports in the tree are.
+/// Whether the module isn't done and all its imports in the tree are done.
 fn can_start(imports: &[Vec<u32>], done: &[bool], node: usize) -> bool
     requires tree { length done.now ≤ length imports.now }
     requires within { node < length done.now }
@@ -31,7 +31,7 @@ fn can_start(imports: &[Vec<u32>], done: &[bool], node: usize) -> bool
     all_done(imports[node].as_slice(), done)
 }
 
-/// The modules of the tree that aren't done and whose imports in the tree are, given the imports of each module.
+/// The modules of the tree that aren't done and whose imports in the tree are all done. `imports` has the imports of each module.
 pub(crate) fn ready_modules(
     alloc: Global,
     imports: &[Vec<u32>],

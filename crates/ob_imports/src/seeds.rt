@@ -4,8 +4,8 @@ use crate::Parsed;
 use std::alloc::{AllocError, Global};
 use text_hash::Seed;
 
-/// Up to this number of names the common seed is used, without a digest of the names.
-const FEW: usize = 1024;
+/// The largest number of names for which the fixed seed is used, so that no digest of the names is computed.
+const MAX_FIXED_SEED_NAMES: usize = 1024;
 
 /// An upper bound of the number of names: the module name of each file and its import items.
 fn name_count(parsed: &[Parsed]) -> usize {
@@ -39,7 +39,7 @@ fn concatenate_names(alloc: Global, parsed: &[Parsed]) -> Result<Vec<u8>, AllocE
 /// The seed of the table of names: names that were chosen to collide under one seed get a different seed.
 pub(crate) fn name_table_seed(alloc: Global, parsed: &[Parsed]) -> Result<Seed, AllocError> {
     let count = name_count(parsed);
-    if count <= FEW {
+    if count <= MAX_FIXED_SEED_NAMES {
         return Ok(Seed::for_keys(&[], count));
     }
     let text = concatenate_names(alloc, parsed)?;

@@ -14,7 +14,7 @@ use Rattle.ob_interface.specs.declared.rows.RecordIndexEntry.{RecordIndexEntry}
 use Rattle.ob_interface.specs.declared.rows.Rows.{Rows}
 use Rattle.ob_interface.specs.declared.rows.RowPart.{RowPart}
 use Rattle.ob_interface.specs.declared.rows.RowPart.TheVariants as row_parts
-use Rattle.ob_interface.specs.Orders.{name_key, index_by_name, record_key, index_by_record, member_entry, alias_entry, base_entry, owner_entry, owner_by, record_of_part, last_part, fits_name, fits_alias, fits_base, AreByName}
+use Rattle.ob_interface.specs.Orders.{name_key, index_by_name, record_key, index_by_record, declaration_entry, alias_entry, base_entry, owner_entry, owner_by, record_token_of_part, last_part, fits_name, fits_alias, fits_base, AreByName}
 use Rattle.ob_interface.specs.Placed.{holds, is_record}
 use Rattle.ob_interface.specs.IndexEntries.{Indexes, entries_from}
 use Rattle.ob_interface.specs.RowValues.{type_expr_in, interface_in}
@@ -59,16 +59,16 @@ inside : {E : Type 0} (x e : E) → Some x ≡ Some e → x ≡ e
 inside x e h = cc
 
 -- the declarations by record and name
-pub members_indexed : (rows : Rows) (t : List ℕ) (ds : List DeclarationRow) (es : List NameIndexEntry) → t ≡ rows.text.items → ds ≡ rows.declarations.items → AreByName t es → IsPermutation (entries_from member_entry 0 ds) es
+pub members_indexed : (rows : Rows) (t : List ℕ) (ds : List DeclarationRow) (es : List NameIndexEntry) → t ≡ rows.text.items → ds ≡ rows.declarations.items → AreByName t es → IsPermutation (entries_from declaration_entry 0 ds) es
     → AreByName rows.text.items es × Indexes (name_key rows.text.items) index_by_name fits_name (interface_in rows).declarations es
 members_indexed rows t ds es p q sorted same = (
   subst (λ (v : List ℕ). AreByName v es) p sorted,
-  indexed (name_key rows.text.items) index_by_name fits_name member_entry (declaration_in (type_expr_in rows.text.items rows.parts.items) rows.text.items) rows.declarations.items es (record {
+  indexed (name_key rows.text.items) index_by_name fits_name declaration_entry (declaration_in (type_expr_in rows.text.items rows.parts.items) rows.text.items) rows.declarations.items es (record {
     at = λ y n e h. sym (ap index_by_name (inside _ e h));
     own = λ y n e h. ap (λ (v : NameIndexEntry). fits_name (name_key rows.text.items v) (declaration_in (type_expr_in rows.text.items rows.parts.items) rows.text.items y)) (sym (inside _ e h))
         ∙ both_true _ _ (same_option y.«record») ((bytes_eq-Decides (text_in rows.text.items y.name) (text_in rows.text.items y.name)).1 refl);
     only = λ k y n h. (record { «record» = y.«record»; name = y.name; index = n }, refl, (λ i. (option_is y.«record» k.0 (left _ _ h) i, (bytes_eq-Decides (text_in rows.text.items y.name) k.1).0 (right _ _ h) i)));
-  }) (subst (λ (v : List DeclarationRow). IsPermutation (entries_from member_entry 0 v) es) q same),
+  }) (subst (λ (v : List DeclarationRow). IsPermutation (entries_from declaration_entry 0 v) es) q same),
 )
 
 -- the import items by alias
@@ -93,19 +93,19 @@ bases_indexed rows ds es q same =
     }) (subst (λ (v : List BaseRow). IsPermutation (entries_from base_entry 0 v) es) q same)
 
 -- the record of a component stays when the component is decoded
-row_tells : (t : List ℕ) (k : ℕ) (b : ℕ) (p : RowPart) → is_record k (Some (part_row_in t (record { declared_by = b; part = p }))) ≡ is_told k (record_of_part (Some (record { declared_by = b; part = p })))
+row_tells : (t : List ℕ) (k : ℕ) (b : ℕ) (p : RowPart) → is_record k (Some (part_row_in t (record { declared_by = b; part = p }))) ≡ is_told k (record_token_of_part (Some (record { declared_by = b; part = p })))
 row_tells t k b row_parts.Array = refl
 row_tells t k b row_parts.Pointer = refl
 row_tells t k b (row_parts.Record r) = refl
 row_tells t k b row_parts.Procedure = refl
 row_tells t k b (row_parts.Named s n) = refl
 
-part_tells : (t : List ℕ) (k : ℕ) (o : Option PartRow) → is_record k (option_map (part_row_in t) o) ≡ is_told k (record_of_part o)
+part_tells : (t : List ℕ) (k : ℕ) (o : Option PartRow) → is_record k (option_map (part_row_in t) o) ≡ is_told k (record_token_of_part o)
 part_tells t k None = refl
 part_tells t k (Some p) = row_tells t k p.declared_by p.part
 
 -- the type expression of a declaration ends in the record of its last component
-owner_tells : (rows : Rows) (k : ℕ) (y : DeclarationRow) → holds k (declaration_in (type_expr_in rows.text.items rows.parts.items) rows.text.items y) ≡ is_told k (record_of_part (last_part rows.parts.items y))
+owner_tells : (rows : Rows) (k : ℕ) (y : DeclarationRow) → holds k (declaration_in (type_expr_in rows.text.items rows.parts.items) rows.text.items y) ≡ is_told k (record_token_of_part (last_part rows.parts.items y))
 owner_tells rows k y =
     let ps = slice_range rows.parts.items y.first_part y.parts_end in
     ap (λ (n : ℕ). is_record k (slice_get (map (part_row_in rows.text.items) ps) (n - 1))) (length_map (part_row_in rows.text.items) ps)
@@ -128,7 +128,7 @@ pub owners_indexed : (rows : Rows) (ps : List PartRow) (ds : List DeclarationRow
     → Indexes record_key index_by_record holds (interface_in rows).declarations es
 owners_indexed rows ps ds es p q same =
     indexed record_key index_by_record holds (owner_entry rows.parts.items) (declaration_in (type_expr_in rows.text.items rows.parts.items) rows.text.items) rows.declarations.items es (record {
-      at = λ y n e h. owner_place_of n (record_of_part (last_part rows.parts.items y)) e h;
-      own = λ y n e h. owner_tells rows (record_key e) y ∙ owner_told n (record_of_part (last_part rows.parts.items y)) e h;
-      only = λ k y n h. owner_only n k (record_of_part (last_part rows.parts.items y)) (sym (owner_tells rows k y) ∙ h);
+      at = λ y n e h. owner_place_of n (record_token_of_part (last_part rows.parts.items y)) e h;
+      own = λ y n e h. owner_tells rows (record_key e) y ∙ owner_told n (record_token_of_part (last_part rows.parts.items y)) e h;
+      only = λ k y n h. owner_only n k (record_token_of_part (last_part rows.parts.items y)) (sym (owner_tells rows k y) ∙ h);
     }) (subst (λ (v : List PartRow). IsPermutation (entries_from (owner_entry v) 0 rows.declarations.items) es) p (subst (λ (v : List DeclarationRow). IsPermutation (entries_from (owner_entry ps) 0 v) es) q same))

@@ -13,7 +13,7 @@ rank_cmp R key index a b = ordering_then (R (key a) (key b)) (nat_cmp (index a) 
 abbrev pub AreRanked : {E K : Type 0} → (K → K → Ordering) → (E → K) → (E → ℕ) → List E → Type 0
 AreRanked R key index es = IsSortedBy (λ a b. is_lt (rank_cmp R key index a b)) es
 
--- this is the smallest index among all entries with the key
+-- p is the smallest index among all entries with the key k
 pub record IsSmallestIndex {E K : Type 0} (key : E → K) (index : E → ℕ) (es : List E) (k : K) (p : ℕ) : Type 0 where
   pub entry : E
   pub among : Contains es entry

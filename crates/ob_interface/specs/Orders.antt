@@ -47,8 +47,8 @@ abbrev pub AreByRecord : List RecordIndexEntry → Type 0
 AreByRecord es = AreRanked nat_cmp record_key index_by_record es
 
 -- the index entry of a declaration, of an import item, of a base, and of a declaration whose type expression ends in a record
-abbrev pub member_entry : DeclarationRow → ℕ → Option NameIndexEntry
-member_entry row p = Some (record { «record» = row.«record»; name = row.name; index = p })
+abbrev pub declaration_entry : DeclarationRow → ℕ → Option NameIndexEntry
+declaration_entry row p = Some (record { «record» = row.«record»; name = row.name; index = p })
 
 abbrev pub alias_entry : ImportRow → ℕ → Option NameIndexEntry
 alias_entry row p = Some (record { «record» = None; name = row.alias; index = p })
@@ -57,9 +57,9 @@ abbrev pub base_entry : BaseRow → ℕ → Option RecordIndexEntry
 base_entry row p = Some (record { «record» = row.«record»; index = p })
 
 -- the record, if there is a component and it is one
-abbrev pub record_of_part : Option PartRow → Option ℕ
-record_of_part None = None
-record_of_part (Some p) = of p.part
+abbrev pub record_token_of_part : Option PartRow → Option ℕ
+record_token_of_part None = None
+record_token_of_part (Some p) = of p.part
   where
     of : RowPart → Option ℕ
     of row_parts.Array = None
@@ -78,7 +78,7 @@ owner_by p None = None
 owner_by p (Some k) = Some (record { «record» = k; index = p })
 
 abbrev pub owner_entry : List PartRow → DeclarationRow → ℕ → Option RecordIndexEntry
-owner_entry ps row p = owner_by p (record_of_part (last_part ps row))
+owner_entry ps row p = owner_by p (record_token_of_part (last_part ps row))
 
 -- whether an element fits a key: a declaration by record and name, an import item by alias, a base by record
 abbrev pub fits_name : Key → Declaration → Bool

@@ -1,4 +1,4 @@
--- What a module's own table says about a name of its interface.
+-- What the table of a module declares, for comparison with look-ups by name in its interface.
 use Rattle.std.specs.Prelude.{◌≡◌, ℕ, ◌≤◌, List, Option, true, Contains}
 use Rattle.ob_scan.specs.declared.token.Token.{Token}
 use Rattle.ob_scan.specs.Texts.{text_at}

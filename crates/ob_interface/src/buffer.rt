@@ -12,6 +12,7 @@ use std::alloc::AllocError;
 /// Appends bytes to the buffer and returns their span.
 pub(crate) fn append_text(text: &mut Vec<u8>, more: &[u8]) -> Result<BufferSpan, AllocError>
     ensures grown { IfOk result (λ _. text.new.items ≡ text.old.items ++ more.now) }
+    // In the buffer and in every extension of it the result decodes to the specified value.
     ensures decoded { IfOk result (λ s. DecodesTo text_in text.new.items s more.now) }
 {
     let start = text.len();
@@ -27,15 +28,18 @@ pub(crate) fn append_name(
     head: u32,
     member: Option<u32>,
 ) -> Result<NameRow, AllocError>
+    // The tokens are ranges of the bytes.
     requires { AreInText source.now.bytes.now source.now.tokens.now }
+    // With `Ok` the buffer was only appended to.
     ensures grown { IfOk result (λ _. IsGrown text.old.items text.new.items) }
+    // In the buffer and in every extension of it the result decodes to the specified value.
     ensures decoded { IfOk result (λ n. DecodesTo name_in text.new.items n (type_name source.now.bytes.now source.now.tokens.now head member)) }
 {
-    let head = append_text(text, source.of(head))?;
+    let head = append_text(text, source.token_text(head))?;
     match member {
         None => Ok(NameRow { head, member: None }),
         Some(member) => {
-            let member = append_text(text, source.of(member))?;
+            let member = append_text(text, source.token_text(member))?;
             Ok(NameRow {
                 head,
                 member: Some(member),
@@ -50,8 +54,11 @@ pub(crate) fn append_component(
     source: &TokenTexts,
     part: TypePart,
 ) -> Result<PartRow, AllocError>
+    // The tokens are ranges of the bytes.
     requires { AreInText source.now.bytes.now source.now.tokens.now }
+    // With `Ok` the buffer was only appended to.
     ensures grown { IfOk result (λ _. IsGrown text.old.items text.new.items) }
+    // In the buffer and in every extension of it the result decodes to the specified value.
     ensures decoded { IfOk result (λ p. DecodesTo part_row_in text.new.items p (part_of source.now.bytes.now source.now.tokens.now part)) }
     ensures declared_by { IfOk result (λ p. p.declared_by ≡ part.declared_by) }
 {

@@ -1,6 +1,6 @@
 //! Builds the four sorted indexes of an interface.
 ghost use Rattle.std.specs.Prelude.{◌≡◌, ◌++◌, ◌<◌, ◌≤◌, ◌^◌, Some, IfOk, IsPermutation, length};
-ghost use Rattle.ob_interface.specs.Orders.{alias_entry, base_entry, last_part, member_entry, owner_by, owner_entry, record_of_part, AreByName, AreByRecord};
+ghost use Rattle.ob_interface.specs.Orders.{alias_entry, base_entry, last_part, declaration_entry, owner_by, owner_entry, record_token_of_part, AreByName, AreByRecord};
 ghost use Rattle.ob_interface.specs.IndexEntries.{entries_from};
 ghost use Rattle.std.specs.Option.{option_copied, option_to_list};
 
@@ -11,10 +11,10 @@ use crate::rows::{
 use crate::views::parts_between;
 use std::alloc::{AllocError, Global};
 
-/// The index entry of the declaration with this index.
-fn member_entry(row: &DeclarationRow, at: usize) -> NameIndexEntry
+/// The entry for the declaration number `at` in the index by name.
+fn declaration_entry(row: &DeclarationRow, at: usize) -> NameIndexEntry
     requires { at < 2 ^ 32 }
-    ensures { member_entry row.now at ≡ Some result }
+    ensures { declaration_entry row.now at ≡ Some result }
 {
     NameIndexEntry {
         record: row.record,
@@ -24,19 +24,22 @@ fn member_entry(row: &DeclarationRow, at: usize) -> NameIndexEntry
 }
 
 /// The index entries of all declarations.
-fn member_entries(alloc: Global, rows: &[DeclarationRow]) -> Result<Vec<NameIndexEntry>, AllocError>
+fn declaration_entries(
+    alloc: Global,
+    rows: &[DeclarationRow],
+) -> Result<Vec<NameIndexEntry>, AllocError>
     requires { length rows.now ≤ 2 ^ 32 }
-    ensures { IfOk result (λ entries. entries.items ≡ entries_from member_entry 0 rows.now) }
+    ensures { IfOk result (λ entries. entries.items ≡ entries_from declaration_entry 0 rows.now) }
 {
     let mut entries = Vec::with_capacity(alloc, rows.len())?;
     for i in 0..rows.len() {
-        let entry = member_entry(&rows[i], i);
+        let entry = declaration_entry(&rows[i], i);
         entries.push(entry)?;
     }
     Ok(entries)
 }
 
-/// The index entry of the import item with this index.
+/// The entry for the import item number `at` in the index by alias.
 fn alias_entry(row: &ImportRow, at: usize) -> NameIndexEntry
     requires { at < 2 ^ 32 }
     ensures { alias_entry row.now at ≡ Some result }
@@ -61,7 +64,7 @@ fn alias_entries(alloc: Global, rows: &[ImportRow]) -> Result<Vec<NameIndexEntry
     Ok(entries)
 }
 
-/// The index entry of the base with this index.
+/// The entry for the base number `at` in the index by record.
 fn base_entry(row: &BaseRow, at: usize) -> RecordIndexEntry
     requires { at < 2 ^ 32 }
     ensures { base_entry row.now at ≡ Some result }
@@ -85,9 +88,9 @@ fn base_entries(alloc: Global, rows: &[BaseRow]) -> Result<Vec<RecordIndexEntry>
     Ok(entries)
 }
 
-/// The record of a component, if the component is one.
-fn record_of_part(part: Option<&PartRow>) -> Option<u32>
-    ensures { result ≡ record_of_part (option_copied part.entry) }
+/// The token number of the component's RECORD keyword, if the component is a record type.
+fn record_token_of_part(part: Option<&PartRow>) -> Option<u32>
+    ensures { result ≡ record_token_of_part (option_copied part.entry) }
 {
     match part?.part {
         RowPart::Record(record) => Some(record),
@@ -95,14 +98,14 @@ fn record_of_part(part: Option<&PartRow>) -> Option<u32>
     }
 }
 
-/// The record in which the type expression of a declaration ends.
+/// The record in which the type expression of a declaration ends; `None` if it ends in no record.
 fn owned_record(parts: &[PartRow], row: &DeclarationRow) -> Option<u32>
-    ensures { result ≡ record_of_part (last_part parts.now row.now) }
+    ensures { result ≡ record_token_of_part (last_part parts.now row.now) }
 {
-    record_of_part(parts_between(parts, row.first_part, row.parts_end).last())
+    record_token_of_part(parts_between(parts, row.first_part, row.parts_end).last())
 }
 
-/// Appends an index entry if the type expression of the declaration ends in a record.
+/// Appends an index entry for the declaration number `at` if its type expression ends in a record.
 fn append_owner_entry(
     owners: &mut Vec<RecordIndexEntry>,
     record: Option<u32>,
@@ -122,7 +125,7 @@ fn append_owner_entry(
 }
 
 /// The index entries of all declarations whose type expression ends in a record.
-fn owner_entries(
+fn record_owner_entries(
     alloc: Global,
     parts: &[PartRow],
     rows: &[DeclarationRow],
@@ -139,16 +142,18 @@ fn owner_entries(
 }
 
 /// The index of the declarations, sorted by record, name and index.
-pub(crate) fn sorted_members(
+pub(crate) fn sorted_declarations(
     alloc: Global,
     text: &[u8],
     rows: &[DeclarationRow],
 ) -> Result<Vec<NameIndexEntry>, AllocError>
     requires { length rows.now ≤ 2 ^ 32 }
+    // The entries are sorted by record, name and index.
     ensures sorted { IfOk result (λ entries. AreByName text.now entries.items) }
-    ensures same { IfOk result (λ entries. IsPermutation (entries_from member_entry 0 rows.now) entries.items) }
+    // No entry is added or lost.
+    ensures same { IfOk result (λ entries. IsPermutation (entries_from declaration_entry 0 rows.now) entries.items) }
 {
-    let mut entries = member_entries(alloc, rows)?;
+    let mut entries = declaration_entries(alloc, rows)?;
     sort_by_name(text, &mut entries);
     Ok(entries)
 }
@@ -160,7 +165,9 @@ pub(crate) fn sorted_aliases(
     rows: &[ImportRow],
 ) -> Result<Vec<NameIndexEntry>, AllocError>
     requires { length rows.now ≤ 2 ^ 32 }
+    // The entries are sorted by record, name and index.
     ensures sorted { IfOk result (λ entries. AreByName text.now entries.items) }
+    // No entry is added or lost.
     ensures same { IfOk result (λ entries. IsPermutation (entries_from alias_entry 0 rows.now) entries.items) }
 {
     let mut entries = alias_entries(alloc, rows)?;
@@ -174,7 +181,9 @@ pub(crate) fn sorted_bases(
     rows: &[BaseRow],
 ) -> Result<Vec<RecordIndexEntry>, AllocError>
     requires { length rows.now ≤ 2 ^ 32 }
+    // The entries are sorted by record and index.
     ensures sorted { IfOk result (λ entries. AreByRecord entries.items) }
+    // No entry is added or lost.
     ensures same { IfOk result (λ entries. IsPermutation (entries_from base_entry 0 rows.now) entries.items) }
 {
     let mut entries = base_entries(alloc, rows)?;
@@ -189,10 +198,12 @@ pub(crate) fn sorted_owners(
     rows: &[DeclarationRow],
 ) -> Result<Vec<RecordIndexEntry>, AllocError>
     requires { length rows.now ≤ 2 ^ 32 }
+    // The entries are sorted by record and index.
     ensures sorted { IfOk result (λ entries. AreByRecord entries.items) }
+    // No entry is added or lost.
     ensures same { IfOk result (λ entries. IsPermutation (entries_from (owner_entry parts.now) 0 rows.now) entries.items) }
 {
-    let mut entries = owner_entries(alloc, parts, rows)?;
+    let mut entries = record_owner_entries(alloc, parts, rows)?;
     sort_by_record(&mut entries);
     Ok(entries)
 }

@@ -16,8 +16,8 @@ use ob_scan::{Token, TokenTexts};
 use std::alloc::{AllocError, Global};
 use std::marker::Model;
 
-/// Fills empty lists from the table of a module, given the components of the type expressions in its block. Returns `AllocError` if an
-/// allocation fails.
+/// Fills empty lists from the table of a module. `own` has the components of the type expressions in the module's block, sorted by
+/// declaration group. Returns `AllocError` if an allocation fails.
 fn fill_rows(
     rows: &mut Rows,
     alloc: Global,
@@ -25,12 +25,14 @@ fn fill_rows(
     source: &TokenTexts,
     own: &[TypePart],
 ) -> Result<(), AllocError>
+    // The tokens are ranges of the bytes.
     requires in_text { AreInText source.now.bytes.now source.now.tokens.now }
+    // The components of each declaration group are adjacent.
     requires together { IsNonDecreasingBy (λ p. p.declared_by) own.now }
     requires same { (k : ℕ) → IsSome (module_level_by (rows_in table.now).decl_groups k) → filter (is_part_by k) own.now ≡ filter (is_part_by k) (rows_in table.now).parts }
     ensures { OnOk result (interface_in rows.new ≡ interface_of source.now.bytes.now source.now.tokens.now (rows_in table.now)) }
 {
-    rows.name = append_text(&mut rows.text, source.of(1))?;
+    rows.name = append_text(&mut rows.text, source.token_text(1))?;
     table.invariants();
     let decl_groups = table.decl_groups();
     let declared = table.declared();
@@ -55,6 +57,7 @@ fn read_rows(
     tokens: &[Token],
     bytes: &[u8],
 ) -> Result<Rows, AllocError>
+    // The tokens are ranges of the bytes.
     requires { AreInText bytes.now tokens.now }
     ensures { IfOk result (λ rows. interface_in rows ≡ interface_of bytes.now tokens.now (rows_in table.now)) }
 {
@@ -66,13 +69,13 @@ fn read_rows(
     Ok(rows)
 }
 
-/// The interface of a module without indexes. Its value in contracts is the `ModuleInterface`. It owns all its data.
+/// The interface of a module, without indexes for look-ups. Its value in contracts is a `ModuleInterface`. It owns all its data.
 #[derive(Drop)]
-pub struct Exports {
+pub struct PlainInterface {
     pub(crate) rows: Rows,
 }
 
-impl Model for Exports {
+impl Model for PlainInterface {
     ghost use Rattle.ob_interface.specs.Interfaces.{ModuleInterface};
     ghost use Rattle.ob_interface.specs.RowValues.{interface_in, HasBoundedLists};
 
@@ -84,18 +87,18 @@ impl Model for Exports {
 }
 
 /// The interface of the module with this table, these tokens and bytes. Returns `AllocError` if an allocation fails.
-pub fn exports_of(
+pub fn read_interface(
     alloc: Global,
     table: &Table,
     tokens: &[Token],
     bytes: &[u8],
-) -> Result<Exports, AllocError>
+) -> Result<PlainInterface, AllocError>
     // Every token is a range of the bytes.
     requires { AreInText bytes.now tokens.now }
     // The interface is exactly that of the module.
     ensures exact { IfOk result (λ seen. seen ≡ interface_of bytes.now tokens.now (rows_in table.now)) }
 {
-    table.has_bounded_rows();
+    table.rows_are_bounded();
     let rows = read_rows(alloc, table, tokens, bytes)?;
-    Ok(Exports { rows })
+    Ok(PlainInterface { rows })
 }

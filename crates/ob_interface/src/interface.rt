@@ -10,18 +10,20 @@ ghost use Rattle.ob_interface.specs.Indexed.{HasIndexes};
 ghost use Rattle.ob_interface.specs.Texts.{base_in, text_in};
 ghost use Rattle.ob_interface.specs.declared.rows.ImportRow.{ImportRow as ImportItem};
 
-use crate::entries::{sorted_aliases, sorted_bases, sorted_members, sorted_owners};
-use crate::export_rows::Exports;
-use crate::order::{first_by_name, first_by_record, span_text};
+use crate::entries::{sorted_aliases, sorted_bases, sorted_declarations, sorted_owners};
+use crate::export_rows::PlainInterface;
+use crate::order::{first_index_by_name, first_index_by_record, span_text};
 use crate::rows::{DeclarationRow, NameIndexEntry, RecordIndexEntry, Rows};
-use crate::views::{Base, Declaration, Part, base_of, declaration_of, part_of, parts_between};
+use crate::views::{
+    Base, Declaration, Part, decode_base, decode_declaration, decode_part, parts_between,
+};
 use std::alloc::{AllocError, Global};
 use std::marker::Model;
 
 /// The sorted indexes of the entries.
 #[derive(Drop)]
 struct RowIndexes {
-    /// The declarations by record and name; those of the module's block come first.
+    /// The declarations by record and name. The declarations of the module's block come first.
     members: Vec<NameIndexEntry>,
     /// The import items by alias.
     aliases: Vec<NameIndexEntry>,
@@ -31,14 +33,14 @@ struct RowIndexes {
     owners: Vec<RecordIndexEntry>,
 }
 
-/// Builds the indexes.
+/// Builds the four sorted indexes of an interface.
 fn build_indexes(alloc: Global, rows: &Rows) -> Result<RowIndexes, AllocError>
     requires { HasBoundedLists rows.now }
     ensures { IfOk result (λ x. HasIndexes rows.now x.members.items x.aliases.items x.bases.items x.owners.items) }
 {
     let text = rows.text.as_slice();
     let declarations = rows.declarations.as_slice();
-    let members = sorted_members(alloc, text, declarations)?;
+    let members = sorted_declarations(alloc, text, declarations)?;
     let aliases = sorted_aliases(alloc, text, rows.imports.as_slice())?;
     let bases = sorted_bases(alloc, rows.bases.as_slice())?;
     let owners = sorted_owners(alloc, rows.parts.as_slice(), declarations)?;
@@ -80,40 +82,48 @@ fn find_member_index(
     record: Option<u32>,
     name: &[u8],
 ) -> Option<u32>
+    // The index is sorted by record, name and index.
     requires by_name { AreByName rows.now.text.items members.now }
+    // The first entry with a key has the index of the first element with this key.
     requires indexes { Indexes (name_key rows.now.text.items) index_by_name fits_name (interface_in rows.now).declarations members.now }
     ensures { result ≡ index_of (interface_in rows.now) «record» name.now }
 {
-    first_by_name(rows.text.as_slice(), members, record, name)
+    first_index_by_name(rows.text.as_slice(), members, record, name)
 }
 
 /// The index of the import item of an alias.
-fn import_in(rows: &Rows, aliases: &[NameIndexEntry], alias: &[u8]) -> Option<u32>
+fn find_import_index(rows: &Rows, aliases: &[NameIndexEntry], alias: &[u8]) -> Option<u32>
+    // The index is sorted by record, name and index.
     requires by_name { AreByName rows.now.text.items aliases.now }
+    // The first entry with a key has the index of the first element with this key.
     requires indexes { Indexes (name_key rows.now.text.items) index_by_name fits_alias (interface_in rows.now).imports aliases.now }
     ensures { result ≡ position (fits_alias (None, alias.now)) (interface_in rows.now).imports }
 {
-    first_by_name(rows.text.as_slice(), aliases, None, alias)
+    first_index_by_name(rows.text.as_slice(), aliases, None, alias)
 }
 
 /// The index of the base of a record.
 fn find_base_index(rows: &Rows, bases: &[RecordIndexEntry], record: u32) -> Option<u32>
+    // The index is sorted by record and index.
     requires by_record { AreByRecord bases.now }
+    // The first entry with a key has the index of the first element with this key.
     requires indexes { Indexes record_key index_by_record fits_base (interface_in rows.now).bases bases.now }
     ensures { result ≡ position (fits_base «record») (interface_in rows.now).bases }
 {
     let _ = &rows.bases;
-    first_by_record(bases, record)
+    first_index_by_record(bases, record)
 }
 
 /// The index of the declaration that owns a record.
 fn find_owner_index(rows: &Rows, owners: &[RecordIndexEntry], record: u32) -> Option<u32>
+    // The index is sorted by record and index.
     requires by_record { AreByRecord owners.now }
+    // The first entry with a key has the index of the first element with this key.
     requires indexes { Indexes record_key index_by_record holds (interface_in rows.now).declarations owners.now }
     ensures { result ≡ owner_index (interface_in rows.now) «record» }
 {
     let _ = &rows.declarations;
-    first_by_record(owners, record)
+    first_index_by_record(owners, record)
 }
 
 /// The entry of the declaration with this index.
@@ -124,22 +134,22 @@ fn declaration_row(rows: &Rows, index: u32) -> Option<&DeclarationRow>
 }
 
 /// The declaration with this index.
-fn declaration_in(rows: &Rows, index: u32) -> Option<Declaration<'_>>
+fn declaration_by_index(rows: &Rows, index: u32) -> Option<Declaration<'_>>
     ensures { option_map declaration_value result ≡ declaration_at (interface_in rows.now) index }
 {
     let row = declaration_row(rows, index)?;
-    Some(declaration_of(rows, row))
+    Some(decode_declaration(rows, row))
 }
 
-/// The component with index `at` of this declaration's type expression.
-fn part_in(rows: &Rows, index: u32, at: usize) -> Option<Part<'_>>
+/// The component with index `at`, from 0, of the type expression of the declaration with this index.
+fn part_by_index(rows: &Rows, index: u32, at: usize) -> Option<Part<'_>>
     ensures part { option_map part_value result ≡ type_part (interface_in rows.now) index at }
     ensures few { OnSome result (at + 1 < 2 ^ 64) }
 {
     let row = declaration_row(rows, index)?;
     let type_expr = parts_between(rows.parts.as_slice(), row.first_part, row.parts_end);
     let part = type_expr.get(at)?;
-    Some(part_of(rows.text.as_slice(), part.part))
+    Some(decode_part(rows.text.as_slice(), part.part))
 }
 
 /// The own name of the module that the import item with this index names.
@@ -155,7 +165,7 @@ fn base_by_index(rows: &Rows, index: u32) -> Option<Base<'_>>
     ensures { option_map base_value result ≡ option_map (base_in rows.now.text.items) (slice_get rows.now.bases.items index) }
 {
     let row = rows.bases.as_slice().get(index as usize)?;
-    Some(base_of(rows.text.as_slice(), row))
+    Some(decode_base(rows.text.as_slice(), row))
 }
 
 /// The own name of the module that an alias denotes.
@@ -164,17 +174,21 @@ fn module_name_by_alias<'a>(
     aliases: &[NameIndexEntry],
     alias: &[u8],
 ) -> Option<&'a [u8]>
+    // The index is sorted by record, name and index.
     requires by_name { AreByName rows.now.text.items aliases.now }
+    // The first entry with a key has the index of the first element with this key.
     requires indexes { Indexes (name_key rows.now.text.items) index_by_name fits_alias (interface_in rows.now).imports aliases.now }
     ensures { option_map (λ m. m.now) result ≡ module_named (interface_in rows.now) alias.now }
 {
-    let index = import_in(rows, aliases, alias)?;
+    let index = find_import_index(rows, aliases, alias)?;
     imported_module_name(rows, index)
 }
 
 /// The base of a record.
 fn find_base<'a>(rows: &'a Rows, bases: &[RecordIndexEntry], record: u32) -> Option<Base<'a>>
+    // The index is sorted by record and index.
     requires by_record { AreByRecord bases.now }
+    // The first entry with a key has the index of the first element with this key.
     requires indexes { Indexes record_key index_by_record fits_base (interface_in rows.now).bases bases.now }
     ensures { option_map base_value result ≡ base_named (interface_in rows.now) «record» }
 {
@@ -184,10 +198,10 @@ fn find_base<'a>(rows: &'a Rows, bases: &[RecordIndexEntry], record: u32) -> Opt
 
 impl Interface {
     /// Builds the indexes of an interface. Returns `AllocError` if an allocation fails.
-    pub fn new(alloc: Global, seen: Exports) -> Result<Interface, AllocError>
+    pub fn new(alloc: Global, seen: PlainInterface) -> Result<Interface, AllocError>
         ensures { IfOk result (λ i. i ≡ seen) }
     {
-        let Exports { rows } = seen;
+        let PlainInterface { rows } = seen;
         let indexes = build_indexes(alloc, &rows)?;
         Ok(Interface { rows, indexes })
     }
@@ -220,17 +234,17 @@ impl Interface {
     pub fn declaration_at(&self, index: u32) -> Option<Declaration<'_>>
         ensures { option_map declaration_value result ≡ declaration_at self.now index }
     {
-        declaration_in(&self.rows, index)
+        declaration_by_index(&self.rows, index)
     }
 
-    /// The component with index `at`, from 0, of this declaration's type expression.
-    pub fn part(&self, index: u32, at: usize) -> Option<Part<'_>>
+    /// The component with index `at`, from 0, of the type expression of the declaration with this index.
+    pub fn type_part(&self, index: u32, at: usize) -> Option<Part<'_>>
         // The result is the component, if there is one.
         ensures part { option_map part_value result ≡ type_part self.now index at }
         // The index after an existing component fits 64 bits.
         ensures few { OnSome result (at + 1 < 2 ^ 64) }
     {
-        part_in(&self.rows, index, at)
+        part_by_index(&self.rows, index, at)
     }
 
     /// The declaration of this name in the module's block.

@@ -1,7 +1,7 @@
 //! The interface of a module, what other modules can refer to, as one value that owns its names in one buffer.
 //! It contains unexported declarations too, since exported ones may have their types.
 //! Depends on `module_table` for the table of the module and on `ob_scan` for the spelling of tokens.
-//! Main calls: `exports_of` returns exactly the declarations, bases and imports in the module's block that its table lists.
+//! Main calls: `read_interface` returns exactly the declarations, bases and imports in the module's block that its table lists.
 //! `Interface::new` adds sorted indexes; a look-up by name or record is then one binary search.
 #![tactic(auto)]
 
@@ -17,6 +17,6 @@ mod rows;
 mod type_exprs;
 mod views;
 
-pub use export_rows::{Exports, exports_of};
+pub use export_rows::{PlainInterface, read_interface};
 pub use interface::Interface;
 pub use views::{Base, Declaration, Part, TypeExpr, TypeName};

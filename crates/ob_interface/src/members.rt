@@ -12,7 +12,7 @@ ghost use Rattle.ob_interface.specs.Interfaces.{base, base_by, declaration, decl
 ghost use Rattle.ob_interface.specs.Texts.{base_in, declaration_in, type_expr_at, import_in, AllDecodeTo, IsGrown, DecodesTo};
 
 use crate::buffer::{append_name, append_text};
-use crate::module_level::find_module_level;
+use crate::module_level::find_module_level_group;
 use crate::rows::{BaseRow, DeclarationRow, ImportRow};
 use crate::type_exprs::part_range;
 use module_table::{DeclGroup, DeclKind, Declared, Import, Record, TypeName, TypePart};
@@ -33,17 +33,18 @@ fn is_exportable(decl_kind: DeclKind) -> bool
     }
 }
 
-/// The declaration group of an identifier, if the group is in the module's block and other modules can refer to its kind. `cursor` is a
-/// hint.
+/// The declaration group of an identifier, if the group is in the module's block and other modules can refer to its kind. The search
+/// starts at index `cursor`, which is set to the index found.
 fn exportable_decl_group(
     decl_groups: &[DeclGroup],
     cursor: &mut usize,
     declared: Declared,
 ) -> Option<DeclGroup>
+    // The declaration groups are sorted by their first tokens.
     requires { IsIncreasingBy (λ (d : DeclGroupRow). d.first) decl_groups.now }
     ensures { (bytes : List ℕ) (ts : List Token) (ps : List TypePartRow) → option_map (declaration bytes ts ps declared) result ≡ declaration_by bytes ts ps declared (module_level_by decl_groups.now declared.declared_by) }
 {
-    let decl_group = find_module_level(decl_groups, cursor, declared.declared_by)?;
+    let decl_group = find_module_level_group(decl_groups, cursor, declared.declared_by)?;
     if is_exportable(decl_group.decl_kind) {
         Some(decl_group)
     } else {
@@ -51,12 +52,18 @@ fn exportable_decl_group(
     }
 }
 
-/// The base of a record, if the record belongs to a declaration group of the module's block. `cursor` is a hint.
-fn base_of(decl_groups: &[DeclGroup], cursor: &mut usize, record: Record) -> Option<TypeName>
+/// The base of a record, if the record belongs to a declaration group of the module's block. The search starts at index `cursor`, which is
+/// set to the index found.
+fn module_level_base(
+    decl_groups: &[DeclGroup],
+    cursor: &mut usize,
+    record: Record,
+) -> Option<TypeName>
+    // The declaration groups are sorted by their first tokens.
     requires { IsIncreasingBy (λ (d : DeclGroupRow). d.first) decl_groups.now }
     ensures { (bytes : List ℕ) (ts : List Token) → option_map (base bytes ts «record».number) result ≡ base_by bytes ts «record» (module_level_by decl_groups.now «record».owner) }
 {
-    if find_module_level(decl_groups, cursor, record.owner).is_some() {
+    if find_module_level_group(decl_groups, cursor, record.owner).is_some() {
         record.base
     } else {
         None
@@ -71,13 +78,17 @@ fn append_declaration(
     declared: Declared,
     decl_group: DeclGroup,
 ) -> Result<DeclarationRow, AllocError>
+    // The tokens are ranges of the bytes.
     requires in_text { AreInText source.now.bytes.now source.now.tokens.now }
+    // The components of each declaration group are adjacent.
     requires together { IsNonDecreasingBy (λ p. p.declared_by) parts.now }
+    // With `Ok` the buffer was only appended to.
     ensures grown { IfOk result (λ _. IsGrown text.old.items text.new.items) }
+    // In the buffer and in every extension of it the result decodes to the specified value.
     ensures decoded { IfOk result (λ d. DecodesTo (declaration_in (type_expr_at source.now.bytes.now source.now.tokens.now parts.now)) text.new.items d
         (declaration source.now.bytes.now source.now.tokens.now parts.now declared decl_group)) }
 {
-    let name = append_text(text, source.of(declared.number))?;
+    let name = append_text(text, source.token_text(declared.number))?;
     let (first_part, parts_end) = part_range(parts, declared.declared_by);
     Ok(DeclarationRow {
         name,
@@ -100,10 +111,15 @@ pub(crate) fn collect_declarations(
     parts: &[TypePart],
     declared: &[Declared],
 ) -> Result<Vec<DeclarationRow>, AllocError>
+    // The tokens are ranges of the bytes.
     requires in_text { AreInText source.now.bytes.now source.now.tokens.now }
+    // The declaration groups are sorted by their first tokens.
     requires order { IsIncreasingBy (λ (d : DeclGroupRow). d.first) decl_groups.now }
+    // The components of each declaration group are adjacent.
     requires together { IsNonDecreasingBy (λ p. p.declared_by) parts.now }
+    // With `Ok` the buffer was only appended to.
     ensures grown { IfOk result (λ _. IsGrown text.old.items text.new.items) }
+    // In the buffer and in every extension of it the entries decode to the specified values.
     ensures decode { IfOk result (λ rows. AllDecodeTo (declaration_in (type_expr_at source.now.bytes.now source.now.tokens.now parts.now)) text.new.items rows.items
         (filter_map (λ r. declaration_by source.now.bytes.now source.now.tokens.now parts.now r (module_level_by decl_groups.now r.declared_by)) declared.now)) }
 {
@@ -130,8 +146,11 @@ fn append_base(
     record: u32,
     name: TypeName,
 ) -> Result<BaseRow, AllocError>
+    // The tokens are ranges of the bytes.
     requires { AreInText source.now.bytes.now source.now.tokens.now }
+    // With `Ok` the buffer was only appended to.
     ensures grown { IfOk result (λ _. IsGrown text.old.items text.new.items) }
+    // In the buffer and in every extension of it the result decodes to the specified value.
     ensures decoded { IfOk result (λ b. DecodesTo base_in text.new.items b (base source.now.bytes.now source.now.tokens.now «record» name)) }
 {
     let start = source.start(name.head);
@@ -151,9 +170,13 @@ pub(crate) fn collect_bases(
     decl_groups: &[DeclGroup],
     records: &[Record],
 ) -> Result<Vec<BaseRow>, AllocError>
+    // The tokens are ranges of the bytes.
     requires in_text { AreInText source.now.bytes.now source.now.tokens.now }
+    // The declaration groups are sorted by their first tokens.
     requires order { IsIncreasingBy (λ (d : DeclGroupRow). d.first) decl_groups.now }
+    // With `Ok` the buffer was only appended to.
     ensures grown { IfOk result (λ _. IsGrown text.old.items text.new.items) }
+    // In the buffer and in every extension of it the entries decode to the specified values.
     ensures decode { IfOk result (λ rows. AllDecodeTo base_in text.new.items rows.items
         (filter_map (λ r. base_by source.now.bytes.now source.now.tokens.now r (module_level_by decl_groups.now r.owner)) records.now)) }
 {
@@ -161,7 +184,7 @@ pub(crate) fn collect_bases(
     let mut cursor = 0;
     for i in 0..records.len() {
         let record = records[i];
-        match base_of(decl_groups, &mut cursor, record) {
+        match module_level_base(decl_groups, &mut cursor, record) {
             Some(base) => {
                 let row = append_base(text, source, record.number, base)?;
                 rows.push(row)?;
@@ -178,12 +201,15 @@ fn append_import(
     source: &TokenTexts,
     import: Import,
 ) -> Result<ImportRow, AllocError>
+    // The tokens are ranges of the bytes.
     requires { AreInText source.now.bytes.now source.now.tokens.now }
+    // With `Ok` the buffer was only appended to.
     ensures grown { IfOk result (λ _. IsGrown text.old.items text.new.items) }
+    // In the buffer and in every extension of it the result decodes to the specified value.
     ensures decoded { IfOk result (λ i. DecodesTo import_in text.new.items i (imported_of source.now.bytes.now source.now.tokens.now import)) }
 {
-    let alias = append_text(text, source.of(import.alias))?;
-    let imported = append_text(text, source.of(import.imported))?;
+    let alias = append_text(text, source.token_text(import.alias))?;
+    let imported = append_text(text, source.token_text(import.imported))?;
     Ok(ImportRow {
         alias,
         start: source.start(import.alias),
@@ -198,8 +224,11 @@ pub(crate) fn collect_imports(
     source: &TokenTexts,
     imports: &[Import],
 ) -> Result<Vec<ImportRow>, AllocError>
+    // The tokens are ranges of the bytes.
     requires { AreInText source.now.bytes.now source.now.tokens.now }
+    // With `Ok` the buffer was only appended to.
     ensures grown { IfOk result (λ _. IsGrown text.old.items text.new.items) }
+    // In the buffer and in every extension of it the entries decode to the specified values.
     ensures decode { IfOk result (λ rows. AllDecodeTo import_in text.new.items rows.items (map (imported_of source.now.bytes.now source.now.tokens.now) imports.now)) }
 {
     let mut rows = Vec::new(alloc);

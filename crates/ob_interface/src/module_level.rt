@@ -11,6 +11,7 @@ const MAX_PROBES: usize = 4;
 
 /// The index of the declaration group that begins with this token. Tries `MAX_PROBES` indexes from the hint on, then a binary search.
 fn index_by_hint(decl_groups: &[DeclGroup], cursor: usize, first: u32) -> Option<usize>
+    // The declaration groups are sorted by their first tokens.
     requires { IsIncreasingBy (λ (d : DeclGroupRow). d.first) decl_groups.now }
     ensures found { IfSome result (IsIndexBy (λ (d : DeclGroupRow). d.first) decl_groups.now first) }
     ensures none { IfNone result (HasNoneBy (λ (d : DeclGroupRow). d.first) decl_groups.now first) }
@@ -25,12 +26,14 @@ fn index_by_hint(decl_groups: &[DeclGroup], cursor: usize, first: u32) -> Option
     index_of(decl_groups, first)
 }
 
-/// The declaration group that begins with this token, if it is directly in the module's block. Moves the hint to its index.
-pub(crate) fn find_module_level(
+/// The declaration group that begins with this token, if it is directly in the module's block. The search starts at index `cursor`, which
+/// is set to the index of the group.
+pub(crate) fn find_module_level_group(
     decl_groups: &[DeclGroup],
     cursor: &mut usize,
     first: u32,
 ) -> Option<DeclGroup>
+    // The declaration groups are sorted by their first tokens.
     requires { IsIncreasingBy (λ (d : DeclGroupRow). d.first) decl_groups.now }
     ensures { result ≡ module_level_by decl_groups.now first }
 {

@@ -20,7 +20,7 @@ pub(crate) fn span_text(text: &[u8], span: BufferSpan) -> &[u8]
 }
 
 /// Compares the key of an entry with a record (`None` for the module's block) and a name.
-fn compare(text: &[u8], entry: &NameIndexEntry, record: Option<u32>, name: &[u8]) -> Ordering
+fn compare_key(text: &[u8], entry: &NameIndexEntry, record: Option<u32>, name: &[u8]) -> Ordering
     ensures { result ≡ key_cmp (name_key text.now entry.now) («record», name.now) }
 {
     match entry.record.cmp(&record) {
@@ -34,7 +34,7 @@ fn compare(text: &[u8], entry: &NameIndexEntry, record: Option<u32>, name: &[u8]
 fn compare_name_entries(text: &[u8], a: &NameIndexEntry, b: &NameIndexEntry) -> Ordering
     ensures { result ≡ rank_cmp key_cmp (name_key text.now) index_by_name a.now b.now }
 {
-    match compare(text, a, b.record, span_text(text, b.name)) {
+    match compare_key(text, a, b.record, span_text(text, b.name)) {
         Ordering::Equal => a.index.cmp(&b.index),
         Ordering::Less => Ordering::Less,
         Ordering::Greater => Ordering::Greater,
@@ -54,7 +54,9 @@ fn compare_record_entries(a: &RecordIndexEntry, b: &RecordIndexEntry) -> Orderin
 
 /// Sorts entries by record, name and index.
 pub(crate) fn sort_by_name(text: &[u8], entries: &mut Vec<NameIndexEntry>)
+    // The entries are sorted by record, name and index.
     ensures sorted { AreByName text.now entries.new.items }
+    // No entry is added or lost.
     ensures same { IsPermutation entries.old.items entries.new.items }
 {
     entries.sort_unstable_by(|a, b| compare_name_entries(text, a, b));
@@ -62,7 +64,9 @@ pub(crate) fn sort_by_name(text: &[u8], entries: &mut Vec<NameIndexEntry>)
 
 /// Sorts entries by record and index.
 pub(crate) fn sort_by_record(entries: &mut Vec<RecordIndexEntry>)
+    // The entries are sorted by record and index.
     ensures sorted { AreByRecord entries.new.items }
+    // No entry is added or lost.
     ensures same { IsPermutation entries.old.items entries.new.items }
 {
     entries.sort_unstable_by(|a, b| compare_record_entries(a, b));
@@ -70,22 +74,25 @@ pub(crate) fn sort_by_record(entries: &mut Vec<RecordIndexEntry>)
 
 /// The smallest index of the entries with this record (`None` for the module's block) and this name, by binary search; `None` if no entry
 /// has them.
-pub(crate) fn first_by_name(
+pub(crate) fn first_index_by_name(
     text: &[u8],
     entries: &[NameIndexEntry],
     record: Option<u32>,
     name: &[u8],
 ) -> Option<u32>
+    // The index is sorted by record, name and index.
     requires { AreByName text.now entries.now }
+    // The result is the smallest index among the entries with the key.
     ensures found { IfSome result (IsSmallestIndex (name_key text.now) index_by_name entries.now («record», name.now)) }
+    // Without a result no entry has the key.
     ensures none { IfNone result ((e : NameEntry) → Contains entries.now e → name_key text.now e ≡ («record», name.now) → ⊥) }
 {
-    let at = entries.partition_point(|entry| compare(text, entry, record, name).is_lt());
+    let at = entries.partition_point(|entry| compare_key(text, entry, record, name).is_lt());
     if at >= entries.len() {
         return None;
     }
     let entry = entries[at];
-    if compare(text, &entry, record, name).is_eq() {
+    if compare_key(text, &entry, record, name).is_eq() {
         Some(entry.index)
     } else {
         None
@@ -93,9 +100,12 @@ pub(crate) fn first_by_name(
 }
 
 /// The smallest index of the entries with this record, by binary search; `None` if no entry has it.
-pub(crate) fn first_by_record(entries: &[RecordIndexEntry], record: u32) -> Option<u32>
+pub(crate) fn first_index_by_record(entries: &[RecordIndexEntry], record: u32) -> Option<u32>
+    // The index is sorted by record and index.
     requires { AreByRecord entries.now }
+    // The result is the smallest index among the entries with the key.
     ensures found { IfSome result (IsSmallestIndex record_key index_by_record entries.now «record») }
+    // Without a result no entry has the key.
     ensures none { IfNone result ((e : RecordEntry) → Contains entries.now e → record_key e ≡ «record» → ⊥) }
 {
     let at = entries.partition_point(|entry| entry.record.cmp(&record).is_lt());

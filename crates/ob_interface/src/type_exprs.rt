@@ -9,7 +9,7 @@ ghost use Rattle.ob_interface.specs.Interfaces.{is_part_by, module_level_by, par
 ghost use Rattle.ob_interface.specs.Texts.{part_row_in, AllDecodeTo, IsGrown};
 
 use crate::buffer::append_component;
-use crate::module_level::find_module_level;
+use crate::module_level::find_module_level_group;
 use crate::rows::PartRow;
 use module_table::{DeclGroup, TypePart};
 use ob_scan::TokenTexts;
@@ -21,6 +21,7 @@ fn module_level_parts(
     decl_groups: &[DeclGroup],
     parts: &[TypePart],
 ) -> Result<Vec<TypePart>, AllocError>
+    // The declaration groups are sorted by their first tokens.
     requires { IsIncreasingBy (λ (d : DeclGroupRow). d.first) decl_groups.now }
     ensures { IfOk result (λ own. (k : ℕ) → IsSome (module_level_by decl_groups.now k) → filter (is_part_by k) own.items ≡ filter (is_part_by k) parts.now) }
 {
@@ -28,7 +29,7 @@ fn module_level_parts(
     let mut cursor = 0;
     for i in 0..parts.len() {
         let part = parts[i];
-        if find_module_level(decl_groups, &mut cursor, part.declared_by).is_some() {
+        if find_module_level_group(decl_groups, &mut cursor, part.declared_by).is_some() {
             own.push(part)?;
         }
     }
@@ -41,6 +42,7 @@ pub(crate) fn sorted_parts(
     decl_groups: &[DeclGroup],
     parts: &[TypePart],
 ) -> Result<Vec<TypePart>, AllocError>
+    // The declaration groups are sorted by their first tokens.
     requires { IsIncreasingBy (λ (d : DeclGroupRow). d.first) decl_groups.now }
     ensures together { IfOk result (λ own. IsNonDecreasingBy (λ p. p.declared_by) own.items) }
     ensures same { IfOk result (λ own. (k : ℕ) → IsSome (module_level_by decl_groups.now k) → filter (is_part_by k) own.items ≡ filter (is_part_by k) parts.now) }
@@ -67,8 +69,11 @@ pub(crate) fn collect_components(
     source: &TokenTexts,
     parts: &[TypePart],
 ) -> Result<Vec<PartRow>, AllocError>
+    // The tokens are ranges of the bytes.
     requires { AreInText source.now.bytes.now source.now.tokens.now }
+    // With `Ok` the buffer was only appended to.
     ensures grown { IfOk result (λ _. IsGrown text.old.items text.new.items) }
+    // In the buffer and in every extension of it the entries decode to the specified values.
     ensures decode { IfOk result (λ rows. AllDecodeTo part_row_in text.new.items rows.items (map (part_of source.now.bytes.now source.now.tokens.now) parts.now)) }
 {
     let mut rows = Vec::new(alloc);

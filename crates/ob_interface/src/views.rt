@@ -79,8 +79,8 @@ pub struct Base<'a> {
     pub name: TypeName<'a>,
 }
 
-/// Decodes a name.
-fn name_of<'a>(text: &'a [u8], name: NameRow) -> TypeName<'a>
+/// The name of an entry, as slices of the buffer `text`.
+fn decode_name<'a>(text: &'a [u8], name: NameRow) -> TypeName<'a>
     ensures { name_value result ≡ name_in text.now name }
 {
     match name.member {
@@ -89,8 +89,8 @@ fn name_of<'a>(text: &'a [u8], name: NameRow) -> TypeName<'a>
     }
 }
 
-/// Decodes a component.
-pub(crate) fn part_of<'a>(text: &'a [u8], part: RowPart) -> Part<'a>
+/// The component of an entry, with its name as slices of the buffer `text`.
+pub(crate) fn decode_part<'a>(text: &'a [u8], part: RowPart) -> Part<'a>
     ensures { part_value result ≡ part_in text.now part }
 {
     match part {
@@ -100,7 +100,7 @@ pub(crate) fn part_of<'a>(text: &'a [u8], part: RowPart) -> Part<'a>
         RowPart::Procedure => Part::Procedure,
         RowPart::Named { start, name } => Part::Named {
             start,
-            name: name_of(text, name),
+            name: decode_name(text, name),
         },
     }
 }
@@ -114,7 +114,7 @@ impl<'a> TypeExpr<'a> {
         ensures none { IfNone result (slice_get self.now 0 ≡ None) }
     {
         let row = self.parts.first()?;
-        Some(part_of(self.text, row.part))
+        Some(decode_part(self.text, row.part))
     }
 
     /// The type expression without its outermost component.
@@ -137,8 +137,8 @@ pub(crate) fn parts_between(parts: &[PartRow], first: usize, end: usize) -> &[Pa
     &rest[..length.min(rest.len())]
 }
 
-/// Decodes a declaration.
-pub(crate) fn declaration_of<'a>(rows: &'a Rows, row: &DeclarationRow) -> Declaration<'a>
+/// The declaration of an entry, with its names as slices of the buffer.
+pub(crate) fn decode_declaration<'a>(rows: &'a Rows, row: &DeclarationRow) -> Declaration<'a>
     ensures { declaration_value result ≡ declaration_in (type_expr_in rows.now.text.items rows.now.parts.items) rows.now.text.items row.now }
 {
     let text = rows.text.as_slice();
@@ -157,13 +157,13 @@ pub(crate) fn declaration_of<'a>(rows: &'a Rows, row: &DeclarationRow) -> Declar
     }
 }
 
-/// Decodes a base.
-pub(crate) fn base_of<'a>(text: &'a [u8], row: &BaseRow) -> Base<'a>
+/// The base of an entry, with its name as slices of the buffer `text`.
+pub(crate) fn decode_base<'a>(text: &'a [u8], row: &BaseRow) -> Base<'a>
     ensures { base_value result ≡ base_in text.now row.now }
 {
     Base {
         record: row.record,
         start: row.start,
-        name: name_of(text, row.name),
+        name: decode_name(text, row.name),
     }
 }

@@ -8,10 +8,10 @@ use Rattle.ob_grammar.specs.declared.cursor.Cursor.{Cursor}
 use Rattle.ob_grammar.specs.declared.stop.Stop.{Stop}
 use Rattle.ob_grammar.specs.declared.stop.Stop.TheVariants as stops
 use Rattle.ob_grammar.specs.Combinators.{Read}
-use Rattle.ob_grammar.specs.AgreesWith.{AgreesWith, remaining}
+use Rattle.ob_grammar.specs.ParsesAs.{ParsesAs, remaining}
 
 -- the box has the value, or an allocation failed
 pub gives_boxed : {T : Type 0} (ts : List Token) (view : T → Events) (of : T) (rest : Cursor) (r : Result (Box T × Cursor) Stop) (read : Read)
-    → IfOk r (λ b. (b.0.value ≡ of) × (b.1 ≡ rest)) → IfErr r (λ stop. stop ≡ stops.Memory) → read ≡ Ok (view of, remaining ts rest) → AgreesWith ts (λ b. (view b.0.value, remaining ts b.1)) r read
+    → IfOk r (λ b. (b.0.value ≡ of) × (b.1 ≡ rest)) → IfErr r (λ stop. stop ≡ stops.Memory) → read ≡ Ok (view of, remaining ts rest) → ParsesAs ts (λ b. (view b.0.value, remaining ts b.1)) r read
 gives_boxed ts view of rest (Ok b) read is refused e = rw (is.0, is.1) e
 gives_boxed ts view of rest (Err stop) read is refused e = rw refused tt

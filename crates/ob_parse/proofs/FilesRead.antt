@@ -19,7 +19,7 @@ use Rattle.source_tree.specs.Trees.{names, rows, IsAccepted, IsFileFault, IsTree
 use Rattle.source_tree.specs.Parts.{AreAllParts, ArePartsOf, HasParts}
 use Rattle.ob_parse.specs.Readings.{AreAllRead, HasReading, IsReadOf}
 use Rattle.source_tree.specs.declared.parts.ModuleParts.{ModuleParts}
-use Rattle.ob_parse.specs.declared.reading.ReadModule.{ReadModule}
+use Rattle.ob_parse.specs.declared.reading.ParsedModule.{ParsedModule}
 use Rattle.source_tree.specs.declared.source.Source.{Source}
 use Rattle.source_tree.specs.declared.tree_fault.TreeFault.{TreeFault}
 use Rattle.source_tree.proofs.ReadFiles.{all_next, all_none, first_fault, of_tree}
@@ -64,7 +64,7 @@ front_of (y ∷ ys) zero x rest e = (cc, cc)
 front_of (y ∷ ys) (suc i) x rest e = front_of ys i x rest e
 
 -- the first files have been read, and the parts of the others are there
-pub record AreReadTo (sources : List Source) (modules : List (Box ModuleParts Global)) (all : List ReadModule) (rest : List (Box ModuleParts Global)) : Type 0 where
+pub record AreReadTo (sources : List Source) (modules : List (Box ModuleParts Global)) (all : List ParsedModule) (rest : List (Box ModuleParts Global)) : Type 0 where
   pub before : (files : List ModuleFile) × AreAllOf IsReadOf (take (length all) sources) files all
   pub rest_are : rest ≡ drop (length all) modules
 
@@ -75,7 +75,7 @@ module _ (sources : List Source) (modules : List (Box ModuleParts Global)) (give
   as_many : length modules ≡ length sources
   as_many = given.1.as_many ∙ given.1.accepted.as_many
 
-  module _ (all : List ReadModule) (parts : Box ModuleParts Global) (rest : List (Box ModuleParts Global)) (to : AreReadTo sources modules all (parts ∷ rest)) where
+  module _ (all : List ParsedModule) (parts : Box ModuleParts Global) (rest : List (Box ModuleParts Global)) (to : AreReadTo sources modules all (parts ∷ rest)) where
     pub next_within : length all < length sources
     next_within =
         let lt = slice_get_within modules (length all) parts (front_of modules (length all) parts rest to.rest_are).0 in
@@ -91,7 +91,7 @@ module _ (sources : List Source) (modules : List (Box ModuleParts Global)) (give
           let (file, at) = there given.0 (length all) (omega arith) in
           (file, given.1.accepted.each (length all) source file at_source at, given.1.each (length all) file parts at (front_of modules (length all) parts rest to.rest_are).0)
 
-      pub next_read : (read : ReadModule) → HasReading source read → AreReadTo sources modules (all ++ read ∷ []) rest
+      pub next_read : (read : ParsedModule) → HasReading source read → AreReadTo sources modules (all ++ read ∷ []) rest
       next_read read of =
           let longer : length (all ++ read ∷ []) ≡ length all + 1 = length-append all (read ∷ []) in
           let one : suc (length all) ≡ length (all ++ read ∷ []) = omega arith in
@@ -105,7 +105,7 @@ module _ (sources : List Source) (modules : List (Box ModuleParts Global)) (give
       next_fault fault h = of_tree sources fault (first_fault sources (length all) source to.before.0 fault next_within is to.before.1.accepted h)
 
   -- at the end all have been read
-  pub all_were_read : (all : List ReadModule) → AreReadTo sources modules all [] → (files : List ModuleFile) × AreAllRead sources files all
+  pub all_were_read : (all : List ParsedModule) → AreReadTo sources modules all [] → (files : List ModuleFile) × AreAllRead sources files all
   all_were_read all to =
       let left : length (drop (length all) modules) ≡ 0 = ap length (sym to.rest_are) in
       let dropped = length-drop (length all) modules in

@@ -1,9 +1,9 @@
 //! The parser: from the tokens of an Oberon-07 module to its syntax tree, by recursive descent with one token of look-ahead (a field list
-//! needs two); and trees of files with a syntax tree for each module. No command calls it.
+//! needs two); and source trees with a syntax tree for each module. No command calls it.
 //! Depends on `ob_grammar` for the grammar, on `ob_tree` for the tree, on `ob_scan` for tokens, and for `read_tree` on `source_tree` and
 //! the crates from which a module's parts come.
-//! Main call: `parse`. It returns the one tree that derives the tokens, of at most 200 levels and with right names after END, or the
-//! reason why there is none.
+//! Main call: `parse`. It returns the one tree that derives the tokens, of at most 200 nested levels and with the right names after END, or
+//! an error if there is none. Each function returns what the grammar's reader in `ob_grammar` returns (`ParsesAs`).
 #![tactic(auto)]
 
 mod declarations;
@@ -20,4 +20,4 @@ mod types;
 
 pub use ob_grammar::ParseFault;
 pub use parser::parse;
-pub use reading::{ReadModule, ReadTree, read_tree};
+pub use reading::{ParsedModule, ParsedTree, read_tree};

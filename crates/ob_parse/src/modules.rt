@@ -1,4 +1,6 @@
 //! Modules (Oberon-07 report, section 11). Each function parses the production or part that its name states.
+//! `ensures`: the parser's result is that of the grammar's reader, the last argument of `ParsesAs`: the events of the parsed item and the
+//! remaining tokens, or the error. If an allocation failed, nothing is claimed.
 
 ghost use Rattle.std.specs.Prelude.{◌≡◌, ◌++◌};
 ghost use Rattle.ob_scan.specs.declared.kind.Kind.TheVariants as kinds;
@@ -8,11 +10,11 @@ ghost use Rattle.ob_tree.specs.Declaring.{declarations_events, import_events, mo
 ghost use Rattle.ob_grammar.specs.Combinators.{accept_at, expect_at, name_at, several, many, seq};
 ghost use Rattle.ob_grammar.specs.ReadStatements.{block_at};
 ghost use Rattle.ob_grammar.specs.ReadModules.{import_item_at, imports_at, declarations_at, body_with, module_at, read_all};
-ghost use Rattle.ob_grammar.specs.AgreesWith.{AgreesWith, remaining};
+ghost use Rattle.ob_grammar.specs.ParsesAs.{ParsesAs, remaining};
 
 use crate::declarations::declarations;
 use crate::statements::optional_block;
-use crate::stop::{append_item, boxed};
+use crate::stop::{append_item, box_value};
 use ob_grammar::cursor::Cursor;
 use ob_grammar::modules::import;
 use ob_grammar::stop::Stop;
@@ -29,7 +31,7 @@ fn more_imports(
     tokens: &[Token],
     input: Cursor,
 ) -> Result<(Vec<ImportItem>, Cursor), Stop>
-    ensures { AgreesWith tokens.now (λ x. (each_after kinds.Comma import_events x.0.items, remaining tokens.now x.1)) result (many (accept_at kinds.Comma) import_item_at (remaining tokens.now input)) }
+    ensures { ParsesAs tokens.now (λ x. (each_after kinds.Comma import_events x.0.items, remaining tokens.now x.1)) result (many (accept_at kinds.Comma) import_item_at (remaining tokens.now input)) }
 {
     let mut rest = Vec::new(alloc);
     let mut here = input;
@@ -46,7 +48,7 @@ fn import_list(
     tokens: &[Token],
     input: Cursor,
 ) -> Result<(OneOrMore<ImportItem>, Cursor), Stop>
-    ensures { AgreesWith tokens.now (λ x. (separated kinds.Comma import_events x.0, remaining tokens.now x.1)) result (several kinds.Comma import_item_at (remaining tokens.now input)) }
+    ensures { ParsesAs tokens.now (λ x. (separated kinds.Comma import_events x.0, remaining tokens.now x.1)) result (several kinds.Comma import_item_at (remaining tokens.now input)) }
 {
     let (first, here) = import(tokens, input)?;
     let (rest, here) = more_imports(alloc, tokens, here)?;
@@ -60,7 +62,7 @@ fn imports(
     tokens: &[Token],
     input: Cursor,
 ) -> Result<(Option<OneOrMore<ImportItem>>, Cursor), Stop>
-    ensures { AgreesWith tokens.now (λ x. (if_present (λ l. word kinds.Import ++ (separated kinds.Comma import_events l ++ word kinds.Semicolon)) x.0, remaining tokens.now x.1)) result (imports_at (remaining tokens.now input)) }
+    ensures { ParsesAs tokens.now (λ x. (if_present (λ l. word kinds.Import ++ (separated kinds.Comma import_events l ++ word kinds.Semicolon)) x.0, remaining tokens.now x.1)) result (imports_at (remaining tokens.now input)) }
 {
     match accept(tokens, input, Kind::Import) {
         Some(rest) => {
@@ -72,7 +74,7 @@ fn imports(
     }
 }
 
-/// The statements of a module, moved out of their box.
+/// Moves the statements of a module out of their box, if it has any.
 fn unbox_body(body: Option<Box<StatementSequence>>) -> Option<StatementSequence>
     ensures { if_present (λ b. word kinds.Begin ++ block_events b) result ≡ if_present (λ b. word kinds.Begin ++ block_events b.value) body }
 {
@@ -82,7 +84,7 @@ fn unbox_body(body: Option<Box<StatementSequence>>) -> Option<StatementSequence>
     }
 }
 
-/// Parses a module, in which `depth` levels of nesting are left.
+/// Parses a module. `depth` is the number of nesting levels that are left for it.
 #[tactic(auto, using(ob_tree::proofs::DeclarationLayers::declaring_made), unfolding(ob_grammar::specs::ReadModules::module_at, ob_grammar::specs::ReadModules::module_after_name))]
 pub(crate) fn module(
     alloc: Global,
@@ -90,7 +92,7 @@ pub(crate) fn module(
     input: Cursor,
     depth: u32,
 ) -> Result<(Box<Module>, Cursor), Stop>
-    ensures { AgreesWith tokens.now (λ x. (module_events x.0.value, remaining tokens.now x.1)) result (module_at depth (remaining tokens.now input)) }
+    ensures { ParsesAs tokens.now (λ x. (module_events x.0.value, remaining tokens.now x.1)) result (module_at depth (remaining tokens.now input)) }
 {
     let here = expect(tokens, input, Kind::Module)?;
     let (name, here) = identifier(tokens, here)?;
@@ -106,10 +108,10 @@ pub(crate) fn module(
         body: unbox_body(body),
         end_name,
     };
-    boxed(alloc, module, here)
+    box_value(alloc, module, here)
 }
 
-/// Parses the part of a module after its imports. `name` is the index of the name that has to be repeated after END.
+/// Parses a module after its imports. `name`, only for the contract, is the index of its name, which the name after END has to repeat.
 #[tactic(auto, unfolding(ob_grammar::specs::ReadModules::body_with))]
 fn module_remainder(
     alloc: Global,
@@ -124,7 +126,7 @@ fn module_remainder(
     ),
     Stop,
 >
-    ensures { AgreesWith tokens.now (λ x. (
+    ensures { ParsesAs tokens.now (λ x. (
       declarations_events x.0.0.value ++ (if_present (λ b. word kinds.Begin ++ block_events b.value) x.0.1 ++
           (word kinds.End ++ (repeated name x.0.2 ++ word kinds.Dot))),
       remaining tokens.now x.1,
@@ -138,10 +140,11 @@ fn module_remainder(
     Ok(((declarations, body, end_name), here))
 }
 
-/// Parses the end of a module after its statements. `name` is the index of the name that has to be repeated after END.
+/// Parses the end of a module: END, a name and a dot. Returns the index of this name. `name`, only for the contract, is the index of the
+/// module's name, which the name after END has to repeat.
 #[tactic(auto, unfolding(ob_grammar::specs::Combinators::name_at))]
 fn module_ending(tokens: &[Token], input: Cursor, name: u32) -> Result<(u32, Cursor), Stop>
-    ensures { AgreesWith tokens.now (λ x. (word kinds.End ++ (repeated name x.0 ++ word kinds.Dot), remaining tokens.now x.1)) result
+    ensures { ParsesAs tokens.now (λ x. (word kinds.End ++ (repeated name x.0 ++ word kinds.Dot), remaining tokens.now x.1)) result
         (seq (expect_at kinds.End) (seq (name_at (repeated name)) (expect_at kinds.Dot)) (remaining tokens.now input)) }
 {
     let here = expect(tokens, input, Kind::End)?;
@@ -158,7 +161,7 @@ pub(crate) fn parse_all_tokens(
     input: Cursor,
     depth: u32,
 ) -> Result<Box<Module>, Stop>
-    ensures { AgreesWith tokens.now (λ m. module_events m.value) result (read_all depth (remaining tokens.now input)) }
+    ensures { ParsesAs tokens.now (λ m. module_events m.value) result (read_all depth (remaining tokens.now input)) }
 {
     let (module, here) = module(alloc, tokens, input, depth)?;
     match here.next(tokens) {

@@ -1,4 +1,6 @@
 //! Formal parameters (Oberon-07 report, section 10.1). Each function parses the production or part that its name states.
+//! `ensures`: the parser's result is that of the grammar's reader, the last argument of `ParsesAs`: the events of the parsed item and the
+//! remaining tokens, or the error. If an allocation failed, nothing is claimed.
 
 ghost use Rattle.std.specs.Prelude.{◌++◌, false};
 ghost use Rattle.ob_scan.specs.declared.kind.Kind.TheVariants as kinds;
@@ -8,13 +10,13 @@ ghost use Rattle.ob_tree.specs.Types.{section_events, parameters_events};
 ghost use Rattle.ob_grammar.specs.Combinators.{optional, accept_at, expect_at, name_at, many, several, unless};
 ghost use Rattle.ob_grammar.specs.ReadNames.{qualident_at};
 ghost use Rattle.ob_grammar.specs.ReadTypes.{section_at, parameters_at, optional_parameters_at};
-ghost use Rattle.ob_grammar.specs.AgreesWith.{AgreesWith, remaining};
+ghost use Rattle.ob_grammar.specs.ParsesAs.{ParsesAs, remaining};
 
-use crate::stop::{append_item, some};
+use crate::stop::{append_item, wrap_in_some};
 use ob_grammar::cursor::Cursor;
 use ob_grammar::names::qualident;
 use ob_grammar::stop::Stop;
-use ob_grammar::tokens::{accept, expect, identifier, is_at, skip};
+use ob_grammar::tokens::{accept, expect, identifier, next_is, skip};
 use ob_scan::{Kind, Token};
 use ob_tree::declaration::{ParameterSection, Parameters};
 use ob_tree::name::{OneOrMore, Qualident};
@@ -23,14 +25,14 @@ use std::alloc::Global;
 /// Parses the name of a parameter.
 #[tactic(auto, unfolding(ob_grammar::specs::Combinators::name_at))]
 fn name(tokens: &[Token], input: Cursor) -> Result<(u32, Cursor), Stop>
-    ensures { AgreesWith tokens.now (λ x. (declared false x.0, remaining tokens.now x.1)) result (name_at (declared false) (remaining tokens.now input)) }
+    ensures { ParsesAs tokens.now (λ x. (declared false x.0, remaining tokens.now x.1)) result (name_at (declared false) (remaining tokens.now input)) }
 {
     identifier(tokens, input)
 }
 
-/// Parses the further names of a section, each after a comma.
+/// Parses the further parameter names of a section, each after a comma.
 fn more_names(alloc: Global, tokens: &[Token], input: Cursor) -> Result<(Vec<u32>, Cursor), Stop>
-    ensures { AgreesWith tokens.now (λ x. (each_after kinds.Comma (declared false) x.0.items, remaining tokens.now x.1)) result (many (accept_at kinds.Comma) (name_at (declared false)) (remaining tokens.now input)) }
+    ensures { ParsesAs tokens.now (λ x. (each_after kinds.Comma (declared false) x.0.items, remaining tokens.now x.1)) result (many (accept_at kinds.Comma) (name_at (declared false)) (remaining tokens.now input)) }
 {
     let mut rest = Vec::new(alloc);
     let mut here = input;
@@ -40,19 +42,19 @@ fn more_names(alloc: Global, tokens: &[Token], input: Cursor) -> Result<(Vec<u32
     Ok((rest, here))
 }
 
-/// Parses one name or more, separated by commas.
+/// Parses the parameter names of a section: one or more, separated by commas.
 #[tactic(auto, unfolding(ob_grammar::specs::Combinators::several))]
 fn names(alloc: Global, tokens: &[Token], input: Cursor) -> Result<(OneOrMore<u32>, Cursor), Stop>
-    ensures { AgreesWith tokens.now (λ x. (separated kinds.Comma (declared false) x.0, remaining tokens.now x.1)) result (several kinds.Comma (name_at (declared false)) (remaining tokens.now input)) }
+    ensures { ParsesAs tokens.now (λ x. (separated kinds.Comma (declared false) x.0, remaining tokens.now x.1)) result (several kinds.Comma (name_at (declared false)) (remaining tokens.now input)) }
 {
     let (first, here) = name(tokens, input)?;
     let (rest, here) = more_names(alloc, tokens, here)?;
     Ok((OneOrMore { first, rest }, here))
 }
 
-/// Counts the ARRAY OF that are next.
+/// Parses any number of ARRAY OF, and returns their number.
 fn open_arrays(tokens: &[Token], input: Cursor) -> Result<(u32, Cursor), Stop>
-    ensures { AgreesWith tokens.now (λ x. (times x.0 (word kinds.Array ++ word kinds.Of), remaining tokens.now x.1)) result (many (accept_at kinds.Array) (expect_at kinds.Of) (remaining tokens.now input)) }
+    ensures { ParsesAs tokens.now (λ x. (times x.0 (word kinds.Array ++ word kinds.Of), remaining tokens.now x.1)) result (many (accept_at kinds.Array) (expect_at kinds.Of) (remaining tokens.now input)) }
 {
     let mut count = 0;
     let mut here = input;
@@ -63,14 +65,14 @@ fn open_arrays(tokens: &[Token], input: Cursor) -> Result<(u32, Cursor), Stop>
     Ok((count, here))
 }
 
-/// Parses a section: parameters of one formal type.
+/// Parses a section of formal parameters, whose parameters have one formal type.
 #[tactic(auto, using(ob_tree::proofs::TypeLayers::types_made), unfolding(ob_grammar::specs::ReadTypes::section_at))]
 fn section(
     alloc: Global,
     tokens: &[Token],
     input: Cursor,
 ) -> Result<(ParameterSection, Cursor), Stop>
-    ensures { AgreesWith tokens.now (λ x. (section_events x.0, remaining tokens.now x.1)) result (section_at (remaining tokens.now input)) }
+    ensures { ParsesAs tokens.now (λ x. (section_events x.0, remaining tokens.now x.1)) result (section_at (remaining tokens.now input)) }
 {
     let (variable, here) = skip(tokens, input, Kind::Var);
     let (names, here) = names(alloc, tokens, here)?;
@@ -94,7 +96,7 @@ fn more_sections(
     tokens: &[Token],
     input: Cursor,
 ) -> Result<(Vec<ParameterSection>, Cursor), Stop>
-    ensures { AgreesWith tokens.now (λ x. (each_after kinds.Semicolon section_events x.0.items, remaining tokens.now x.1)) result (many (accept_at kinds.Semicolon) section_at (remaining tokens.now input)) }
+    ensures { ParsesAs tokens.now (λ x. (each_after kinds.Semicolon section_events x.0.items, remaining tokens.now x.1)) result (many (accept_at kinds.Semicolon) section_at (remaining tokens.now input)) }
 {
     let mut rest = Vec::new(alloc);
     let mut here = input;
@@ -111,9 +113,9 @@ fn sections(
     tokens: &[Token],
     input: Cursor,
 ) -> Result<(Option<OneOrMore<ParameterSection>>, Cursor), Stop>
-    ensures { AgreesWith tokens.now (λ x. (if_present (separated kinds.Semicolon section_events) x.0, remaining tokens.now x.1)) result (optional (unless kinds.RightParen) (several kinds.Semicolon section_at) (remaining tokens.now input)) }
+    ensures { ParsesAs tokens.now (λ x. (if_present (separated kinds.Semicolon section_events) x.0, remaining tokens.now x.1)) result (optional (unless kinds.RightParen) (several kinds.Semicolon section_at) (remaining tokens.now input)) }
 {
-    if is_at(tokens, input, Kind::RightParen) {
+    if next_is(tokens, input, Kind::RightParen) {
         return Ok((None, input));
     }
     let (first, here) = section(alloc, tokens, input)?;
@@ -123,10 +125,10 @@ fn sections(
 
 /// Parses a colon and the type of a result, if a colon is next.
 fn result_type(tokens: &[Token], input: Cursor) -> Result<(Option<Qualident>, Cursor), Stop>
-    ensures { AgreesWith tokens.now (λ x. (if_present (λ q. word kinds.Colon ++ qualident_events q) x.0, remaining tokens.now x.1)) result (optional (accept_at kinds.Colon) qualident_at (remaining tokens.now input)) }
+    ensures { ParsesAs tokens.now (λ x. (if_present (λ q. word kinds.Colon ++ qualident_events q) x.0, remaining tokens.now x.1)) result (optional (accept_at kinds.Colon) qualident_at (remaining tokens.now input)) }
 {
     match accept(tokens, input, Kind::Colon) {
-        Some(rest) => some(qualident(tokens, rest)),
+        Some(rest) => wrap_in_some(qualident(tokens, rest)),
         None => Ok((None, input)),
     }
 }
@@ -134,7 +136,7 @@ fn result_type(tokens: &[Token], input: Cursor) -> Result<(Option<Qualident>, Cu
 /// Parses formal parameters.
 #[tactic(auto, using(ob_tree::proofs::TypeLayers::types_made), unfolding(ob_grammar::specs::ReadTypes::parameters_at))]
 fn parameters(alloc: Global, tokens: &[Token], input: Cursor) -> Result<(Parameters, Cursor), Stop>
-    ensures { AgreesWith tokens.now (λ x. (parameters_events x.0, remaining tokens.now x.1)) result (parameters_at (remaining tokens.now input)) }
+    ensures { ParsesAs tokens.now (λ x. (parameters_events x.0, remaining tokens.now x.1)) result (parameters_at (remaining tokens.now input)) }
 {
     let here = expect(tokens, input, Kind::LeftParen)?;
     let (sections, here) = sections(alloc, tokens, here)?;
@@ -150,10 +152,10 @@ pub(crate) fn optional_parameters(
     tokens: &[Token],
     input: Cursor,
 ) -> Result<(Option<Parameters>, Cursor), Stop>
-    ensures { AgreesWith tokens.now (λ x. (if_present parameters_events x.0, remaining tokens.now x.1)) result (optional_parameters_at (remaining tokens.now input)) }
+    ensures { ParsesAs tokens.now (λ x. (if_present parameters_events x.0, remaining tokens.now x.1)) result (optional_parameters_at (remaining tokens.now input)) }
 {
-    if is_at(tokens, input, Kind::LeftParen) {
-        return some(parameters(alloc, tokens, input));
+    if next_is(tokens, input, Kind::LeftParen) {
+        return wrap_in_some(parameters(alloc, tokens, input));
     }
     Ok((None, input))
 }

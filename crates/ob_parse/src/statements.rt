@@ -1,8 +1,10 @@
 //! Statements (Oberon-07 report, section 9). Each function parses the production or part that its name states.
+//! `ensures`: the parser's result is that of the grammar's reader, the last argument of `ParsesAs`: the events of the parsed item and the
+//! remaining tokens, or the error. If an allocation failed, nothing is claimed.
 
 ghost use Rattle.std.specs.Prelude.{◌≡◌, ◌++◌};
 ghost use Rattle.ob_grammar.specs.Combinators.{accept_at, expect_at, many, node, optional, prefixed, seq};
-ghost use Rattle.ob_grammar.specs.AgreesWith.{AgreesWith, remaining};
+ghost use Rattle.ob_grammar.specs.ParsesAs.{ParsesAs, remaining};
 ghost use Rattle.ob_grammar.specs.ReadExpressions.{expr_at};
 ghost use Rattle.ob_grammar.specs.ReadStatements.{assign_with, block_at, branch_with, case_with, cases_with, for_with, if_with, repeat_with, statement_at, statement_with, while_with};
 ghost use Rattle.ob_scan.specs.declared.kind.Kind.TheVariants as kinds;
@@ -14,7 +16,7 @@ ghost use Rattle.ob_tree.specs.Statements.{block_events, branch_events, case_eve
 
 use crate::expressions::{designator, expression, optional_expression};
 use crate::labels::label_ranges;
-use crate::stop::{append_boxed, boxed, some};
+use crate::stop::{append_boxed, box_value, wrap_in_some};
 use ob_grammar::cursor::Cursor;
 use ob_grammar::labels::begins_label;
 use ob_grammar::statements::begins_statement;
@@ -26,22 +28,22 @@ use ob_tree::statement::{Branch, Case, For, StatementSequence, Stmt};
 use ob_tree::token::Leaf;
 use std::alloc::Global;
 
-/// Parses a statement when no level is left: it has to be empty.
+/// Parses an empty statement, the only statement for which no nesting level has to be left. Any other statement is the error `TooDeep`.
 #[tactic(auto, using(crate::proofs::StatementSteps::made), unfolding(ob_grammar::specs::ReadStatements::statement_at, ob_grammar::specs::ReadStatements::empty_at))]
 fn empty_statement(
     alloc: Global,
     tokens: &[Token],
     input: Cursor,
 ) -> Result<(Box<Stmt>, Cursor), Stop>
-    ensures { AgreesWith tokens.now (λ x. (stmt_events x.0.value, remaining tokens.now x.1)) result (statement_at 0 (remaining tokens.now input)) }
+    ensures { ParsesAs tokens.now (λ x. (stmt_events x.0.value, remaining tokens.now x.1)) result (statement_at 0 (remaining tokens.now input)) }
 {
     if begins_statement(tokens, input) {
         return Err(Stop::TooDeep(input));
     }
-    boxed(alloc, Stmt::Empty, input)
+    box_value(alloc, Stmt::Empty, input)
 }
 
-/// Parses a statement, for which `depth` levels of nesting are left. It is a level itself.
+/// Parses a statement, which takes one of the `depth` nesting levels that are left. If none is left, only an empty statement is accepted.
 #[cycle(statements)]
 #[tactic(auto, unfolding(ob_grammar::specs::ReadStatements::statement_at))]
 fn statement(
@@ -50,25 +52,25 @@ fn statement(
     input: Cursor,
     depth: u32,
 ) -> Result<(Box<Stmt>, Cursor), Stop>
-    ensures { AgreesWith tokens.now (λ x. (stmt_events x.0.value, remaining tokens.now x.1)) result (statement_at depth (remaining tokens.now input)) }
+    ensures { ParsesAs tokens.now (λ x. (stmt_events x.0.value, remaining tokens.now x.1)) result (statement_at depth (remaining tokens.now input)) }
 {
     if depth == 0 {
         return empty_statement(alloc, tokens, input);
     }
-    let (statement, input) = statement_within(alloc, tokens, input, depth - 1)?;
-    boxed(alloc, statement, input)
+    let (statement, input) = statement_after_depth_check(alloc, tokens, input, depth - 1)?;
+    box_value(alloc, statement, input)
 }
 
-/// Parses a statement, in whose parts `depth` levels of nesting are left.
+/// Parses a statement. `depth` is the number of nesting levels left for its parts: the statement's own level is already subtracted.
 #[cycle(statements)]
 #[tactic(auto, using(crate::proofs::StatementSteps::made), unfolding(ob_grammar::specs::ReadStatements::statement_with))]
-fn statement_within(
+fn statement_after_depth_check(
     alloc: Global,
     tokens: &[Token],
     input: Cursor,
     depth: u32,
 ) -> Result<(Stmt, Cursor), Stop>
-    ensures { AgreesWith tokens.now (λ x. (stmt_events x.0, remaining tokens.now x.1)) result (statement_with (expr_at depth) (block_at depth) (remaining tokens.now input)) }
+    ensures { ParsesAs tokens.now (λ x. (stmt_events x.0, remaining tokens.now x.1)) result (statement_with (expr_at depth) (block_at depth) (remaining tokens.now input)) }
 {
     match input.next(tokens) {
         Some((Leaf::Name(number), rest)) => assignment(alloc, tokens, number, rest, depth),
@@ -90,7 +92,7 @@ fn assignment(
     input: Cursor,
     depth: u32,
 ) -> Result<(Stmt, Cursor), Stop>
-    ensures { AgreesWith tokens.now (λ x. (stmt_events x.0, remaining tokens.now x.1)) result (node constructs.Statement (assign_with (expr_at depth) head) (remaining tokens.now input)) }
+    ensures { ParsesAs tokens.now (λ x. (stmt_events x.0, remaining tokens.now x.1)) result (node constructs.Statement (assign_with (expr_at depth) head) (remaining tokens.now input)) }
 {
     let (target, input) = designator(alloc, tokens, head, input, depth)?;
     match accept(tokens, input, Kind::Assign) {
@@ -111,7 +113,7 @@ pub(crate) fn block(
     input: Cursor,
     depth: u32,
 ) -> Result<(Box<StatementSequence>, Cursor), Stop>
-    ensures { AgreesWith tokens.now (λ x. (block_events x.0.value, remaining tokens.now x.1)) result (block_at depth (remaining tokens.now input)) }
+    ensures { ParsesAs tokens.now (λ x. (block_events x.0.value, remaining tokens.now x.1)) result (block_at depth (remaining tokens.now input)) }
 {
     let (first, here) = statement(alloc, tokens, input, depth)?;
     let (rest, here) = more_statements(alloc, tokens, here, depth)?;
@@ -119,7 +121,7 @@ pub(crate) fn block(
         first: Box::into_inner(first),
         rest,
     };
-    boxed(alloc, block, here)
+    box_value(alloc, block, here)
 }
 
 /// Parses the further statements of a sequence, each after a semicolon.
@@ -130,7 +132,7 @@ fn more_statements(
     input: Cursor,
     depth: u32,
 ) -> Result<(Vec<Stmt>, Cursor), Stop>
-    ensures { AgreesWith tokens.now (λ x. (each_after kinds.Semicolon stmt_events x.0.items, remaining tokens.now x.1)) result (many (accept_at kinds.Semicolon) (statement_at depth) (remaining tokens.now input)) }
+    ensures { ParsesAs tokens.now (λ x. (each_after kinds.Semicolon stmt_events x.0.items, remaining tokens.now x.1)) result (many (accept_at kinds.Semicolon) (statement_at depth) (remaining tokens.now input)) }
 {
     let mut rest = Vec::new(alloc);
     let mut here = input;
@@ -140,7 +142,7 @@ fn more_statements(
     Ok((rest, here))
 }
 
-/// Parses a condition, a keyword, and the statements after it.
+/// Parses a branch: a condition, this keyword (THEN or DO), and statements.
 #[cycle(statements)]
 #[tactic(auto, using(crate::proofs::StatementSteps::made), unfolding(ob_grammar::specs::ReadStatements::branch_with))]
 fn branch(
@@ -150,7 +152,7 @@ fn branch(
     depth: u32,
     keyword: Kind,
 ) -> Result<(Box<Branch>, Cursor), Stop>
-    ensures { AgreesWith tokens.now (λ x. (branch_events x.0.value keyword, remaining tokens.now x.1)) result (branch_with (expr_at depth) (block_at depth) keyword (remaining tokens.now input)) }
+    ensures { ParsesAs tokens.now (λ x. (branch_events x.0.value keyword, remaining tokens.now x.1)) result (branch_with (expr_at depth) (block_at depth) keyword (remaining tokens.now input)) }
 {
     let (condition, input) = expression(alloc, tokens, input, depth)?;
     let input = expect(tokens, input, keyword)?;
@@ -159,10 +161,10 @@ fn branch(
         condition: Box::into_inner(condition),
         body: Box::into_inner(body),
     };
-    boxed(alloc, branch, input)
+    box_value(alloc, branch, input)
 }
 
-/// Parses the ELSIF branches, with `keyword` between each condition and its statements.
+/// Parses any number of ELSIF branches. `keyword`, THEN or DO, is between each condition and its statements.
 #[cycle(statements)]
 fn elsif_branches(
     alloc: Global,
@@ -171,7 +173,7 @@ fn elsif_branches(
     depth: u32,
     keyword: Kind,
 ) -> Result<(Vec<Branch>, Cursor), Stop>
-    ensures { AgreesWith tokens.now (λ x. (each_after kinds.Elsif (λ b. branch_events b keyword) x.0.items, remaining tokens.now x.1)) result
+    ensures { ParsesAs tokens.now (λ x. (each_after kinds.Elsif (λ b. branch_events b keyword) x.0.items, remaining tokens.now x.1)) result
         (many (accept_at kinds.Elsif) (branch_with (expr_at depth) (block_at depth) keyword) (remaining tokens.now input)) }
 {
     let mut rest = Vec::new(alloc);
@@ -182,7 +184,7 @@ fn elsif_branches(
     Ok((rest, here))
 }
 
-/// Parses the statements after a keyword, if the keyword is next.
+/// Parses this keyword and the statements after it, if the keyword is next; otherwise returns `None`.
 #[cycle(statements)]
 pub(crate) fn optional_block(
     alloc: Global,
@@ -191,15 +193,15 @@ pub(crate) fn optional_block(
     depth: u32,
     word: Kind,
 ) -> Result<(Option<Box<StatementSequence>>, Cursor), Stop>
-    ensures { AgreesWith tokens.now (λ x. (if_present (λ b. marks.word word ++ block_events b.value) x.0, remaining tokens.now x.1)) result (optional (accept_at word) (block_at depth) (remaining tokens.now input)) }
+    ensures { ParsesAs tokens.now (λ x. (if_present (λ b. marks.word word ++ block_events b.value) x.0, remaining tokens.now x.1)) result (optional (accept_at word) (block_at depth) (remaining tokens.now input)) }
 {
     match accept(tokens, input, word) {
         None => Ok((None, input)),
-        Some(rest) => some(block(alloc, tokens, rest, depth)),
+        Some(rest) => wrap_in_some(block(alloc, tokens, rest, depth)),
     }
 }
 
-/// Parses a statement after its IF.
+/// Parses an IF statement after its IF.
 #[cycle(statements)]
 #[tactic(auto, using(crate::proofs::StatementSteps::made), unfolding(ob_grammar::specs::ReadStatements::if_with))]
 fn if_statement(
@@ -208,7 +210,7 @@ fn if_statement(
     input: Cursor,
     depth: u32,
 ) -> Result<(Stmt, Cursor), Stop>
-    ensures { AgreesWith tokens.now (λ x. (stmt_events x.0, remaining tokens.now x.1)) result (node constructs.Statement (prefixed (word kinds.If) (if_with (expr_at depth) (block_at depth))) (remaining tokens.now input)) }
+    ensures { ParsesAs tokens.now (λ x. (stmt_events x.0, remaining tokens.now x.1)) result (node constructs.Statement (prefixed (word kinds.If) (if_with (expr_at depth) (block_at depth))) (remaining tokens.now input)) }
 {
     let (first, input) = branch(alloc, tokens, input, depth, Kind::Then)?;
     let (rest, input) = elsif_branches(alloc, tokens, input, depth, Kind::Then)?;
@@ -217,7 +219,7 @@ fn if_statement(
     Ok((Stmt::If(first, rest, otherwise), input))
 }
 
-/// Parses a statement after its CASE.
+/// Parses a CASE statement after its CASE.
 #[cycle(statements)]
 #[tactic(auto, using(crate::proofs::StatementSteps::made), unfolding(ob_grammar::specs::ReadStatements::cases_with))]
 fn case_statement(
@@ -226,7 +228,7 @@ fn case_statement(
     input: Cursor,
     depth: u32,
 ) -> Result<(Stmt, Cursor), Stop>
-    ensures { AgreesWith tokens.now (λ x. (stmt_events x.0, remaining tokens.now x.1)) result (node constructs.Statement (prefixed (word kinds.Case) (cases_with (expr_at depth) (block_at depth))) (remaining tokens.now input)) }
+    ensures { ParsesAs tokens.now (λ x. (stmt_events x.0, remaining tokens.now x.1)) result (node constructs.Statement (prefixed (word kinds.Case) (cases_with (expr_at depth) (block_at depth))) (remaining tokens.now input)) }
 {
     let (value, input) = expression(alloc, tokens, input, depth)?;
     let input = expect(tokens, input, Kind::Of)?;
@@ -242,7 +244,7 @@ fn cases(
     input: Cursor,
     depth: u32,
 ) -> Result<((Box<Case>, Vec<Case>), Cursor), Stop>
-    ensures { AgreesWith tokens.now (λ x. (case_events x.0.0.value ++ (each_after kinds.Bar case_events x.0.1.items ++ word kinds.End), remaining tokens.now x.1)) result
+    ensures { ParsesAs tokens.now (λ x. (case_events x.0.0.value ++ (each_after kinds.Bar case_events x.0.1.items ++ word kinds.End), remaining tokens.now x.1)) result
         (seq (case_with (block_at depth)) (seq (many (accept_at kinds.Bar) (case_with (block_at depth))) (expect_at kinds.End)) (remaining tokens.now input)) }
 {
     let (first, input) = case(alloc, tokens, input, depth)?;
@@ -260,18 +262,18 @@ fn case(
     input: Cursor,
     depth: u32,
 ) -> Result<(Box<Case>, Cursor), Stop>
-    ensures { AgreesWith tokens.now (λ x. (case_events x.0.value, remaining tokens.now x.1)) result (case_with (block_at depth) (remaining tokens.now input)) }
+    ensures { ParsesAs tokens.now (λ x. (case_events x.0.value, remaining tokens.now x.1)) result (case_with (block_at depth) (remaining tokens.now input)) }
 {
     if !begins_label(tokens, input) {
-        return boxed(alloc, Case::Nothing, input);
+        return box_value(alloc, Case::Nothing, input);
     }
     let (labels, input) = label_ranges(alloc, tokens, input)?;
     let input = expect(tokens, input, Kind::Colon)?;
     let (body, input) = block(alloc, tokens, input, depth)?;
-    boxed(alloc, Case::Labelled(labels, body), input)
+    box_value(alloc, Case::Labelled(labels, body), input)
 }
 
-/// Parses the further cases, each after a bar.
+/// Parses the further cases of a CASE statement, each after a bar.
 #[cycle(statements)]
 fn more_cases(
     alloc: Global,
@@ -279,7 +281,7 @@ fn more_cases(
     input: Cursor,
     depth: u32,
 ) -> Result<(Vec<Case>, Cursor), Stop>
-    ensures { AgreesWith tokens.now (λ x. (each_after kinds.Bar case_events x.0.items, remaining tokens.now x.1)) result (many (accept_at kinds.Bar) (case_with (block_at depth)) (remaining tokens.now input)) }
+    ensures { ParsesAs tokens.now (λ x. (each_after kinds.Bar case_events x.0.items, remaining tokens.now x.1)) result (many (accept_at kinds.Bar) (case_with (block_at depth)) (remaining tokens.now input)) }
 {
     let mut rest = Vec::new(alloc);
     let mut here = input;
@@ -289,7 +291,7 @@ fn more_cases(
     Ok((rest, here))
 }
 
-/// Parses a statement after its WHILE.
+/// Parses a WHILE statement after its WHILE.
 #[cycle(statements)]
 #[tactic(auto, using(crate::proofs::StatementSteps::made), unfolding(ob_grammar::specs::ReadStatements::while_with))]
 fn while_statement(
@@ -298,7 +300,7 @@ fn while_statement(
     input: Cursor,
     depth: u32,
 ) -> Result<(Stmt, Cursor), Stop>
-    ensures { AgreesWith tokens.now (λ x. (stmt_events x.0, remaining tokens.now x.1)) result (node constructs.Statement (prefixed (word kinds.While) (while_with (expr_at depth) (block_at depth))) (remaining tokens.now input)) }
+    ensures { ParsesAs tokens.now (λ x. (stmt_events x.0, remaining tokens.now x.1)) result (node constructs.Statement (prefixed (word kinds.While) (while_with (expr_at depth) (block_at depth))) (remaining tokens.now input)) }
 {
     let (first, input) = branch(alloc, tokens, input, depth, Kind::Do)?;
     let (rest, input) = elsif_branches(alloc, tokens, input, depth, Kind::Do)?;
@@ -306,7 +308,7 @@ fn while_statement(
     Ok((Stmt::While(first, rest), input))
 }
 
-/// Parses a statement after its REPEAT.
+/// Parses a REPEAT statement after its REPEAT.
 #[cycle(statements)]
 #[tactic(auto, using(crate::proofs::StatementSteps::made), unfolding(ob_grammar::specs::ReadStatements::repeat_with))]
 fn repeat_statement(
@@ -315,7 +317,7 @@ fn repeat_statement(
     input: Cursor,
     depth: u32,
 ) -> Result<(Stmt, Cursor), Stop>
-    ensures { AgreesWith tokens.now (λ x. (stmt_events x.0, remaining tokens.now x.1)) result (node constructs.Statement (prefixed (word kinds.Repeat) (repeat_with (expr_at depth) (block_at depth))) (remaining tokens.now input)) }
+    ensures { ParsesAs tokens.now (λ x. (stmt_events x.0, remaining tokens.now x.1)) result (node constructs.Statement (prefixed (word kinds.Repeat) (repeat_with (expr_at depth) (block_at depth))) (remaining tokens.now input)) }
 {
     let (body, input) = block(alloc, tokens, input, depth)?;
     let input = expect(tokens, input, Kind::Until)?;
@@ -323,7 +325,7 @@ fn repeat_statement(
     Ok((Stmt::Repeat(body, Box::into_inner(condition)), input))
 }
 
-/// Parses a statement after its FOR.
+/// Parses a FOR statement after its FOR.
 #[cycle(statements)]
 #[tactic(auto, using(crate::proofs::StatementSteps::made), unfolding(ob_grammar::specs::ReadStatements::for_with, ob_grammar::specs::Combinators::name_at))]
 fn for_statement(
@@ -332,7 +334,7 @@ fn for_statement(
     input: Cursor,
     depth: u32,
 ) -> Result<(Stmt, Cursor), Stop>
-    ensures { AgreesWith tokens.now (λ x. (stmt_events x.0, remaining tokens.now x.1)) result (node constructs.Statement (prefixed (word kinds.For) (for_with (expr_at depth) (block_at depth))) (remaining tokens.now input)) }
+    ensures { ParsesAs tokens.now (λ x. (stmt_events x.0, remaining tokens.now x.1)) result (node constructs.Statement (prefixed (word kinds.For) (for_with (expr_at depth) (block_at depth))) (remaining tokens.now input)) }
 {
     let (variable, input) = identifier(tokens, input)?;
     let input = expect(tokens, input, Kind::Assign)?;
@@ -345,11 +347,11 @@ fn for_statement(
         by: unbox_step(by),
         body: Box::into_inner(body),
     };
-    let (statement, input) = boxed(alloc, statement, input)?;
+    let (statement, input) = box_value(alloc, statement, input)?;
     Ok((Stmt::For(statement), input))
 }
 
-/// Parses a FOR statement from its TO on: the limit, the step and the body.
+/// Parses a FOR statement from its TO on: the limit, the step if there is one, and the body.
 #[cycle(statements)]
 fn for_limit_and_body(
     alloc: Global,
@@ -363,7 +365,7 @@ fn for_limit_and_body(
     ),
     Stop,
 >
-    ensures { AgreesWith tokens.now (λ x. (
+    ensures { ParsesAs tokens.now (λ x. (
       word kinds.To ++ (expr_events x.0.0.value ++ (if_present (λ e. word kinds.By ++ expr_events e.value) x.0.1
           ++ (word kinds.Do ++ (block_events x.0.2.value ++ word kinds.End)))),
       remaining tokens.now x.1,
@@ -386,7 +388,7 @@ fn for_body(
     input: Cursor,
     depth: u32,
 ) -> Result<(Box<StatementSequence>, Cursor), Stop>
-    ensures { AgreesWith tokens.now (λ x. (word kinds.Do ++ (block_events x.0.value ++ word kinds.End), remaining tokens.now x.1)) result (seq (expect_at kinds.Do) (seq (block_at depth) (expect_at kinds.End)) (remaining tokens.now input)) }
+    ensures { ParsesAs tokens.now (λ x. (word kinds.Do ++ (block_events x.0.value ++ word kinds.End), remaining tokens.now x.1)) result (seq (expect_at kinds.Do) (seq (block_at depth) (expect_at kinds.End)) (remaining tokens.now input)) }
 {
     let input = expect(tokens, input, Kind::Do)?;
     let (body, input) = block(alloc, tokens, input, depth)?;
@@ -394,7 +396,7 @@ fn for_body(
     Ok((body, input))
 }
 
-/// The step of a FOR statement, moved out of its box.
+/// Moves the step of a FOR statement out of its box, if it has one.
 fn unbox_step(step: Option<Box<Expr>>) -> Option<Expr>
     ensures { if_present (λ e. word kinds.By ++ expr_events e) result ≡ if_present (λ e. word kinds.By ++ expr_events e.value) step }
 {

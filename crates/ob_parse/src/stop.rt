@@ -1,15 +1,15 @@
-//! Helpers that pass on the errors inside the parser.
+//! Helpers that put parsed items into a box, a `Some` or a list, and pass on errors.
 
 ghost use Rattle.std.specs.Prelude.{◌≡◌, IfOk, IfErr};
-ghost use Rattle.ob_grammar.specs.AgreesWith.{some_of, AppendsItem};
+ghost use Rattle.ob_grammar.specs.ParsesAs.{some_of, AppendsItem};
 ghost use Rattle.ob_grammar.specs.declared.stop.Stop.TheVariants.{Memory};
 
 use ob_grammar::cursor::Cursor;
 use ob_grammar::stop::Stop;
 use std::alloc::Global;
 
-/// The value in a box, and the cursor after its tokens.
-pub(crate) fn boxed<T: Drop>(
+/// The pair of a new box with the parsed value and the cursor `rest`, which is after the value's tokens. Fails if the allocation fails.
+pub(crate) fn box_value<T: Drop>(
     alloc: Global,
     value: T,
     rest: Cursor,
@@ -20,7 +20,7 @@ pub(crate) fn boxed<T: Drop>(
     Ok((Box::new(alloc, value)?, rest))
 }
 
-/// Appends the parsed item to the list, and returns the cursor after its tokens.
+/// If `read` has a parsed item, appends it to the list and returns the cursor after its tokens; else returns the error in `read`.
 pub(crate) fn append_item<T: Drop>(
     list: &mut Vec<T>,
     read: Result<(T, Cursor), Stop>,
@@ -32,7 +32,7 @@ pub(crate) fn append_item<T: Drop>(
     Ok(rest)
 }
 
-/// Appends the parsed item to the list, moved out of its box, and returns the cursor after its tokens.
+/// If `read` has a boxed item, moves it from the box to the list's end and returns the cursor after its tokens; else returns the error.
 pub(crate) fn append_boxed<T: Drop>(
     list: &mut Vec<T>,
     read: Result<(Box<T>, Cursor), Stop>,
@@ -44,8 +44,10 @@ pub(crate) fn append_boxed<T: Drop>(
     Ok(rest)
 }
 
-/// Wraps the parsed item in `Some`.
-pub(crate) fn some<T: Drop>(read: Result<(T, Cursor), Stop>) -> Result<(Option<T>, Cursor), Stop>
+/// Wraps the parsed item in `read` in `Some`; an error stays as it is.
+pub(crate) fn wrap_in_some<T: Drop>(
+    read: Result<(T, Cursor), Stop>,
+) -> Result<(Option<T>, Cursor), Stop>
     ensures { result ≡ some_of read }
 {
     let (item, rest) = read?;

@@ -20,12 +20,12 @@ elsewhere rows k s =
     first (is_end_name k) syntax_positions.End rows.ends (
     first (is_use k) syntax_positions.Use rows.uses (
     first (is_selected k) syntax_positions.Selected rows.selectors (
-    first (is_second k) syntax_positions.Second rows.uses s))))))
+    first (is_second k) syntax_positions.QualidentMember rows.uses s))))))
 
 pub AreLaid : Rows → List SyntaxPosition → List SyntaxPosition → Type 0
 AreLaid rows old new = (k : ℕ) (s : SyntaxPosition) → slice_get old k ≡ Some s → slice_get new k ≡ Some (elsewhere rows k s)
 
-pub all_laid : (rows : Rows) (a b c d e f g h : List SyntaxPosition) → ArePositionsSet is_second syntax_positions.Second rows.uses a b → ArePositionsSet is_selected syntax_positions.Selected rows.selectors b c →
+pub all_laid : (rows : Rows) (a b c d e f g h : List SyntaxPosition) → ArePositionsSet is_second syntax_positions.QualidentMember rows.uses a b → ArePositionsSet is_selected syntax_positions.Selected rows.selectors b c →
     ArePositionsSet is_use syntax_positions.Use rows.uses c d → ArePositionsSet is_end_name syntax_positions.End rows.ends d e → ArePositionsSet is_declared syntax_positions.Declaration rows.declared e f →
     ArePositionsSet is_imported_name syntax_positions.Item rows.imports f g → ArePositionsSet is_alias syntax_positions.Item rows.imports g h → AreLaid rows a h
 unfolding AreLaid

@@ -26,7 +26,7 @@ IsPlaced rows k (syntax_positions.Declaration at) = Unit {0}
 IsPlaced rows k (syntax_positions.End at) = at < length rows.ends
 IsPlaced rows k (syntax_positions.Use at) = Unit {0}
 IsPlaced rows k (syntax_positions.Selected at) = SelectsAt rows k at
-IsPlaced rows k (syntax_positions.Second at) = at < length rows.uses
+IsPlaced rows k (syntax_positions.QualidentMember at) = at < length rows.uses
 IsPlaced rows k syntax_positions.Nowhere = Unit {0}
 
 record HasRow {X : Type 0} (position_is : X → Bool) (rows : List X) (i : ℕ) : Type 0 where
@@ -63,8 +63,8 @@ field_is k steps.Target e = absurd (let f : None ≡ Some k = e in cc)
 field_is k (steps.Arguments t) e = absurd (let f : None ≡ Some k = e in cc)
 
 module _ (rows : Rows) (k : ℕ) where
-  placed_second : IsPlaced rows k (first (is_second k) syntax_positions.Second rows.uses syntax_positions.Nowhere)
-  placed_second = first_has (IsPlaced rows k) (is_second k) syntax_positions.Second rows.uses syntax_positions.Nowhere (λ i x there is. slice_get_within rows.uses i x there) tt
+  placed_second : IsPlaced rows k (first (is_second k) syntax_positions.QualidentMember rows.uses syntax_positions.Nowhere)
+  placed_second = first_has (IsPlaced rows k) (is_second k) syntax_positions.QualidentMember rows.uses syntax_positions.Nowhere (λ i x there is. slice_get_within rows.uses i x there) tt
 
   placed_behind : (s : SyntaxPosition) → IsPlaced rows k s → IsPlaced rows k (first (is_selected k) syntax_positions.Selected rows.selectors s)
   placed_behind s p = first_has (IsPlaced rows k) (is_selected k) syntax_positions.Selected rows.selectors s

@@ -12,15 +12,15 @@ use Rattle.module_table.specs.declared.rows.Used.{Used}
 use Rattle.ob_scan.specs.declared.kind.Kind.{Kind}
 use Rattle.ob_scan.specs.declared.kind.Kind.TheVariants as kinds
 use Rattle.ob_scan.specs.declared.token.Token.{Token}
-use Rattle.ob_types.specs.World.{World}
+use Rattle.ob_view.specs.World.{World}
 use Rattle.ob_targets.specs.declared.designator_type.DesignatorType.{DesignatorType}
 use Rattle.ob_targets.specs.declared.syntax_position.SyntaxPosition.{SyntaxPosition}
 use Rattle.ob_targets.specs.declared.syntax_position.SyntaxPosition.TheVariants as syntax_positions
-use Rattle.ob_targets.specs.declared.target.Target.{Target}
-use Rattle.ob_targets.specs.declared.target.Target.TheVariants as targets
-use Rattle.ob_targets.specs.declared.target.Reference.{Reference}
+use Rattle.ob_view.specs.declared.target.Target.{Target}
+use Rattle.ob_view.specs.declared.target.Target.TheVariants as targets
+use Rattle.ob_view.specs.declared.target.Reference.{Reference}
 use Rattle.ob_targets.specs.SyntaxPosition.{syntax_position}
-use Rattle.ob_targets.specs.Targets.{end_target, is_written, second_target, use_role, used_target}
+use Rattle.ob_targets.specs.Targets.{end_target, is_written, qualident_member_target, use_role, use_target}
 use Rattle.ob_targets.specs.Steps.{IsTypeBefore, Selects}
 use Rattle.ob_targets.specs.Refers.{identifiers, is_identifier, identifier_number, AreReferences, Refers, own_name, item, declaration, end, used, selected, second, nowhere}
 use Rattle.ob_resolve.specs.declared.precomputed.Precomputed.{Precomputed}
@@ -60,12 +60,12 @@ module _ (w : World) where
       IsReference w k (record { number = k; target = t; role = 0 })
   end_refers k at e t is there made = rw made (record { number = refl; refers = end is there })
 
-  pub use_refers : (k at : ℕ) (t : Target) (b : Bool) (r : ℕ) → b ≡ is_written w.rows k → t ≡ used_target w k → r ≡ use_role w t b → syntax_position w.rows k ≡ syntax_positions.Use at →
+  pub use_refers : (k at : ℕ) (t : Target) (b : Bool) (r : ℕ) → b ≡ is_written w.rows k → t ≡ use_target w k → r ≡ use_role w t b → syntax_position w.rows k ≡ syntax_positions.Use at →
       IsReference w k (record { number = k; target = t; role = r })
   use_refers k at t b r written made role is = rw (role, made, written) (record { number = refl; refers = used is })
 
-  pub second_refers : (k at : ℕ) (u : Used) (t : Target) (r : ℕ) → syntax_position w.rows k ≡ syntax_positions.Second at → slice_get w.rows.uses at ≡ Some u →
-      t ≡ second_target w k (used_target w u.number) → r ≡ use_role w t false → IsReference w k (record { number = k; target = t; role = r })
+  pub second_refers : (k at : ℕ) (u : Used) (t : Target) (r : ℕ) → syntax_position w.rows k ≡ syntax_positions.QualidentMember at → slice_get w.rows.uses at ≡ Some u →
+      t ≡ qualident_member_target w k (use_target w u.number) → r ≡ use_role w t false → IsReference w k (record { number = k; target = t; role = r })
   second_refers k at u t r is there made role = rw (role, made) (record { number = refl; refers = second is there })
 
   -- what the name of a selector denotes

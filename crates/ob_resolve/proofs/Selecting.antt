@@ -7,11 +7,11 @@ use Rattle.module_table.specs.declared.rows.Step.TheVariants as steps
 use Rattle.module_table.specs.declared.rows.TypeName.{TypeName}
 use Rattle.ob_types.specs.SameDeclaration.{same}
 use Rattle.ob_types.specs.Shapes.{shape}
-use Rattle.ob_types.specs.World.{World}
+use Rattle.ob_view.specs.World.{World}
 use Rattle.type_graph.specs.Searches.{HasTarget}
 use Rattle.ob_targets.specs.declared.designator_type.DesignatorType.{DesignatorType}
-use Rattle.ob_targets.specs.declared.target.Target.{Target}
-use Rattle.ob_targets.specs.Targets.{target_type, used_target}
+use Rattle.ob_view.specs.declared.target.Target.{Target}
+use Rattle.ob_targets.specs.Targets.{target_type, use_target}
 use Rattle.ob_targets.specs.Steps.{begins_designator, guard_type, Follows, IsTypeBefore, Levels, Selects, at_head, behind, to_field, to_elements, to_target, by_guard}
 use Rattle.ob_resolve.specs.declared.selectors.SelectorResult.{SelectorResult}
 use Rattle.ob_resolve.specs.Selected.{AreNamedTargets, IsTypeAfter, IsSelectorResult}
@@ -25,18 +25,19 @@ get_push (z ∷ xs) x y (suc i) e = elim (get_push xs x y i e) [ inl h ↦ inl h
 
 module _ (w : World) where
   -- the designator type before the first selector of a designator
-  pub known_at_head : (selectors : List Selector) (position : ℕ) (s : Selector) (b : Bool) (t : Target) (o : DesignatorType) → selectors ≡ w.rows.selectors → slice_get selectors position ≡ Some s →
-      b ≡ begins_designator selectors position s → b ≡ true → t ≡ used_target w s.of → o ≡ target_type w t → IsTypeBefore w position o
-  known_at_head selectors position s b t o are there test is_first made known =
+  pub known_at_head : (selectors : List Selector) (position : ℕ) (s : Selector) (b : Bool) (t : Target) (o : DesignatorType) (v : World) → v ≡ w → selectors ≡ w.rows.selectors → slice_get selectors position ≡ Some s →
+      b ≡ begins_designator selectors position s → b ≡ true → t ≡ use_target v s.of → o ≡ target_type w t → IsTypeBefore w position o
+  known_at_head selectors position s b t o v same_world are there test is_first made_there known =
       let there' : slice_get w.rows.selectors position ≡ Some s = subst (λ (xs : List Selector). slice_get xs position ≡ Some s) are there in
       let first : begins_designator w.rows.selectors position s ≡ true = subst (λ (xs : List Selector). begins_designator xs position s ≡ true) are (sym test ∙ is_first) in
+      let made : t ≡ use_target w s.of = subst (λ (u : World). t ≡ use_target u s.of) same_world made_there in
       rw (known, made) (at_head there' first)
 
   knows_next : (position : ℕ) (s : Selector) (o : DesignatorType) → slice_get w.rows.selectors position ≡ Some s → begins_designator w.rows.selectors position s ≡ false → IsTypeAfter w position o → IsTypeBefore w position o
   knows_next zero s o there other b = absurd (let f : true ≡ false = other in cc)
   knows_next (suc i) s o there other b = behind b.there there other b.is_type_before b.leads
 
-  -- the designator type before another selector is the one after the selector before it
+  -- the designator type before a selector that isn't the first of its designator is the one after the previous selector
   pub known_behind : (selectors : List Selector) (position : ℕ) (s : Selector) (b : Bool) (o : DesignatorType) → selectors ≡ w.rows.selectors → slice_get selectors position ≡ Some s →
       b ≡ begins_designator selectors position s → b ≡ false → IsTypeAfter w position o → IsTypeBefore w position o
   known_behind selectors position s b o are there test is_other known =
@@ -44,7 +45,7 @@ module _ (w : World) where
       let other : begins_designator w.rows.selectors position s ≡ false = subst (λ (xs : List Selector). begins_designator xs position s ≡ false) are (sym test ∙ is_other) in
       knows_next position s o there' other known
 
-  -- one step
+  -- the result of following one selector, by the kind of the selector
   pub led_to_field : (o : DesignatorType) (k : ℕ) (t : Target) (known : DesignatorType) → Selects w o k t → known ≡ target_type w t → IsSelectorResult w o (steps.Field k) (record { target = t; known = known })
   led_to_field o k t known selects is = rw is (record { names = selects; leads = to_field selects })
 
@@ -57,7 +58,7 @@ module _ (w : World) where
   pub led_by_guard : (o : DesignatorType) (s : Step) (g : Option TypeName) (t : Target) (known : DesignatorType) → s ≡ steps.Arguments g → known ≡ guard_type w g → IsSelectorResult w o s (record { target = t; known = known })
   led_by_guard o s g t known is made = rw (is, made) (record { names = tt; leads = by_guard })
 
-  -- the pass
+  -- the invariant of the pass over the selectors: those before this index have been followed
   pub record Passed (position : ℕ) (ts : List Target) (o : DesignatorType) : Type 0 where
     pub named : AreNamedTargets w position ts
     pub known : IsTypeAfter w position o

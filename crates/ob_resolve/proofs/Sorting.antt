@@ -3,7 +3,7 @@ use Rattle.std.proofs.Common.{◌≡◌, ℕ, zero, suc, ◌<◌, List, length, 
 use Rattle.std.specs.Prelude.{slice_get, replicate}
 use Rattle.std.proofs.lemmas.Bool.{cases_eq}
 use Rattle.module_table.specs.declared.rows.DeclKind.{DeclKind}
-use Rattle.ob_types.specs.World.{World, decl_kind_of}
+use Rattle.ob_view.specs.World.{World, decl_kind_of}
 use Rattle.ob_resolve.specs.StoredKinds.{AreStoredKinds}
 use Rattle.ob_resolve.proofs.Marks.{slice_get-set_same, slice_get-set_other}
 

@@ -1,4 +1,6 @@
-//! The selectors of designators that are requested in the order of their heads.
+//! Finds the selectors of a designator by its head, which is the token number of its first identifier. Lookups in the order of the heads
+//! are fast. In the clauses, `s.of` is the head of the designator to which selector `s` belongs.
+//! `IsMonotoneBy (λ s. s.of) selectors`: the selectors are sorted by head.
 ghost use Rattle.std.specs.Prelude.{◌≡◌, ◌<◌, ◌≤◌, ℕ, true, Some, nat_eq, slice_get, IfSome};
 ghost use Rattle.std.specs.List.{filter};
 ghost use Rattle.module_table.specs.Tables.{rows_in};
@@ -8,7 +10,8 @@ ghost use Rattle.ob_targets.specs.Targets.{selectors_of};
 
 use module_table::{Selector, Table};
 
-/// The first index from `from` on whose selector belongs to this designator or a later one. It has no contract: callers check the index.
+/// The first index from `from` on whose selector belongs to the designator with this head or to a later one, or the number of selectors.
+/// The function promises nothing, so `group_if_exact` checks the index.
 fn group_start(selectors: &[Selector], from: usize, head: u32) -> usize {
     let mut at = from;
     'selectors: while at < selectors.len() && selectors[at].of < head {
@@ -17,7 +20,8 @@ fn group_start(selectors: &[Selector], from: usize, head: u32) -> usize {
     at
 }
 
-/// The first index from `from` on whose selector belongs to a later designator. It has no contract: callers check the index.
+/// The first index from `from` on whose selector belongs to a designator after the one with this head, or the number of selectors.
+/// The function promises nothing, so `group_if_exact` checks the index.
 fn group_end(selectors: &[Selector], from: usize, head: u32) -> usize {
     let mut at = from;
     'selectors: while at < selectors.len() && selectors[at].of <= head {
@@ -26,8 +30,9 @@ fn group_end(selectors: &[Selector], from: usize, head: u32) -> usize {
     at
 }
 
-/// Whether all selectors before an index belong to earlier designators. Selectors are sorted by head, so one comparison suffices.
-fn earlier_heads_before(selectors: &[Selector], at: usize, head: u32) -> bool
+/// Whether each selector before index `at` belongs to a designator before the one with this head. Selectors are sorted by head, so
+/// comparing the last of them suffices. False also if `at` is beyond the end of the list.
+fn has_only_earlier_heads_before(selectors: &[Selector], at: usize, head: u32) -> bool
     requires { IsMonotoneBy (λ (s : Row). s.of) selectors.now }
     ensures { result ≡ true → (i : ℕ) (s : Row) → i < at → slice_get selectors.now i ≡ Some s → s.of < head }
 {
@@ -40,8 +45,9 @@ fn earlier_heads_before(selectors: &[Selector], at: usize, head: u32) -> bool
     }
 }
 
-/// Whether no selector from an index on belongs to an earlier designator. Selectors are sorted by head, so one comparison suffices.
-fn no_earlier_head_from(selectors: &[Selector], at: usize, head: u32) -> bool
+/// Whether no selector from index `at` on belongs to a designator before the one with this head. Selectors are sorted by head, so comparing
+/// the first of them suffices.
+fn has_no_earlier_head_from(selectors: &[Selector], at: usize, head: u32) -> bool
     requires { IsMonotoneBy (λ (s : Row). s.of) selectors.now }
     ensures { result ≡ true → (i : ℕ) (s : Row) → at ≤ i → slice_get selectors.now i ≡ Some s → head ≤ s.of }
 {
@@ -51,8 +57,9 @@ fn no_earlier_head_from(selectors: &[Selector], at: usize, head: u32) -> bool
     }
 }
 
-/// Whether no selector before an index belongs to a later designator. Selectors are sorted by head, so one comparison suffices.
-fn no_later_head_before(selectors: &[Selector], end: usize, head: u32) -> bool
+/// Whether no selector before index `end` belongs to a designator after the one with this head. Selectors are sorted by head, so comparing
+/// the last of them suffices. False also if `end` is beyond the end of the list.
+fn has_no_later_head_before(selectors: &[Selector], end: usize, head: u32) -> bool
     requires { IsMonotoneBy (λ (s : Row). s.of) selectors.now }
     ensures { result ≡ true → (i : ℕ) (s : Row) → i < end → slice_get selectors.now i ≡ Some s → s.of ≤ head }
 {
@@ -65,8 +72,9 @@ fn no_later_head_before(selectors: &[Selector], end: usize, head: u32) -> bool
     }
 }
 
-/// Whether all selectors from an index on belong to later designators. Selectors are sorted by head, so one comparison suffices.
-fn later_heads_from(selectors: &[Selector], end: usize, head: u32) -> bool
+/// Whether each selector from index `end` on belongs to a designator after the one with this head. Selectors are sorted by head, so
+/// comparing the first of them suffices.
+fn has_only_later_heads_from(selectors: &[Selector], end: usize, head: u32) -> bool
     requires { IsMonotoneBy (λ (s : Row). s.of) selectors.now }
     ensures { result ≡ true → (i : ℕ) (s : Row) → end ≤ i → slice_get selectors.now i ≡ Some s → head < s.of }
 {
@@ -76,18 +84,19 @@ fn later_heads_from(selectors: &[Selector], end: usize, head: u32) -> bool
     }
 }
 
-/// The selectors from index `at` to index `end`, if these are all selectors of the designator with this head.
-fn exact_group(selectors: &[Selector], at: usize, end: usize, head: u32) -> Option<&[Selector]>
+/// The selectors from index `at` to before index `end`, if these are exactly the selectors of the designator with this head, and otherwise
+/// `None`.
+fn group_if_exact(selectors: &[Selector], at: usize, end: usize, head: u32) -> Option<&[Selector]>
     requires { IsMonotoneBy (λ (s : Row). s.of) selectors.now }
     ensures { IfSome result (λ g. g.now ≡ filter (λ (s : Row). nat_eq s.of head) selectors.now) }
 {
     if at > end || end > selectors.len() {
         return None;
     }
-    if earlier_heads_before(selectors, at, head)
-        && no_earlier_head_from(selectors, at, head)
-        && no_later_head_before(selectors, end, head)
-        && later_heads_from(selectors, end, head)
+    if has_only_earlier_heads_before(selectors, at, head)
+        && has_no_earlier_head_from(selectors, at, head)
+        && has_no_later_head_before(selectors, end, head)
+        && has_only_later_heads_from(selectors, end, head)
     {
         Some(&selectors[at..end])
     } else {
@@ -95,8 +104,8 @@ fn exact_group(selectors: &[Selector], at: usize, end: usize, head: u32) -> Opti
     }
 }
 
-/// The selectors of the designator with this head. The search begins after the selectors of the last request; a wrong guess costs a binary
-/// search.
+/// The selectors of the designator with this head. A linear search begins at the index in `hint`, and stores there the index where it ends.
+/// If it fails, a binary search follows.
 pub(crate) fn selectors_by_hint<'a>(table: &'a Table, hint: &mut usize, head: u32) -> &'a [Selector]
     ensures { result.now ≡ selectors_of (rows_in table.now) head }
 {
@@ -105,7 +114,7 @@ pub(crate) fn selectors_by_hint<'a>(table: &'a Table, hint: &mut usize, head: u3
     let at = group_start(selectors, *hint, head);
     let end = group_end(selectors, at, head);
     *hint = end;
-    match exact_group(selectors, at, end, head) {
+    match group_if_exact(selectors, at, end, head) {
         Some(group) => group,
         None => table.selectors_of(head),
     }

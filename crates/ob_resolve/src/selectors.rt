@@ -1,28 +1,34 @@
-//! The targets of the names after the dots of designators.
+//! Finds the targets of the names after the dots of designators. A designator type is what a prefix of a designator is known to denote: a
+//! module, a value of some type, or nothing. In the clauses:
+//! - `decl_kinds`: each kind in the list is that of the declaration at the token with this index. `used`: the targets are those of all
+//! uses.
+//! - `finder.new ≡ finder.old`: the call doesn't change the types on which the finder works.
 ghost use Rattle.std.specs.Prelude.{◌≡◌, ◌<◌, IfOk, Some, length};
 ghost use Rattle.module_table.specs.declared.rows.Step.TheVariants as steps;
 ghost use Rattle.ob_targets.specs.Steps.{begins_designator, IsTypeBefore};
 ghost use Rattle.ob_resolve.specs.Selected.{AreNamedTargets, IsTypeAfter, IsSelectorResult};
 ghost use Rattle.ob_resolve.specs.StoredKinds.{AreStoredKinds};
-ghost use Rattle.ob_resolve.specs.Used.{AreUsedTargets};
+ghost use Rattle.ob_resolve.specs.Used.{AreUseTargets};
 
-use crate::steps::{elements_type, pointed_type, selected};
+use crate::steps::{indexed_type, pointed_type, selected_target};
 use crate::targets::{guard_type, target_type};
 use crate::used::use_target_by_token;
 use module_table::{DeclKind, Selector, Step};
-use ob_targets::{DesignatorType, SyntaxPosition, Target};
+use ob_targets::{DesignatorType, SyntaxPosition};
 use ob_types::Types;
+use ob_view::Target;
 use std::alloc::{AllocError, Global};
 use type_graph::Finder;
 
-/// The result of following a selector: the target of its name, `Unresolved` if it has no name, and the designator type after it.
+/// The result of following a selector: `target` is the target of the selector's name, or `Unresolved` if it has no name; `known` is the
+/// designator type after the selector.
 #[derive(Clone, Copy, Drop)]
 pub(crate) struct SelectorResult {
     pub(crate) target: Target,
     pub(crate) known: DesignatorType,
 }
 
-/// Whether the selector at this index is the first of its designator.
+/// Whether `selector`, at index `position`, is the first selector of its designator: the selector before it belongs to another designator.
 fn begins_designator(selectors: &[Selector], position: usize, selector: Selector) -> bool
     ensures { result ≡ begins_designator selectors.now position selector }
 {
@@ -35,7 +41,8 @@ fn begins_designator(selectors: &[Selector], position: usize, selector: Selector
     }
 }
 
-/// Follows a dot and a name.
+/// Follows a selector `.name`: finds the target of the name at token `name`, and the designator type of this target. `before` is the
+/// designator type before the selector.
 fn select_by_name(
     finder: &mut Finder<'_, Types<'_>>,
     decl_kinds: &[Option<DeclKind>],
@@ -46,14 +53,15 @@ fn select_by_name(
     ensures types { finder.new ≡ finder.old }
     ensures step_result { IfOk result (IsSelectorResult finder.old before (steps.Field name)) }
 {
-    let target = selected(finder, before, name)?;
+    let target = selected_target(finder, before, name)?;
     Ok(SelectorResult {
         target,
         known: target_type(finder.graph(), decl_kinds, target),
     })
 }
 
-/// Follows a selector.
+/// Follows the selector `step` from the designator type `before`: finds the target of the selector's name, if it has one, and the
+/// designator type after the selector.
 fn follow_selector(
     finder: &mut Finder<'_, Types<'_>>,
     decl_kinds: &[Option<DeclKind>],
@@ -66,7 +74,7 @@ fn follow_selector(
 {
     let known = match step {
         Step::Field(name) => return select_by_name(finder, decl_kinds, before, name),
-        Step::Elements(count) => elements_type(finder, before, count)?,
+        Step::Elements(count) => indexed_type(finder, before, count)?,
         Step::Target => pointed_type(finder, before)?,
         Step::Arguments(guard) => guard_type(finder.graph(), guard),
     };
@@ -76,7 +84,8 @@ fn follow_selector(
     })
 }
 
-/// The designator type before the selector at this index. `behind` is the designator type after the selector before it.
+/// The designator type before the selector at index `position`. For the first selector of a designator it is the type of the designator's
+/// head. For any other selector it is `previous_type`, the designator type after the previous selector.
 fn type_before(
     types: &Types<'_>,
     decl_kinds: &[Option<DeclKind>],
@@ -84,13 +93,14 @@ fn type_before(
     used: &[Target],
     selectors: &[Selector],
     position: usize,
-    behind: DesignatorType,
+    previous_type: DesignatorType,
 ) -> DesignatorType
     requires decl_kinds { AreStoredKinds types.now decl_kinds.now }
-    requires used { AreUsedTargets types.now used.now }
+    requires used { AreUseTargets types.now used.now }
+    // The list has the selectors of the module table.
     requires same { selectors.now ≡ types.now.rows.selectors }
     requires within { position < length selectors.now }
-    requires behind { IsTypeAfter types.now position behind }
+    requires previous_type { IsTypeAfter types.now position previous_type }
     ensures { IsTypeBefore types.now position result }
 {
     let selector = selectors[position];
@@ -98,15 +108,16 @@ fn type_before(
         target_type(
             types,
             decl_kinds,
-            use_target_by_token(types, syntax_positions, used, selector.of),
+            use_target_by_token(types.view(), syntax_positions, used, selector.of),
         )
     } else {
-        behind
+        previous_type
     }
 }
 
-/// The targets of the names of all selectors, by the selectors' indices. Fails with `AllocError` if an allocation fails.
-pub(crate) fn selected_targets(
+/// Finds the targets of the names of all selectors. The result is indexed as the selectors are, and has `Unresolved` for a selector without
+/// a name. Fails with `AllocError` if an allocation fails.
+pub(crate) fn selector_targets(
     alloc: Global,
     types: &Types<'_>,
     decl_kinds: &[Option<DeclKind>],
@@ -114,13 +125,14 @@ pub(crate) fn selected_targets(
     used: &[Target],
 ) -> Result<Vec<Target>, AllocError>
     requires decl_kinds { AreStoredKinds types.now decl_kinds.now }
-    requires used { AreUsedTargets types.now used.now }
+    requires used { AreUseTargets types.now used.now }
     ensures { IfOk result (λ v. AreNamedTargets types.now (length types.now.rows.selectors) v.items) }
 {
-    let selectors = types.table().selectors();
-    let mut finder = Finder::new(alloc, types, types.bytes(), selectors.len());
+    let view = types.view();
+    let selectors = view.table().selectors();
+    let mut finder = Finder::new(alloc, types, view.bytes(), selectors.len());
     let mut targets = Vec::with_capacity(alloc, selectors.len())?;
-    let mut behind = DesignatorType::Nothing;
+    let mut previous_type = DesignatorType::Nothing;
     for position in 0..selectors.len() {
         let before = type_before(
             types,
@@ -129,7 +141,7 @@ pub(crate) fn selected_targets(
             used,
             selectors,
             position,
-            behind,
+            previous_type,
         );
         let step_result = follow_selector(
             &mut finder,
@@ -138,7 +150,7 @@ pub(crate) fn selected_targets(
             selectors[position].step,
         )?;
         targets.push(step_result.target)?;
-        behind = step_result.known;
+        previous_type = step_result.known;
     }
     Ok(targets)
 }

@@ -1,4 +1,6 @@
-//! The designator types after the selectors of a designator.
+//! Follows single selectors: from the designator type before a selector to that after it. A designator type is what a prefix of a
+//! designator is known to denote. In the clauses, `finder.new ≡ finder.old` says that the call doesn't change the types of the finder.
+//! `Follows R before result`: the result is the type to which relation `R` leads from `before`, or `Nothing` if it leads to none.
 ghost use Rattle.std.specs.Prelude.{◌≡◌, IfOk};
 ghost use Rattle.type_graph.specs.Searches.{HasElement, HasTarget};
 ghost use Rattle.ob_types.specs.SameDeclaration.{same};
@@ -7,12 +9,13 @@ ghost use Rattle.ob_targets.specs.declared.designator_type.DesignatorType.TheVar
 ghost use Rattle.ob_targets.specs.Steps.{Follows, Levels, Selects};
 
 use crate::targets::{exported_target, field_target};
-use ob_targets::{DesignatorType, Target};
+use ob_targets::DesignatorType;
 use ob_types::{Node, Types};
+use ob_view::Target;
 use std::alloc::AllocError;
 use type_graph::Finder;
 
-/// The target of a field's name at a type, `Unresolved` if the type has no field of this name.
+/// The target of the name at token `name` as the name of a field of the type `node`; `Unresolved` if the type has no field of this name.
 fn field_target_at(
     finder: &mut Finder<'_, Types<'_>>,
     node: Node,
@@ -21,15 +24,16 @@ fn field_target_at(
     ensures types { finder.new ≡ finder.old }
     ensures selects { IfOk result (Selects finder.old (knowns.Typed node) name) }
 {
-    let text = finder.graph().text(name);
+    let text = finder.graph().view().text(name);
     match finder.find_field(node, text)? {
         Some(field) => Ok(field_target(field)),
         None => Ok(Target::Unresolved),
     }
 }
 
-/// The target of the name after a dot, by the designator type before the dot.
-pub(crate) fn selected(
+/// The target of the name at token `name`, which follows a dot; `known` is the designator type before the dot. `Unresolved` if no module
+/// and no type is known there, or if it has no such name.
+pub(crate) fn selected_target(
     finder: &mut Finder<'_, Types<'_>>,
     known: DesignatorType,
     name: u32,
@@ -39,12 +43,13 @@ pub(crate) fn selected(
 {
     match known {
         DesignatorType::Nothing => Ok(Target::Unresolved),
-        DesignatorType::Module(item) => Ok(exported_target(finder.graph(), item, name)),
+        DesignatorType::Module(item) => Ok(exported_target(finder.graph().view(), item, name)),
         DesignatorType::Typed(node) => field_target_at(finder, node, name),
     }
 }
 
-/// The designator type of an array's element, by the designator type of the array.
+/// The designator type after one index expression, given the designator type `known` before it: the type of the array's elements, or
+/// `Nothing` if no array is known there.
 fn element_type(
     finder: &mut Finder<'_, Types<'_>>,
     known: DesignatorType,
@@ -62,8 +67,8 @@ fn element_type(
     }
 }
 
-/// The designator type after `count` index expressions, by the designator type before them.
-pub(crate) fn elements_type(
+/// The designator type after `count` index expressions, given the designator type `known` before them.
+pub(crate) fn indexed_type(
     finder: &mut Finder<'_, Types<'_>>,
     known: DesignatorType,
     count: u32,
@@ -78,7 +83,8 @@ pub(crate) fn elements_type(
     Ok(at)
 }
 
-/// The designator type of a pointer's target, by the designator type of the pointer.
+/// The designator type after the selector `^`, given the designator type `known` before it: the type to which the pointer points, or
+/// `Nothing` if no pointer is known there.
 pub(crate) fn pointed_type(
     finder: &mut Finder<'_, Types<'_>>,
     known: DesignatorType,

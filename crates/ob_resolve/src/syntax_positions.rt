@@ -1,4 +1,4 @@
-//! The syntactic positions of all identifiers, by token number.
+//! Computes the syntactic positions of all identifiers of a module, by token number, from the entries of the module table.
 ghost use Rattle.std.specs.Prelude.{◌≡◌, ◌<◌, ℕ, Bool, IfOk, Some, slice_get};
 ghost use Rattle.module_table.specs.Tables.{rows_in};
 ghost use Rattle.ob_targets.specs.SyntaxPosition.{is_token, is_alias, is_imported_name, is_declared, is_end_name, is_use, is_selected, is_second, name_of, syntax_position, syntax_position_or};
@@ -10,7 +10,8 @@ use module_table::{Declared, End, Import, Selector, Step, Table, Used};
 use ob_targets::SyntaxPosition;
 use std::alloc::{AllocError, Global};
 
-/// A kind of table entries, each of which has an identifier or none.
+/// A kind of entry of the module table, each of which contains one identifier of this kind or none. `has k row` is whether token `k` is the
+/// identifier of the entry, and `at` gives the syntactic position of the identifier of the entry with an index.
 trait IdentifierEntry {
     type Row: Copy + Drop;
 
@@ -18,11 +19,11 @@ trait IdentifierEntry {
 
     ghost at: { ℕ → SyntaxPositionModel };
 
-    /// The token number of the entry's identifier, if it has one.
+    /// The token number of the entry's identifier; `None` if the entry has none.
     fn number(row: Self::Row) -> Option<u32>
         ensures { (k : ℕ) → has k row ≡ is_token k result };
 
-    /// The identifier's syntactic position, by the index of the entry.
+    /// The syntactic position of the identifier of the entry with the index `position`.
     fn syntax_position(position: usize) -> SyntaxPosition
         ensures { result ≡ at position };
 }
@@ -142,18 +143,18 @@ impl IdentifierEntry for SecondNames {
 
     ghost has = { is_second };
 
-    ghost at = { syntax_positions.Second };
+    ghost at = { syntax_positions.QualidentMember };
 
     fn number(row: Used) -> Option<u32> {
         row.member
     }
 
     fn syntax_position(position: usize) -> SyntaxPosition {
-        SyntaxPosition::Second(position)
+        SyntaxPosition::QualidentMember(position)
     }
 }
 
-/// The token number of the name that a selector selects, if the selector is a dot and a name.
+/// The token number of the name after the dot of a selector; `None` for a selector of another kind.
 pub(crate) fn name_of(step: Step) -> Option<u32>
     ensures { result ≡ name_of step }
 {
@@ -165,8 +166,8 @@ pub(crate) fn name_of(step: Step) -> Option<u32>
     }
 }
 
-/// Records the syntactic positions of the identifiers of these entries. The loop runs backward, so of several entries with one identifier
-/// the first counts.
+/// Stores the syntactic position of the identifier of each entry in `rows`, by token number. The loop runs backward, so if several entries
+/// have the same identifier, the position from the first entry remains.
 fn set_positions<P: IdentifierEntry>(positions: &mut [SyntaxPosition], rows: &[P::Row])
     ensures { ArePositionsSet P.has P.at rows.now positions.old positions.new }
 {
@@ -181,8 +182,8 @@ fn set_positions<P: IdentifierEntry>(positions: &mut [SyntaxPosition], rows: &[P
     }
 }
 
-/// Records the syntactic positions of all identifiers. A later pass overwrites the positions of earlier ones, so the passes run in
-/// ascending priority.
+/// Stores the syntactic positions of all identifiers. There is a pass for each kind of entry; a later pass overwrites positions from an
+/// earlier one, so the kind with the highest priority is the last.
 fn set_all_positions(positions: &mut [SyntaxPosition], table: &Table)
     ensures { (k : ℕ) (s : SyntaxPositionModel) → slice_get positions.old k ≡ Some s → slice_get positions.new k ≡ Some (syntax_position_or (rows_in table.now) k s) }
 {
@@ -198,8 +199,8 @@ fn set_all_positions(positions: &mut [SyntaxPosition], table: &Table)
     }
 }
 
-/// The syntactic positions of the first `count` tokens, `Nowhere` for a token that no entry has. Fails with `AllocError` if an allocation
-/// fails.
+/// Computes the syntactic positions of the first `count` tokens, by token number; `Nowhere` for a token that no table entry has. Fails with
+/// `AllocError` if an allocation fails.
 pub(crate) fn syntax_positions(
     alloc: Global,
     table: &Table,

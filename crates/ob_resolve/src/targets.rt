@@ -1,36 +1,41 @@
-//! The targets of names, the designator types of targets, and the roles of uses.
+//! Determines the targets of names, the designator types of targets, and the roles of uses. Almost all functions equal the definition of
+//! the same name. `AreStoredKinds view decl_kinds`: each kind in the list is that of the declaration at the token with this index.
 ghost use Rattle.std.specs.Prelude.{◌≡◌};
-ghost use Rattle.ob_targets.specs.Targets.{declared_target, used_target, exported_target, second_target, end_target, field_target, target_type, type_if_value, holds_value, use_role, value_role};
+ghost use Rattle.ob_targets.specs.Targets.{declared_target, use_target, exported_target, qualident_member_target, end_target, field_target, target_type, type_if_value, holds_value, use_role, value_role};
 ghost use Rattle.ob_targets.specs.Steps.{guard_type};
-ghost use Rattle.ob_types.specs.World.{type_node_of, meaning};
+ghost use Rattle.ob_types.specs.Shapes.{type_node_of};
+ghost use Rattle.ob_view.specs.World.{meaning};
 ghost use Rattle.ob_resolve.specs.StoredKinds.{AreStoredKinds};
 
 use crate::decl_kinds::decl_kind_of;
 use module_table::{DeclKind, TypeName};
-use ob_targets::{DesignatorType, Target, is_predeclared};
+use ob_targets::{DesignatorType, is_predeclared};
 use ob_types::{Field, Node, Types};
+use ob_view::{Target, View};
 use type_graph::Shape;
 
-/// The target of the uses that mean a declaration: the module for an import item's alias, otherwise the declaration itself.
-fn declared_target(types: &Types<'_>, declared: u32) -> Target
-    ensures { result ≡ declared_target types.now declared }
+/// The target of a use that means the declaration at token `declared`. If the declaration is the alias of an import item, the target is the
+/// module that the item names, and otherwise the declaration itself.
+fn declared_target(view: &View<'_>, declared: u32) -> Target
+    ensures { result ≡ declared_target view.now declared }
 {
-    match types.item(declared) {
+    match view.item(declared) {
         None => Target::Declared(declared),
         Some(item) => Target::Module(item),
     }
 }
 
-/// The target of a use, given the declaration that it means; `None` if it means none. Always inlined: it is called for each use.
+/// The target of the use at token `used`. `meant` is the token of the declaration that the use means, or `None` if it means none.
+/// Always inlined, since it is called for each use.
 #[inline(always)]
-fn meaning_target(types: &Types<'_>, used: u32, meant: Option<u32>) -> Target
-    requires { meant ≡ meaning types.now used }
-    ensures { result ≡ used_target types.now used }
+fn meaning_target(view: &View<'_>, used: u32, meant: Option<u32>) -> Target
+    requires { meant ≡ meaning view.now used }
+    ensures { result ≡ use_target view.now used }
 {
     match meant {
-        Some(declared) => declared_target(types, declared),
+        Some(declared) => declared_target(view, declared),
         None => {
-            if is_predeclared(types.text(used)) {
+            if is_predeclared(view.text(used)) {
                 Target::Predeclared
             } else {
                 Target::Unresolved
@@ -39,27 +44,29 @@ fn meaning_target(types: &Types<'_>, used: u32, meant: Option<u32>) -> Target
     }
 }
 
-/// The target of a use.
-pub(crate) fn used_target(types: &Types<'_>, used: u32) -> Target
-    ensures { result ≡ used_target types.now used }
+/// The target of the use at token `used`, by the scopes of the module and the list of predeclared names.
+pub(crate) fn use_target(view: &View<'_>, used: u32) -> Target
+    ensures { result ≡ use_target view.now used }
 {
-    meaning_target(types, used, types.meaning(used))
+    meaning_target(view, used, view.meaning(used))
 }
 
-/// The target of a use, for uses that are requested in order: the search begins at the hint `hint`.
-pub(crate) fn use_target_by_hint(types: &Types<'_>, hint: &mut usize, used: u32) -> Target
-    ensures { result ≡ used_target types.now used }
+/// The target of the use at token `used`. Fast if it is called for the uses in their order: the search for the meaning begins at the index
+/// in `hint`, among the uses that mean a declaration. If it finds a meaning, it leaves there the index of the next such use.
+pub(crate) fn use_target_by_hint(view: &View<'_>, hint: &mut usize, used: u32) -> Target
+    ensures { result ≡ use_target view.now used }
 {
-    meaning_target(types, used, types.meaning_by_hint(hint, used))
+    meaning_target(view, used, view.meaning_by_hint(hint, used))
 }
 
-/// The target of a name after the alias of an import item and a dot.
-pub(crate) fn exported_target(types: &Types<'_>, item: u32, name: u32) -> Target
-    ensures { result ≡ exported_target types.now item name }
+/// The target of the name at token `name`, which follows the alias of the import item at index `item` and a dot: the declaration that the
+/// module exports, or the name itself if the module isn't in the tree. `Unresolved` if the module exports no such name.
+pub(crate) fn exported_target(view: &View<'_>, item: u32, name: u32) -> Target
+    ensures { result ≡ exported_target view.now item name }
 {
-    match types.module_number(item) {
+    match view.module_number(item) {
         None => Target::External { item, name },
-        Some(reached) => match types.exported(reached, types.text(name)) {
+        Some(reached) => match view.exported_index(reached, view.text(name)) {
             None => Target::Unresolved,
             Some(declaration) => Target::Imported {
                 reached,
@@ -69,12 +76,13 @@ pub(crate) fn exported_target(types: &Types<'_>, item: u32, name: u32) -> Target
     }
 }
 
-/// The target of the second identifier of a qualident, by the target of the first.
-pub(crate) fn second_target(types: &Types<'_>, name: u32, first: Target) -> Target
-    ensures { result ≡ second_target types.now name first }
+/// The target of the identifier at token `name`, the second one of a qualident, given the target `first` of the first one. `Unresolved` if
+/// the first one isn't a module.
+pub(crate) fn qualident_member_target(view: &View<'_>, name: u32, first: Target) -> Target
+    ensures { result ≡ qualident_member_target view.now name first }
 {
     match first {
-        Target::Module(item) => exported_target(types, item, name),
+        Target::Module(item) => exported_target(view, item, name),
         Target::Declared(_) => Target::Unresolved,
         Target::Imported { .. } => Target::Unresolved,
         Target::External { .. } => Target::Unresolved,
@@ -84,7 +92,8 @@ pub(crate) fn second_target(types: &Types<'_>, name: u32, first: Target) -> Targ
     }
 }
 
-/// The target of the name after END, by the token that its procedure declares, or `None` for the module's end.
+/// The target of the name after END. `of` is the token at which the procedure that ends there is declared, or `None` at the end of the
+/// module.
 pub(crate) fn end_target(of: Option<u32>) -> Target
     ensures { result ≡ end_target of }
 {
@@ -110,7 +119,7 @@ pub(crate) fn field_target(field: Field) -> Target
     }
 }
 
-/// Whether a declaration of this kind holds a value.
+/// Whether a declaration of this kind holds a value: a variable, a parameter or a field.
 fn holds_value(decl_kind: DeclKind) -> bool
     ensures { result ≡ holds_value decl_kind }
 {
@@ -120,7 +129,8 @@ fn holds_value(decl_kind: DeclKind) -> bool
     }
 }
 
-/// The designator type of a declaration of this kind and type.
+/// The designator type of a declaration with this kind and this type: the type, or `Nothing` if the declaration doesn't hold a value, or if
+/// its kind or type isn't known.
 fn type_if_value(decl_kind: Option<DeclKind>, node: Option<Node>) -> DesignatorType
     ensures { result ≡ type_if_value decl_kind node }
 {
@@ -139,7 +149,8 @@ fn type_if_value(decl_kind: Option<DeclKind>, node: Option<Node>) -> DesignatorT
     }
 }
 
-/// The designator type of a declaration of the module, by its kind. The type is looked up only if the declaration holds a value.
+/// The designator type of the declaration at token `declared`, whose kind is `decl_kind`. The type is looked up only if the declaration
+/// holds a value.
 fn declared_type(types: &Types<'_>, decl_kind: Option<DeclKind>, declared: u32) -> DesignatorType
     ensures { result ≡ type_if_value decl_kind (type_node_of types.now declared) }
 {
@@ -155,7 +166,8 @@ fn declared_type(types: &Types<'_>, decl_kind: Option<DeclKind>, declared: u32) 
     }
 }
 
-/// The designator type of a target. Inlined into the loop over all selectors.
+/// The designator type of a target: the module, or the type of a declaration that holds a value, and otherwise `Nothing`. Always inlined,
+/// since it is called in the loop over all selectors.
 #[inline(always)]
 pub(crate) fn target_type(
     types: &Types<'_>,
@@ -167,13 +179,17 @@ pub(crate) fn target_type(
 {
     match target {
         Target::Declared(declared) => {
-            declared_type(types, decl_kind_of(types, decl_kinds, declared), declared)
+            declared_type(
+                types,
+                decl_kind_of(types.view(), decl_kinds, declared),
+                declared,
+            )
         }
         Target::Imported {
             reached,
             declaration,
         } => type_if_value(
-            types.imported_kind(reached, declaration),
+            types.view().imported_kind(reached, declaration),
             Some(Node::Other {
                 reached,
                 declaration,
@@ -188,13 +204,14 @@ pub(crate) fn target_type(
     }
 }
 
-/// The designator type after parentheses: the type, if their only content is its name (a type guard).
+/// The designator type after a selector in parentheses. `guard` is the name between the parentheses, if there is nothing else. If this is
+/// the name of a type, the selector is a type guard and the result is the type, and otherwise `Nothing`.
 pub(crate) fn guard_type(types: &Types<'_>, guard: Option<TypeName>) -> DesignatorType
     ensures { result ≡ guard_type types.now guard }
 {
     match guard {
         None => DesignatorType::Nothing,
-        Some(name) => match types.named(name.head, name.member) {
+        Some(name) => match types.resolve_type_name(name.head, name.member) {
             Shape::Named(_, _) => DesignatorType::Typed(Node::Name {
                 head: name.head,
                 member: name.member,
@@ -208,7 +225,8 @@ pub(crate) fn guard_type(types: &Types<'_>, guard: Option<TypeName>) -> Designat
     }
 }
 
-/// The role of a use of a declaration of this kind.
+/// The role of a use of a declaration of this kind (scip.proto, `SymbolRole`). A use of a variable, parameter or field has role 4 if it is
+/// written and 8 if it is read; a use of any other declaration has role 0.
 fn value_role(decl_kind: Option<DeclKind>, written: bool) -> u8
     ensures { result ≡ value_role decl_kind written }
 {
@@ -224,25 +242,23 @@ fn value_role(decl_kind: Option<DeclKind>, written: bool) -> u8
     }
 }
 
-/// The role of a use, by its target and by whether it is written.
+/// The role of a use with this target (scip.proto, `SymbolRole`). If the target is a variable, parameter or field, the role is 4 for a
+/// write and 8 for a read, and otherwise 0.
 pub(crate) fn use_role(
-    types: &Types<'_>,
+    view: &View<'_>,
     decl_kinds: &[Option<DeclKind>],
     target: Target,
     written: bool,
 ) -> u8
-    requires { AreStoredKinds types.now decl_kinds.now }
-    ensures { result ≡ use_role types.now target written }
+    requires { AreStoredKinds view.now decl_kinds.now }
+    ensures { result ≡ use_role view.now target written }
 {
     match target {
-        Target::Declared(declared) => value_role(
-            decl_kind_of(types, decl_kinds, declared),
-            written,
-        ),
+        Target::Declared(declared) => value_role(decl_kind_of(view, decl_kinds, declared), written),
         Target::Imported {
             reached,
             declaration,
-        } => value_role(types.imported_kind(reached, declaration), written),
+        } => value_role(view.imported_kind(reached, declaration), written),
         Target::Module(_) => 0,
         Target::External { .. } => 0,
         Target::Own => 0,

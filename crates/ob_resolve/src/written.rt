@@ -1,4 +1,5 @@
-//! The names that are written: by assignments, and by FOR statements.
+//! Finds the names that are written, by an assignment or as the variable of a FOR statement.
+//! `is_written rows k` in the clauses is whether the token with the number `k` is such a name.
 ghost use Rattle.std.specs.Prelude.{◌≡◌, ◌<◌, ℕ, IfOk, Some, false, length, replicate, slice_get};
 ghost use Rattle.module_table.specs.Tables.{rows_in};
 ghost use Rattle.ob_resolve.specs.Positions.{with_flag};
@@ -10,7 +11,7 @@ use crate::syntax_positions::name_of;
 use module_table::{Designator, Selector, Table};
 use std::alloc::{AllocError, Global};
 
-/// The last name of the designator with this head and these selectors.
+/// The token number of the last name of the designator with this head and these selectors: the last name after a dot, or else the head.
 fn last_name(head: u32, selectors: &[Selector]) -> u32
     ensures { result ≡ last_name head selectors.now }
 {
@@ -23,7 +24,8 @@ fn last_name(head: u32, selectors: &[Selector]) -> u32
     last
 }
 
-/// The name that is written, if the designator is written: its last name. Designators are passed in the order of their heads.
+/// The token number of the designator's last name, if the designator is written by an assignment or is the variable of a FOR. `None` for
+/// any other designator. Fast if it is called for designators in the order of their heads; `hint` is where the search for selectors begins.
 fn written_name(table: &Table, hint: &mut usize, designator: Designator) -> Option<u32>
     ensures { (k : ℕ) → writes (rows_in table.now) k designator ≡ is_token k result }
 {
@@ -37,7 +39,7 @@ fn written_name(table: &Table, hint: &mut usize, designator: Designator) -> Opti
     }
 }
 
-/// Sets the flag of token `name`, if there is a token and the list has an element for it.
+/// Sets the element with the index `name` to true. Does nothing if `name` is `None` or beyond the end of the list.
 fn set_flag(written: &mut [bool], name: Option<u32>)
     ensures { written.new ≡ with_flag name written.old }
 {
@@ -48,8 +50,9 @@ fn set_flag(written: &mut [bool], name: Option<u32>)
     }
 }
 
-/// Sets the flags of all names that are written.
+/// Sets to true each element whose index is the token number of a name that is written.
 fn set_written_flags(written: &mut [bool], table: &Table)
+    // All elements are false.
     requires { written.old ≡ replicate (length written.old) false }
     ensures { (k : ℕ) → k < length written.old → slice_get written.new k ≡ Some (is_written (rows_in table.now) k) }
 {
@@ -61,7 +64,8 @@ fn set_written_flags(written: &mut [bool], table: &Table)
     }
 }
 
-/// Whether each of the first `count` tokens is a name that is written, by token number. Fails with `AllocError` if an allocation fails.
+/// For each of the first `count` tokens, by token number, whether it is a name that is written. Fails with `AllocError` if an allocation
+/// fails.
 pub(crate) fn written_names(
     alloc: Global,
     table: &Table,

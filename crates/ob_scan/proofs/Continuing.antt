@@ -13,7 +13,7 @@ use Rattle.ob_scan.specs.declared.kind.Kind.{Kind}
 use Rattle.ob_scan.specs.declared.kind.Kind.TheVariants as kinds
 use Rattle.ob_scan.specs.declared.token.Token.{Token}
 use Rattle.ob_scan.specs.Comments.{begins_comment, Closes, closed, nested, other}
-use Rattle.ob_scan.specs.Numbers.{first_passes, begins_digit, is_hex_digit, digits, hex_digits, begins_byte, sign_len, scale_of, with_scale, fraction_of, decimal_of, number_token}
+use Rattle.ob_scan.specs.Numbers.{first_passes, begins_digit, is_hex_digit, digit_count, hex_digit_count, begins_with_byte, sign_len, scale_of, with_scale, fraction_of, decimal_of, number_token}
 use Rattle.ob_scan.specs.Lexemes.{after_comment, string_len, delimiter_of}
 use Rattle.ob_scan.specs.Spelling.{begins_blank, begins_quote, IsGap, blank, comment, Scanned, start, gap, token, IsBadByte, IsBadNumber, IsOpenString, IsOpenComment, IsOutcome}
 use Rattle.ob_scan.specs.Tokens.{IsToken, number, longest}
@@ -28,24 +28,24 @@ use Rattle.ob_scan.proofs.Strings.{string_token, string_open}
 abbrev IsWithin : List ℕ → Option (Kind × ℕ) → Type 0
 IsWithin bs o = IfSome o (λ x. x.1 ≤ length bs)
 
-next_some : (c : ℕ) (bs : List ℕ) → begins_byte c bs ≡ true → 0 < length bs
+next_some : (c : ℕ) (bs : List ℕ) → begins_with_byte c bs ≡ true → 0 < length bs
 next_some c [] e = absurd cc
 next_some c (b ∷ bs) e = omega arith
 
 run_within : (p : ℕ → Bool) (at : ℕ) (bs : List ℕ) → prefix_len p (drop at bs) ≤ length bs - at
 run_within p at bs = omega (arith, prefix_len-le-length p (drop at bs), length-drop at bs)
 
-digits_within : (at : ℕ) (bs : List ℕ) → digits (drop at bs) ≤ length bs - at
+digits_within : (at : ℕ) (bs : List ℕ) → digit_count (drop at bs) ≤ length bs - at
 digits_within at bs = omega (arith, run_within is_ascii_digit at bs, length-prefix_len is_ascii_digit (drop at bs))
 
-hex_within : (bs : List ℕ) → hex_digits bs ≤ length bs
+hex_within : (bs : List ℕ) → hex_digit_count bs ≤ length bs
 hex_within bs = omega (arith, prefix_len-le-length is_hex_digit bs, length-prefix_len is_hex_digit bs)
 
 scale_within : (n : ℕ) (bs : List ℕ) → n ≤ length bs → IsWithin bs (with_scale n (scale_of (drop n bs)))
 scale_within n bs h =
     let t = drop n bs in
     let s = 1 + sign_len (drop 1 t) in
-    go s (digits (drop s t)) (digits_within s t)
+    go s (digit_count (drop s t)) (digits_within s t)
   where
     go : (s d : ℕ) → d ≤ length (drop n bs) - s → IsWithin bs (with_scale n (cond (eqb d 0) None (Some (s + d))))
     go s d le =
@@ -55,24 +55,24 @@ scale_within n bs h =
         omega arith)
 
 fraction_within : (n : ℕ) (bs : List ℕ) → n ≤ length bs → IsWithin bs (fraction_of n bs)
-fraction_within n bs h = cond_both (begins_byte 69 (drop n bs)) _ _ (IsWithin bs) (λ e. scale_within n bs h) (λ e. h)
+fraction_within n bs h = cond_both (begins_with_byte 69 (drop n bs)) _ _ (IsWithin bs) (λ e. scale_within n bs h) (λ e. h)
 
 decimal_within : (n : ℕ) (bs : List ℕ) → n ≤ length bs → IsWithin bs (decimal_of n bs)
 decimal_within n bs h =
-    cond_both (begins_byte 46 (drop n bs)) _ _ (IsWithin bs)
+    cond_both (begins_with_byte 46 (drop n bs)) _ _ (IsWithin bs)
     (λ e. let some = next_some 46 (drop n bs) e in
     let long = length-drop n bs in
     let more = digits_within (n + 1) bs in
-    cond_both (begins_byte 46 (drop (n + 1) bs)) _ _ (IsWithin bs) (λ f. h) (λ f. fraction_within (n + 1 + digits (drop (n + 1) bs)) bs (omega arith))) (λ e. h)
+    cond_both (begins_with_byte 46 (drop (n + 1) bs)) _ _ (IsWithin bs) (λ f. h) (λ f. fraction_within (n + 1 + digit_count (drop (n + 1) bs)) bs (omega arith))) (λ e. h)
 
 number_within : (bs : List ℕ) → IsWithin bs (number_token bs)
 number_within bs =
-    let n = hex_digits bs in
+    let n = hex_digit_count bs in
     let h : n ≤ length bs = hex_within bs in
     let long = length-drop n bs in
-    cond_both (begins_byte 72 (drop n bs)) _ _ (IsWithin bs) (λ e. let some = next_some 72 (drop n bs) e in omega arith)
-    (λ e. cond_both (begins_byte 88 (drop n bs)) _ _ (IsWithin bs) (λ f. let some = next_some 88 (drop n bs) f in omega arith)
-    (λ f. cond_both (eqb (digits bs) n) _ _ (IsWithin bs) (λ g. decimal_within n bs h) (λ g. tt)))
+    cond_both (begins_with_byte 72 (drop n bs)) _ _ (IsWithin bs) (λ e. let some = next_some 72 (drop n bs) e in omega arith)
+    (λ e. cond_both (begins_with_byte 88 (drop n bs)) _ _ (IsWithin bs) (λ f. let some = next_some 88 (drop n bs) f in omega arith)
+    (λ f. cond_both (eqb (digit_count bs) n) _ _ (IsWithin bs) (λ g. decimal_within n bs h) (λ g. tt)))
 
 token_within : {k : Kind} {n : ℕ} {bs : List ℕ} → IsToken k n bs → n ≤ length bs
 token_within {k} {n} {bs} (number d e) = subst (IsWithin bs) e (number_within bs)
@@ -197,8 +197,8 @@ module _ (bytes : List ℕ) (short : length bytes ≤ 16777216) where
             record { outcome = Ok ts; is = (short, subst (Scanned bytes ts) same s) }
       ]
 
-pub some_outcome : (bytes : List ℕ) → (o : Result (List Token) ScanFault) × IsOutcome bytes o
-some_outcome bytes =
+pub outcome_exists : (bytes : List ℕ) → (o : Result (List Token) ScanFault) × IsOutcome bytes o
+outcome_exists bytes =
     elim (cases_lt 16777216 (length bytes)) [
       | inl long ↦ (Err faults.TooLong, long)
       | inr short ↦ let h = go_on bytes short (suc (length bytes)) [] 0 start (omega arith) (omega arith) in (h.outcome, h.is)

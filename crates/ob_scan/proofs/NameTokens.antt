@@ -8,7 +8,7 @@ use Rattle.ob_scan.specs.declared.kind.Kind.{Kind}
 use Rattle.ob_scan.specs.declared.kind.Kind.TheVariants as kinds
 use Rattle.ob_scan.specs.declared.token.Token.{Token}
 use Rattle.ob_scan.specs.Kinds.{text_of}
-use Rattle.ob_scan.specs.Numbers.{digits, hex_digits, begins_byte, number_token, decimal_of, fraction_of, with_scale, scale_of}
+use Rattle.ob_scan.specs.Numbers.{digit_count, hex_digit_count, begins_with_byte, number_token, decimal_of, fraction_of, with_scale, scale_of}
 use Rattle.ob_scan.specs.Spelling.{Scanned, start, gap, token, Spells}
 use Rattle.ob_scan.specs.Texts.{bytes_of}
 use Rattle.ob_scan.specs.Tokens.{IsText, fixed, name, quoted, IsToken, number, longest, is_name}
@@ -26,16 +26,16 @@ scale_other n None = tt
 scale_other n (Some m) = λ e. absurd cc
 
 fraction_other : (n : ℕ) (bs : List ℕ) → IsOther (fraction_of n bs)
-fraction_other n bs = either (begins_byte 69 (drop n bs)) _ _ (scale_other n (scale_of (drop n bs))) (λ e. absurd cc)
+fraction_other n bs = either (begins_with_byte 69 (drop n bs)) _ _ (scale_other n (scale_of (drop n bs))) (λ e. absurd cc)
 
 decimal_other : (n : ℕ) (bs : List ℕ) → IsOther (decimal_of n bs)
 decimal_other n bs =
-    either (begins_byte 46 (drop n bs)) _ _ (either (begins_byte 46 (drop (n + 1) bs)) _ _ (λ e. absurd cc) (fraction_other (n + 1 + digits (drop (n + 1) bs)) bs)) (λ e. absurd cc)
+    either (begins_with_byte 46 (drop n bs)) _ _ (either (begins_with_byte 46 (drop (n + 1) bs)) _ _ (λ e. absurd cc) (fraction_other (n + 1 + digit_count (drop (n + 1) bs)) bs)) (λ e. absurd cc)
 
 number_other : (bs : List ℕ) → IsOther (number_token bs)
 number_other bs =
-    let n = hex_digits bs in
-    either (begins_byte 72 (drop n bs)) _ _ (λ e. absurd cc) (either (begins_byte 88 (drop n bs)) _ _ (λ e. absurd cc) (either (eqb (digits bs) n) _ _ (decimal_other n bs) tt))
+    let n = hex_digit_count bs in
+    either (begins_with_byte 72 (drop n bs)) _ _ (λ e. absurd cc) (either (begins_with_byte 88 (drop n bs)) _ _ (λ e. absurd cc) (either (eqb (digit_count bs) n) _ _ (decimal_other n bs) tt))
 
 ident_text : {k : Kind} {text : List ℕ} → IsText k text → k ≡ kinds.Ident → is_name text ≡ true
 ident_text {k} {text} (fixed e) is = let f : text_of kinds.Ident ≡ Some text = subst (λ (j : Kind). text_of j ≡ Some text) is e in absurd cc

@@ -6,7 +6,7 @@ use Rattle.std.proofs.lemmas.List.Elements.{All-nil, All-push, All-weaker}
 use Rattle.std.proofs.lemmas.List.Quantifiers.{all_pairs_push}
 use Rattle.ob_scan.specs.declared.kind.Kind.{Kind}
 use Rattle.ob_scan.specs.declared.token.Token.{Token}
-use Rattle.ob_scan.specs.Numbers.{begins_digit, digits, hex_digits, begins_byte, number_token, decimal_of, fraction_of, with_scale, scale_of}
+use Rattle.ob_scan.specs.Numbers.{begins_digit, digit_count, hex_digit_count, begins_with_byte, number_token, decimal_of, fraction_of, with_scale, scale_of}
 use Rattle.ob_scan.specs.Spelling.{Scanned, start, gap, token, Spells, AreInText}
 use Rattle.ob_scan.specs.Tokens.{IsToken, number, longest, is_name}
 use Rattle.ob_scan.proofs.Numbers.{hex_digits_some}
@@ -26,7 +26,7 @@ scale_least n None = tt
 scale_least n (Some m) = omega arith
 
 fraction_least : (n m : ℕ) (bs : List ℕ) → n ≤ m → IsLeast n (fraction_of m bs)
-fraction_least n m bs h = either n (begins_byte 69 (drop m bs)) _ _ (weaker (with_scale m (scale_of (drop m bs))) (scale_least m (scale_of (drop m bs)))) h
+fraction_least n m bs h = either n (begins_with_byte 69 (drop m bs)) _ _ (weaker (with_scale m (scale_of (drop m bs))) (scale_least m (scale_of (drop m bs)))) h
   where
     weaker : (o : Option (Kind × ℕ)) → IsLeast m o → IsLeast n o
     weaker None p = tt
@@ -34,16 +34,16 @@ fraction_least n m bs h = either n (begins_byte 69 (drop m bs)) _ _ (weaker (wit
 
 decimal_least : (n : ℕ) (bs : List ℕ) → IsLeast n (decimal_of n bs)
 decimal_least n bs =
-    either n (begins_byte 46 (drop n bs)) _ _ (either n (begins_byte 46 (drop (n + 1) bs)) _ _ (le_refl n) (fraction_least n (n + 1 + digits (drop (n + 1) bs)) bs (omega arith))) (le_refl n)
+    either n (begins_with_byte 46 (drop n bs)) _ _ (either n (begins_with_byte 46 (drop (n + 1) bs)) _ _ (le_refl n) (fraction_least n (n + 1 + digit_count (drop (n + 1) bs)) bs (omega arith))) (le_refl n)
 
-number_least : (bs : List ℕ) → IsLeast (hex_digits bs) (number_token bs)
+number_least : (bs : List ℕ) → IsLeast (hex_digit_count bs) (number_token bs)
 number_least bs =
-    let n = hex_digits bs in
-    either n (begins_byte 72 (drop n bs)) _ _ (omega arith) (either n (begins_byte 88 (drop n bs)) _ _ (omega arith) (either n (eqb (digits bs) n) _ _ (decimal_least n bs) tt))
+    let n = hex_digit_count bs in
+    either n (begins_with_byte 72 (drop n bs)) _ _ (omega arith) (either n (begins_with_byte 88 (drop n bs)) _ _ (omega arith) (either n (eqb (digit_count bs) n) _ _ (decimal_least n bs) tt))
 
 number_some : (bs : List ℕ) (k : Kind) (n : ℕ) → begins_digit bs ≡ true → number_token bs ≡ Some (k, n) → 0 < n
 number_some bs k n d e =
-    let least : hex_digits bs ≤ n = subst (IsLeast (hex_digits bs)) e (number_least bs) in
+    let least : hex_digit_count bs ≤ n = subst (IsLeast (hex_digit_count bs)) e (number_least bs) in
     omega (arith, hex_digits_some bs d)
 
 word_some : (text : List ℕ) → is_name text ≡ true → 0 < length text

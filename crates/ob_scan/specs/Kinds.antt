@@ -3,7 +3,7 @@ use Rattle.std.specs.Prelude.{ℕ, List, Option, Some, None, codes}
 use Rattle.ob_scan.specs.declared.kind.Kind.{Kind}
 use Rattle.ob_scan.specs.declared.kind.Kind.TheVariants as kinds
 
--- the text of a reserved word or a delimiter
+-- the text of a reserved word or a delimiter; None for identifiers and literals, whose texts differ
 abbrev pub text_of : Kind → Option (List ℕ)
 text_of kinds.Ident = None
 text_of kinds.Integer = None

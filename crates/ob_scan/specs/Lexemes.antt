@@ -31,7 +31,7 @@ by_bracket Opens x y z = x
 by_bracket Closes x y z = y
 by_bracket Neither x y z = z
 
--- the bytes after the comment of which n opening brackets are not closed yet, if it has an end
+-- the bytes after a comment, given the bytes in it from where n opening brackets are not closed yet; None if the comment has no end
 abbrev pub after_comment : ℕ → List ℕ → Option (List ℕ)
 after_comment zero bs = Some bs
 after_comment (suc n) [] = None
@@ -72,14 +72,14 @@ delimiter_of [] = None
 delimiter_of (b ∷ []) = one_byte_delimiter_token b
 delimiter_of (b ∷ c ∷ bs) = first_of (option_map (λ k. (k, 2)) (two_byte_delimiter b c)) (one_byte_delimiter_token b)
 
--- why the bytes begin with no blank, comment or token
+-- the bytes begin with no blank, closed comment or token, for this reason
 abbrev pub BeginsNothing : Reason → List ℕ → Type 0
 BeginsNothing reasons.Byte bs = IsBadByte bs
 BeginsNothing reasons.Number bs = IsBadNumber bs
 BeginsNothing reasons.String bs = IsOpenString bs
 BeginsNothing reasons.Comment bs = IsOpenComment bs
 
--- what the bytes begin with, and that its length is in bounds
+-- the bytes begin with this blank, comment or token, whose length is in bounds; or with none, for this reason
 abbrev pub IsLexeme : List ℕ → Lexeme → Type 0
 IsLexeme bs (lexemes.Gap n) = IsGap n bs × (0 < n) × (n ≤ length bs)
 IsLexeme bs (lexemes.Token k n) = IsToken k n bs × (0 < n) × (n ≤ length bs)

@@ -19,23 +19,23 @@ abbrev pub is_hex_digit : ℕ → Bool
 is_hex_digit b = is_ascii_digit b || is_in_range 65 70 b
 
 -- the bytes begin with this byte
-abbrev pub begins_byte : ℕ → List ℕ → Bool
-begins_byte c bs = first_passes (λ b. b == c) bs
+abbrev pub begins_with_byte : ℕ → List ℕ → Bool
+begins_with_byte c bs = first_passes (λ b. b == c) bs
 
 -- the number of digits, and of hexadecimal digits, that the bytes begin with
-abbrev pub digits : List ℕ → ℕ
-digits bs = length (take_while is_ascii_digit bs)
+abbrev pub digit_count : List ℕ → ℕ
+digit_count bs = length (take_while is_ascii_digit bs)
 
-abbrev pub hex_digits : List ℕ → ℕ
-hex_digits bs = length (take_while is_hex_digit bs)
+abbrev pub hex_digit_count : List ℕ → ℕ
+hex_digit_count bs = length (take_while is_hex_digit bs)
 
 -- the length of the sign that the bytes begin with, 0 if there is none
 abbrev pub sign_len : List ℕ → ℕ
-sign_len bs = if begins_byte 43 bs || begins_byte 45 bs then 1 else 0
+sign_len bs = if begins_with_byte 43 bs || begins_with_byte 45 bs then 1 else 0
 
 -- the length of the scale factor that the bytes begin with: an `E`, a sign or none, and one digit or more
 abbrev pub scale_of : List ℕ → Option ℕ
-scale_of bs = if digits (drop (1 + sign_len (drop 1 bs)) bs) == 0 then None else Some (1 + sign_len (drop 1 bs) + digits (drop (1 + sign_len (drop 1 bs)) bs))
+scale_of bs = if digit_count (drop (1 + sign_len (drop 1 bs)) bs) == 0 then None else Some (1 + sign_len (drop 1 bs) + digit_count (drop (1 + sign_len (drop 1 bs)) bs))
 
 -- a real number of n bytes before its scale factor
 abbrev pub with_scale : ℕ → Option ℕ → Option (Kind × ℕ)
@@ -44,20 +44,20 @@ with_scale n (Some m) = Some (Real, n + m)
 
 -- a real number whose digits and point are the first n bytes: if an `E` follows, it begins a complete scale factor
 abbrev pub fraction_of : ℕ → List ℕ → Option (Kind × ℕ)
-fraction_of n bs = if begins_byte 69 (drop n bs) then with_scale n (scale_of (drop n bs)) else Some (Real, n)
+fraction_of n bs = if begins_with_byte 69 (drop n bs) then with_scale n (scale_of (drop n bs)) else Some (Real, n)
 
 -- n digits and no letter: a real number if exactly one point follows, else an integer
 abbrev pub decimal_of : ℕ → List ℕ → Option (Kind × ℕ)
 decimal_of n bs =
-    if begins_byte 46 (drop n bs) then
-    (if begins_byte 46 (drop (n + 1) bs) then Some (Integer, n) else fraction_of (n + 1 + digits (drop (n + 1) bs)) bs)
+    if begins_with_byte 46 (drop n bs) then
+    (if begins_with_byte 46 (drop (n + 1) bs) then Some (Integer, n) else fraction_of (n + 1 + digit_count (drop (n + 1) bs)) bs)
     else Some (Integer, n)
 
 -- the kind and the length of the token that the bytes begin with. After the longest prefix of hexadecimal digits an `H` makes it an
 -- integer and an `X` a string; without either a prefix with a letter is no token
 abbrev pub number_token : List ℕ → Option (Kind × ℕ)
 number_token bs =
-    if begins_byte 72 (drop (hex_digits bs) bs) then Some (Integer, hex_digits bs + 1)
-    else if begins_byte 88 (drop (hex_digits bs) bs) then Some (Text, hex_digits bs + 1)
-    else if digits bs == hex_digits bs then decimal_of (hex_digits bs) bs
+    if begins_with_byte 72 (drop (hex_digit_count bs) bs) then Some (Integer, hex_digit_count bs + 1)
+    else if begins_with_byte 88 (drop (hex_digit_count bs) bs) then Some (Text, hex_digit_count bs + 1)
+    else if digit_count bs == hex_digit_count bs then decimal_of (hex_digit_count bs) bs
     else None

@@ -19,7 +19,7 @@ pub record IsPosition (bytes : List ℕ) (offset line column : ℕ) : Type 0 whe
 abbrev pub begins_line : List ℕ → ℕ → Bool
 begins_line bytes offset = (offset == 0) || ends_line bytes (offset - 1)
 
--- the offsets at which lines begin, of those that 32 bits hold
+-- the offsets below 2 ^ 32 at which lines begin
 abbrev pub line_starts : List ℕ → List ℕ
 line_starts bytes = filter (begins_line bytes) (range_with_len 0 (min (length bytes + 1) 4294967296))
 

@@ -40,7 +40,7 @@ pub record AreInText (bytes : List ℕ) (ts : List Token) : Type 0 where
   pub apart : AllPairs (λ t u. t.end ≤ u.start) ts
   pub few : length ts ≤ length bytes
 
--- why no blank, closed comment or token begins here: a byte that begins none
+-- the first byte begins no blank, comment, number, string or other token
 pub record IsBadByte (bs : List ℕ) : Type 0 where
   pub some : 0 < length bs
   pub no_blank : begins_blank bs ≡ false

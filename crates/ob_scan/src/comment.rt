@@ -25,6 +25,7 @@ fn read_bracket(rest: &[u8]) -> Option<CommentBracket>
 /// The length of the comment that the bytes begin with, or `None` if it is not closed. The first two bytes are its `(*`.
 pub(crate) fn comment_len(bytes: &[u8]) -> Option<usize>
     requires { 2 ≤ length bytes.now }
+    // The comment ends after this many bytes, or has no end.
     ensures { IsCommentLen bytes.now result }
 {
     let mut open: usize = 1;

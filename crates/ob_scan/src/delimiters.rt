@@ -51,9 +51,9 @@ fn one_byte_delimiter(byte: u8) -> Option<Kind>
     }
 }
 
-/// The delimiter of this byte and its length, if it is one.
+/// The delimiter that this byte is, with the length 1; `None` if the byte is no delimiter.
 #[inline(always)]
-fn single(byte: u8) -> Option<(Kind, usize)>
+fn one_byte_token(byte: u8) -> Option<(Kind, usize)>
     ensures { result ≡ one_byte_delimiter_token byte }
 {
     one_byte_delimiter(byte).map(|kind| (kind, 1))
@@ -67,9 +67,9 @@ pub(crate) fn delimiter(rest: &[u8]) -> Option<(Kind, usize)>
     match rest {
         [first, second, ..] => match two_byte_delimiter(*first, *second) {
             Some(kind) => Some((kind, 2)),
-            None => single(*first),
+            None => one_byte_token(*first),
         },
-        [first] => single(*first),
+        [first] => one_byte_token(*first),
         [] => None,
     }
 }

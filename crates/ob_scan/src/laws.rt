@@ -9,17 +9,17 @@ ghost use Rattle.ob_scan.specs.Texts.{bytes_of};
 ghost use Rattle.ob_scan.specs.Tokens.{is_name};
 
 /// A text spells at most one list of tokens.
-pub fn one_spelling()
+pub fn spelling_is_unique()
     ensures { (bytes : List ℕ) (ts us : List Token) → Spells bytes ts → Spells bytes us → ts ≡ us }
 {}
 
-/// Every text has an outcome: tokens, or an error at an offset, with a reason.
-pub fn some_outcome()
+/// Every text has an outcome: tokens, or an error.
+pub fn outcome_exists()
     ensures { (bytes : List ℕ) → (o : Result (List Token) ScanFault) × IsOutcome bytes o }
 {}
 
 /// A text has at most one outcome.
-pub fn one_outcome()
+pub fn outcome_is_unique()
     ensures { (bytes : List ℕ) (o p : Result (List Token) ScanFault) → IsOutcome bytes o → IsOutcome bytes p → o ≡ p }
 {}
 
@@ -29,7 +29,7 @@ pub fn tokens_in_text()
 {}
 
 /// An offset has at most one line and one column.
-pub fn one_position()
+pub fn position_is_unique()
     ensures { (bytes : List ℕ) (offset line column row place : ℕ) →
         IsPosition bytes offset line column → IsPosition bytes offset row place →
         (line ≡ row) × (column ≡ place) }

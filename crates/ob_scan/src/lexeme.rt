@@ -11,10 +11,10 @@ use crate::comment::comment_len;
 use crate::delimiters::delimiter;
 use crate::fault::Reason;
 use crate::name::{name_kind, string_len};
-use crate::number::number;
+use crate::number::number_token;
 use texts::prefixes::alnum_prefix_len;
 
-/// What the bytes begin with, and its length in bytes; or why they begin with nothing.
+/// The blank or comment (`Gap`) or the token at the start of a text, with its length in bytes; or the reason why there is none.
 #[derive(Clone, Copy)]
 pub(crate) enum Lexeme {
     Gap(usize),
@@ -69,9 +69,10 @@ fn begins_quote(rest: &[u8]) -> bool
     }
 }
 
-/// The comment that the bytes begin with.
+/// The comment that the bytes begin with, or the reason that it is not closed. The bytes begin with `(*`.
 fn comment_lexeme(rest: &[u8]) -> Lexeme
     requires { begins_comment rest.now ≡ true }
+    // The result is what the bytes begin with, and its length is in bounds.
     ensures { IsLexeme rest.now result }
 {
     match comment_len(rest) {
@@ -80,12 +81,13 @@ fn comment_lexeme(rest: &[u8]) -> Lexeme
     }
 }
 
-/// The token that begins with a digit.
+/// The number that the bytes begin with, or the string by the number of its character. If the digits form neither, the reason.
 fn number_lexeme(rest: &[u8]) -> Lexeme
     requires { begins_digit rest.now ≡ true }
+    // The result is what the bytes begin with, and its length is in bounds.
     ensures { IsLexeme rest.now result }
 {
-    match number(rest) {
+    match number_token(rest) {
         Some((kind, n)) => Lexeme::Token(kind, n),
         None => Lexeme::Nothing(Reason::Number),
     }
@@ -94,6 +96,7 @@ fn number_lexeme(rest: &[u8]) -> Lexeme
 /// The identifier or reserved word that the bytes begin with.
 fn name_lexeme(rest: &[u8]) -> Lexeme
     requires { first_passes is_ascii_alphabetic rest.now ≡ true }
+    // The result is what the bytes begin with, and its length is in bounds.
     ensures { IsLexeme rest.now result }
 {
     let n = alnum_prefix_len(rest);
@@ -104,6 +107,7 @@ fn name_lexeme(rest: &[u8]) -> Lexeme
 /// The string in quotes that the bytes begin with.
 fn string_lexeme(rest: &[u8]) -> Lexeme
     requires { begins_quote rest.now ≡ true }
+    // The result is what the bytes begin with, and its length is in bounds.
     ensures { IsLexeme rest.now result }
 {
     match string_len(rest) {
@@ -121,6 +125,7 @@ fn delimiter_lexeme(rest: &[u8]) -> Lexeme
     requires no_digit { begins_digit rest.now ≡ false }
     requires no_letter { first_passes is_ascii_alphabetic rest.now ≡ false }
     requires no_quote { begins_quote rest.now ≡ false }
+    // The result is what the bytes begin with, and its length is in bounds.
     ensures { IsLexeme rest.now result }
 {
     match delimiter(rest) {
@@ -129,9 +134,10 @@ fn delimiter_lexeme(rest: &[u8]) -> Lexeme
     }
 }
 
-/// What the bytes begin with. There is one byte or more.
+/// The blank, comment or token that the bytes begin with, or the reason why there is none. There is at least one byte.
 pub(crate) fn first_lexeme(rest: &[u8]) -> Lexeme
     requires { 0 < length rest.now }
+    // The result is what the bytes begin with, and its length is in bounds.
     ensures { IsLexeme rest.now result }
 {
     if begins_blank(rest) {

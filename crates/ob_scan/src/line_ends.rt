@@ -20,7 +20,7 @@ fn ends_line(bytes: &[u8], at: usize) -> bool
 }
 
 /// The line and the column of an offset, which may be the length of the text. A line ends with LF, CR LF, or a CR alone, and the bytes of
-/// its line end belong to it. Takes time linear in the offset; `Lines` answers many offsets.
+/// its line end belong to it. Takes time linear in the offset; for many offsets use `Lines`.
 pub fn position(bytes: &[u8], offset: u32) -> Position
     requires { offset ≤ length bytes.now }
     // The line is the number of line ends before the offset, the column its distance from the start of that line.
@@ -40,9 +40,9 @@ pub fn position(bytes: &[u8], offset: u32) -> Position
     }
 }
 
-/// An offset from `from` on, at most `end`, such that no line ends between `from` and it. Blocks of sixteen bytes without LF and CR are
-/// skipped at once; of the last bytes, fewer than sixteen, none is skipped.
-fn find_line_end(bytes: &[u8], from: usize, end: usize) -> usize
+/// Skips bytes that end no line, sixteen at once, and returns the offset after the skipped bytes. If fewer than sixteen bytes are left
+/// before `end`, it skips none of them.
+fn skip_within_line(bytes: &[u8], from: usize, end: usize) -> usize
     requires ordered { from ≤ end }
     requires within { end ≤ length bytes.now }
     ensures lower { from ≤ result }
@@ -63,17 +63,17 @@ fn find_line_end(bytes: &[u8], from: usize, end: usize) -> usize
 /// The table of the line starts of a text. For a text of more than 4 GiB it has the line starts in the first 4 GiB. Fails if an allocation
 /// fails.
 pub fn lines(alloc: Global, bytes: &[u8]) -> Result<Lines, AllocError>
-    // Exactly the offsets at which lines begin, of those that 32 bits hold.
+    // The table has exactly the offsets below 2^32 at which lines begin.
     ensures { IfOk result (λ l. l ≡ line_starts bytes.now) }
 {
     let end = bytes.len().min(u32::MAX as usize);
     let mut starts = vec![in alloc; 0]?;
-    let mut last = find_line_end(bytes, 0, end);
+    let mut last = skip_within_line(bytes, 0, end);
     'ends: while last < end {
         if ends_line(bytes, last) {
             starts.push(last as u32 + 1)?;
         }
-        last = find_line_end(bytes, last + 1, end);
+        last = skip_within_line(bytes, last + 1, end);
     }
-    Ok(Lines::of(starts))
+    Ok(Lines::from_starts(starts))
 }

@@ -25,7 +25,7 @@ impl Lines {
     ghost use Rattle.ob_scan.specs.Position.{IsLineTable, IsPosition, line_starts};
 
     /// The table with these line starts.
-    pub(crate) fn of(starts: Vec<u32>) -> Lines
+    pub(crate) fn from_starts(starts: Vec<u32>) -> Lines
         requires { IsLineTable starts.items }
         ensures { result ≡ starts.items }
     {
@@ -34,9 +34,9 @@ impl Lines {
 
     /// The offsets of the first bytes of the lines, sorted. The first one is 0.
     pub fn starts(&self) -> &[u32]
-        // The offsets of the table.
+        // The result has the offsets of the table.
         ensures offsets { result.now ≡ self.now }
-        // There is one at least, the first is 0, and they are sorted.
+        // There is at least one offset, the first is 0, and the offsets are sorted.
         ensures table { IsLineTable self.now }
     {
         self.starts.as_slice()

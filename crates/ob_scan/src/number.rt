@@ -1,12 +1,12 @@
 //! Tokens that begin with a digit (Oberon-07 report, section 3).
 ghost use Rattle.std.specs.Prelude.{◌≡◌, ◌≤◌, ◌<◌, length, true, IfSome};
-ghost use Rattle.ob_scan.specs.Numbers.{begins_digit, decimal_of, digits, fraction_of, hex_digits, begins_byte, number_token};
+ghost use Rattle.ob_scan.specs.Numbers.{begins_digit, decimal_of, digit_count, fraction_of, hex_digit_count, begins_with_byte, number_token};
 
 use crate::Kind;
 
 /// The number of hexadecimal digits that the bytes begin with.
-fn hex_digits(rest: &[u8]) -> usize
-    ensures value { result ≡ hex_digits rest.now }
+fn hex_digit_count(rest: &[u8]) -> usize
+    ensures value { result ≡ hex_digit_count rest.now }
     ensures within { result ≤ length rest.now }
 {
     rest.iter()
@@ -15,16 +15,16 @@ fn hex_digits(rest: &[u8]) -> usize
 }
 
 /// The number of digits that the bytes begin with.
-fn digits(rest: &[u8]) -> usize
-    ensures value { result ≡ digits rest.now }
+fn digit_count(rest: &[u8]) -> usize
+    ensures value { result ≡ digit_count rest.now }
     ensures within { result ≤ length rest.now }
 {
     rest.iter().take_while(|b| b.is_ascii_digit()).count()
 }
 
 /// Whether the bytes begin with this byte.
-fn begins_byte(rest: &[u8], byte: u8) -> bool
-    ensures value { result ≡ begins_byte byte rest.now }
+fn begins_with_byte(rest: &[u8], byte: u8) -> bool
+    ensures value { result ≡ begins_with_byte byte rest.now }
     ensures some { result ≡ true → 0 < length rest.now }
 {
     match rest {
@@ -47,9 +47,9 @@ fn real_token(bytes: &[u8], n: usize) -> Option<(Kind, usize)>
                 [b'+' | b'-', ..] => 1,
                 _ => 0,
             };
-            match digits(&rest[sign..]) {
+            match digit_count(&rest[sign..]) {
                 0 => None,
-                digits => Some((Kind::Real, n + 1 + sign + digits)),
+                digit_count => Some((Kind::Real, n + 1 + sign + digit_count)),
             }
         }
         _ => Some((Kind::Real, n)),
@@ -57,35 +57,35 @@ fn real_token(bytes: &[u8], n: usize) -> Option<(Kind, usize)>
 }
 
 /// The token of a number without a letter, whose first n bytes are digits: an integer, or a real number if exactly one point follows.
-fn decimal(bytes: &[u8], n: usize) -> Option<(Kind, usize)>
+fn decimal_token(bytes: &[u8], n: usize) -> Option<(Kind, usize)>
     requires { n ≤ length bytes.now }
     ensures value { result ≡ decimal_of n bytes.now }
     ensures least { IfSome result (λ x. n ≤ x.1) }
     ensures within { IfSome result (λ x. x.1 ≤ length bytes.now) }
 {
-    if !begins_byte(&bytes[n..], b'.') {
+    if !begins_with_byte(&bytes[n..], b'.') {
         return Some((Kind::Integer, n));
     }
-    if begins_byte(&bytes[n + 1..], b'.') {
+    if begins_with_byte(&bytes[n + 1..], b'.') {
         return Some((Kind::Integer, n));
     }
-    real_token(bytes, n + 1 + digits(&bytes[n + 1..]))
+    real_token(bytes, n + 1 + digit_count(&bytes[n + 1..]))
 }
 
 /// The kind and the length of the token that the bytes begin with, or `None` if the digits form no number. The first byte is a digit.
 #[tactic(auto, using(crate::proofs::Numbers::hex_digits_some))]
-pub(crate) fn number(bytes: &[u8]) -> Option<(Kind, usize)>
+pub(crate) fn number_token(bytes: &[u8]) -> Option<(Kind, usize)>
     requires { begins_digit bytes.now ≡ true }
     ensures value { result ≡ number_token bytes.now }
-    // It is not empty.
+    // The token is not empty.
     ensures some { IfSome result (λ x. 0 < x.1) }
     ensures within { IfSome result (λ x. x.1 ≤ length bytes.now) }
 {
-    let n = hex_digits(bytes);
+    let n = hex_digit_count(bytes);
     match &bytes[n..] {
         [b'H', ..] => Some((Kind::Integer, n + 1)),
         [b'X', ..] => Some((Kind::Text, n + 1)),
-        _ if digits(bytes) == n => decimal(bytes, n),
+        _ if digit_count(bytes) == n => decimal_token(bytes, n),
         _ => None,
     }
 }

@@ -15,8 +15,8 @@ const MAX_BYTES: usize = 16_777_216;
 /// The largest initial capacity of the list of tokens.
 const MAX_INITIAL_CAPACITY: usize = 4096;
 
-/// An empty list with capacity for the usual number of tokens of a text of this many bytes, one for four bytes, up to 4,096, so that it
-/// seldom grows. If the allocation fails the list has no capacity, and `push` allocates.
+/// An empty list of tokens with capacity for the usual number, one for four bytes, but for at most 4,096. If the allocation fails, the
+/// list has no capacity, and `push` allocates.
 fn token_buffer(alloc: Global, bytes: usize) -> Vec<Token>
     ensures { result.items ≡ [] }
 {
@@ -26,8 +26,8 @@ fn token_buffer(alloc: Global, bytes: usize) -> Vec<Token>
     }
 }
 
-/// The list, shrunk to its length if its capacity is at least twice that. Such a list comes from a text that is mostly blanks and
-/// comments; one that grew by `push` is seldom so empty. If the allocation of the smaller list fails, the larger one is returned.
+/// The list, shrunk to its length if its capacity is at least twice its length, as after a text of mostly blanks and comments. If the
+/// allocation of the smaller list fails, the larger list is returned.
 fn shrink_tokens(tokens: Vec<Token>) -> Tokens
     ensures { result ≡ tokens.items }
 {
@@ -35,7 +35,7 @@ fn shrink_tokens(tokens: Vec<Token>) -> Tokens
     if list.capacity() / 2 >= list.len() {
         list.shrink_to_fit();
     }
-    Tokens::of(list)
+    Tokens::from_items(list)
 }
 
 /// The tokens of a text whose length was checked.
@@ -47,7 +47,7 @@ fn scan_tokens(alloc: Global, bytes: &[u8]) -> Result<Tokens, ScanFault>
     let mut at = 0;
     'lexemes: while at < bytes.len() {
         let rest = &bytes[at..];
-        // A third of most texts are blanks: they are skipped here with one test, as `first_lexeme` would.
+        // A third of the bytes of most texts are blanks. This test skips them faster; `first_lexeme` would return a gap of length 1.
         if begins_blank(rest) {
             at += 1;
             continue;
@@ -71,7 +71,7 @@ fn scan_tokens(alloc: Global, bytes: &[u8]) -> Result<Tokens, ScanFault>
 /// The tokens of a module, or its first error: TooLong for more than 16,777,216 bytes, checked first; else the scan error with the
 /// smallest offset; Memory if an allocation failed.
 pub fn scan(alloc: Global, bytes: &[u8]) -> Result<Tokens, ScanFault>
-    // The tokens spell the bytes, or the error is one that the bytes have.
+    // Unless an allocation fails, the tokens spell the bytes, or the bytes have the returned error.
     ensures exact { HasOutcome result (IsOutcome bytes.now) }
     // An outcome that the bytes have is returned, unless an allocation fails.
     ensures only { (o : Result (List Token) ScanFault) → IsOutcome bytes.now o → HasOutcome result (λ p. p ≡ o) }

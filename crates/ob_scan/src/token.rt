@@ -7,7 +7,7 @@ use std::marker::Model;
 /// A token and its byte range: from the offset of its first byte to the offset after its last byte.
 #[derive(Clone, Copy, PartialEq, Eq, Debug)]
 pub struct Token {
-    /// Its kind.
+    /// The kind: identifier, a kind of literal, or a reserved word or delimiter.
     pub kind: Kind,
     /// The offset of its first byte.
     pub start: u32,
@@ -32,7 +32,7 @@ impl Model for Tokens {
 
 impl Tokens {
     /// The list of these tokens.
-    pub(crate) fn of(items: Vec<Token>) -> Tokens
+    pub(crate) fn from_items(items: Vec<Token>) -> Tokens
         ensures { result ≡ items.items }
     {
         Tokens { items }

@@ -17,10 +17,10 @@ pub struct TokenTexts<'a> {
 
 impl<'a> TokenTexts<'a> {
     /// The bytes of a token; empty if no token has this index.
-    pub fn of(&self, number: u32) -> &'a [u8]
+    pub fn token_text(&self, number: u32) -> &'a [u8]
         // The tokens are in bounds, in order and disjoint, as the tokens are that the bytes spell.
         requires { AreInText self.now.bytes.now self.now.tokens.now }
-        // Exactly its bytes.
+        // The result is exactly the bytes of the token.
         ensures { result.now ≡ text_at self.now.bytes.now self.now.tokens.now number }
     {
         match self.tokens.get(number as usize) {
@@ -56,6 +56,6 @@ impl<'a> TokenTexts<'a> {
         // The string has the token's bytes, if they are UTF-8. The bytes of an identifier are.
         ensures { IfOk result (λ s. IsUtf8 (text_at self.now.bytes.now self.now.tokens.now number) → string_bytes s ≡ text_at self.now.bytes.now self.now.tokens.now number) }
     {
-        String::from_utf8_lossy(alloc, self.of(number))
+        String::from_utf8_lossy(alloc, self.token_text(number))
     }
 }

@@ -6,7 +6,7 @@ ghost use Rattle.std.specs.Str.{bytes_eq};
 use crate::Kind;
 
 /// Whether the text is this word.
-fn is(text: &[u8], word: &[u8]) -> bool
+fn is_equal(text: &[u8], word: &[u8]) -> bool
     ensures { result ≡ bytes_eq text.now word.now }
 {
     text == word
@@ -62,25 +62,25 @@ fn four_letter_word(text: &[u8]) -> Option<Kind>
 fn five_letter_word(text: &[u8]) -> Option<Kind>
     ensures { result ≡ five_letter_word text.now }
 {
-    if is(text, b"ARRAY") {
+    if is_equal(text, b"ARRAY") {
         return Some(Kind::Array);
     }
-    if is(text, b"BEGIN") {
+    if is_equal(text, b"BEGIN") {
         return Some(Kind::Begin);
     }
-    if is(text, b"CONST") {
+    if is_equal(text, b"CONST") {
         return Some(Kind::Const);
     }
-    if is(text, b"ELSIF") {
+    if is_equal(text, b"ELSIF") {
         return Some(Kind::Elsif);
     }
-    if is(text, b"FALSE") {
+    if is_equal(text, b"FALSE") {
         return Some(Kind::False);
     }
-    if is(text, b"UNTIL") {
+    if is_equal(text, b"UNTIL") {
         return Some(Kind::Until);
     }
-    if is(text, b"WHILE") {
+    if is_equal(text, b"WHILE") {
         return Some(Kind::While);
     }
     None
@@ -90,25 +90,25 @@ fn five_letter_word(text: &[u8]) -> Option<Kind>
 fn longer_word(text: &[u8]) -> Option<Kind>
     ensures { result ≡ longer_word text.now }
 {
-    if is(text, b"IMPORT") {
+    if is_equal(text, b"IMPORT") {
         return Some(Kind::Import);
     }
-    if is(text, b"MODULE") {
+    if is_equal(text, b"MODULE") {
         return Some(Kind::Module);
     }
-    if is(text, b"POINTER") {
+    if is_equal(text, b"POINTER") {
         return Some(Kind::Pointer);
     }
-    if is(text, b"PROCEDURE") {
+    if is_equal(text, b"PROCEDURE") {
         return Some(Kind::Procedure);
     }
-    if is(text, b"RECORD") {
+    if is_equal(text, b"RECORD") {
         return Some(Kind::Record);
     }
-    if is(text, b"REPEAT") {
+    if is_equal(text, b"REPEAT") {
         return Some(Kind::Repeat);
     }
-    if is(text, b"RETURN") {
+    if is_equal(text, b"RETURN") {
         return Some(Kind::Return);
     }
     None

@@ -85,8 +85,8 @@ module _ (bytes : List ℕ) (ts : List Token) (rows : Rows) (s t : ModuleScopes)
       let uses : x.uses ≡ y.uses = counts-once (IsQualifiedBy (text_at bytes ts) rows.blocks (members_of rows) item.alias) rows.uses x.uses y.uses p.uses q.uses in
       λ i. record { alias = (p.alias ∙ sym q.alias) i; imported = (p.imported ∙ sym q.imported) i; uses = uses i }
 
-  pub one_scopes : s ≡ t
-  one_scopes =
+  pub scopes_are_unique : s ≡ t
+  scopes_are_unique =
       let meanings : s.meanings ≡ t.meanings = same_members (λ (m : Meaning). m.used) s.meanings t.meanings a.ordered b.ordered
       (λ m has. (b.meanings m.used m.declared).1 ((a.meanings m.used m.declared).0 has))
       (λ m has. (a.meanings m.used m.declared).1 ((b.meanings m.used m.declared).0 has)) in

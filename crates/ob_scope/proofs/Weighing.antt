@@ -123,8 +123,8 @@ pub weight_of_aliases : (bytes : List ℕ) (ts : List Token) (r : Rows) (s : Mod
     AreScopes bytes ts r s → HasWeight (text_at bytes ts) r imported (uses_of_import s.aliases imported)
 weight_of_aliases bytes ts r s imported a = weight_sum (text_at bytes ts) r s.aliases imported a.once (items_ascend (text_at bytes ts) r s.aliases a.aliases_ordered a.aliased) a.aliased
 
-pub weight_le : (bytes : List ℕ) (ts : List Token) (r : Rows) (s : ModuleScopes) → AreScopes bytes ts r s → uses_of_all s.aliases ≤ length r.uses
-weight_le bytes ts r s a = uses_within (text_at bytes ts) r s.aliases a.once a.aliases_ordered a.aliased
+pub weights_are_bounded : (bytes : List ℕ) (ts : List Token) (r : Rows) (s : ModuleScopes) → AreScopes bytes ts r s → uses_of_all s.aliases ≤ length r.uses
+weights_are_bounded bytes ts r s a = uses_within (text_at bytes ts) r s.aliases a.once a.aliases_ordered a.aliased
 
 -- the uses of a module's aliases are at most those of all aliases
 pub across_within : (rows : List AliasUses) (imported : List ℕ) → uses_of_import rows imported ≤ uses_of_all rows

@@ -1,4 +1,4 @@
--- The fault of a module with duplicates.
+-- The error of a module in which a scope declares a name twice.
 use Rattle.std.specs.Prelude.{◌≡◌, ℕ, List}
 use Rattle.std.specs.String.{string_bytes}
 use Rattle.ob_scan.specs.declared.token.Token.{Token}
@@ -11,14 +11,14 @@ use Rattle.scopes.specs.Scope.{IsFirstDuplicate}
 use Rattle.ob_scope.specs.declared.fault.ScopeFault.{ScopeFault}
 use Rattle.ob_scope.specs.declared.fault.ScopeFault.TheVariants as faults
 
--- the first duplicates, with their name and the offsets of their first bytes
+-- d and e are the first duplicates, `name` is their name, and `first` and `second` are the byte offsets of their identifiers
 pub record IsDuplicateAt (bytes : List ℕ) (ts : List Token) (rows : Rows) (d e : Member) (name : List ℕ) (first second : ℕ) : Type 0 where
   pub is_first : IsFirstDuplicate (text_at bytes ts) (members_of rows) d e
   pub named : name ≡ text_at bytes ts d.number
   pub first_at : first ≡ (token_at ts d.number).start
   pub second_at : second ≡ (token_at ts e.number).start
 
--- a fault names the first duplicates, which share a block (`Twice`) or a record (`TwiceField`)
+-- the error has the name and the offsets of the first duplicates, in one block (`Twice`) or one record (`TwiceField`); or it is `Memory`
 abbrev pub IsScopeFault : List ℕ → List Token → Rows → ScopeFault → Type 0
 IsScopeFault bytes ts rows (faults.Twice name first second) =
     (d e : Member) × (block : ℕ) × (e.place ≡ Block block) × IsDuplicateAt bytes ts rows d e (string_bytes name) first second

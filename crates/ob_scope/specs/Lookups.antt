@@ -1,4 +1,4 @@
--- What a use resolves to, by indexes into the list of members.
+-- The member that a use means, given by its index in the list of members.
 use Rattle.std.specs.Prelude.{◌≡◌, ℕ, ◌<◌, List, slice_get, Some, None, false}
 use Rattle.module_table.specs.declared.rows.Block.{Block as BlockRow}
 use Rattle.module_table.specs.declared.rows.Used.{Used}
@@ -9,30 +9,30 @@ use Rattle.scopes.specs.Scope.{ResolvesTo, Resolves}
 
 -- Below, `name` maps a token number to the text of that token.
 
--- an index and its member, which is declared in this block and is named like this token
+-- the pair is an index and its member; the member is declared in this block, and its name equals the text of the token `number`
 pub record IsNamedIn (name : ℕ → List ℕ) (members : List Member) (block number : ℕ) (r : ℕ × Member) : Type 0 where
   pub there : slice_get members r.0 ≡ Some r.1
   pub placed : r.1.place ≡ Block block
   pub named : name r.1.number ≡ name number
 
--- the index of a type with this name that is declared in this block after the token
+-- i is the index of a type that this block declares after the token `number`, by the token's text as its name
 pub record IsTypeAfter (name : ℕ → List ℕ) (members : List Member) (block number i : ℕ) : Type 0 where
   pub member : Member
   pub here : IsNamedIn name members block number (i, member)
   pub after : number < member.number
   pub a_type : member.decl_kind ≡ decl_kinds.Type
 
--- a plain use with this token number in this block
+-- a use of an unqualified name at this token in this block, which isn't a pointer's target
 abbrev pub use_in : ℕ → ℕ → Used
 use_in block number = record { number = number; block = block; is_target = false; member = None }
 
--- the index of the member that a use with this token number in this block resolves to
+-- i is the index of the member to which a use at the token `number` in this block resolves
 pub record IsResolved (name : ℕ → List ℕ) (blocks : List BlockRow) (members : List Member) (block number i : ℕ) : Type 0 where
   pub member : Member
   pub there : slice_get members i ≡ Some member
   pub resolves : Resolves name blocks members (use_in block number) member
 
--- the index of the member that a use means
+-- i is the index of the member that the use means
 pub record IsMeant (name : ℕ → List ℕ) (blocks : List BlockRow) (members : List Member) (u : Used) (i : ℕ) : Type 0 where
   pub member : Member
   pub there : slice_get members i ≡ Some member

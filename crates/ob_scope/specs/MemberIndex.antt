@@ -16,11 +16,11 @@ pub record ScopedName : Type 0 where
 abbrev pub scoped_name_of : (ℕ → List ℕ) → Member → ScopedName
 scoped_name_of name m = record { place = m.place; name = name m.number }
 
--- the scope and name that a key represents
+-- the scope and name in a key of the member index
 abbrev pub scoped_name_in : MemberKey → ScopedName
 scoped_name_in k = record { place = k.place; name = k.name.bytes.now }
 
--- the keys are the scopes and names of the members, one by one, and no two members are duplicates
+-- the keys are the scopes and names of the members, in the members' order, and no two members are duplicates
 pub record IsIndex (name : ℕ → List ℕ) (members : List Member) (keys : List MemberKey) : Type 0 where
   pub entries : map scoped_name_in keys ≡ map (scoped_name_of name) members
   pub once : HasNoDuplicates name members
@@ -33,7 +33,7 @@ pub record AreFirstDuplicates (name : ℕ → List ℕ) (members : List Member) 
   pub at_second : slice_get members s ≡ Some second
   pub twice : IsFirstDuplicate name members first second
 
--- `Twice` names the first duplicates; `Memory` claims nothing
+-- the error is `Twice` with the indexes of the first duplicates, or it is `Memory`
 abbrev pub IsIndexFault : (ℕ → List ℕ) → List Member → IndexFault → Type 0
 IsIndexFault name members (faults.Twice f s) = AreFirstDuplicates name members f s
 IsIndexFault name members faults.Memory = Unit {0}

@@ -11,11 +11,11 @@ use Rattle.module_table.specs.Blocks.{Encloses, IsDirectlyIn}
 
 -- ---- interned names
 
--- the number of a text: the index of its first occurrence among the names
+-- the number of a name: the index of its first occurrence in the list of interned names, or the list's length if it doesn't occur
 abbrev pub name_number : List Name → List ℕ → ℕ
 name_number names text = position_or_len (λ y. bytes_eq text y.bytes.now) names
 
--- for each member the number of its name
+-- `numbers` has for each member the number of its name, and each of these names is interned
 pub record AreInterned (name : ℕ → List ℕ) (members : List Member) (names : List Name) (numbers : List ℕ) : Type 0 where
   pub as_many : length numbers ≡ length members
   pub each : (k : ℕ) (m : Member) → slice_get members k ≡ Some m → slice_index numbers k ≡ name_number names (name m.number)
@@ -23,21 +23,22 @@ pub record AreInterned (name : ℕ → List ℕ) (members : List Member) (names 
 
 -- ---- blocks
 
--- an empty stack, or a block with all blocks around it, from the outermost to the innermost
+-- the stack is empty, or it has a block and all blocks that enclose it, from the outermost to the innermost
 pub record AreOpen (blocks : List BlockRow) (stack : List ℕ) : Type 0 where
   pub outermost : (b c : ℕ) → slice_get stack 0 ≡ Some b → IsDirectlyIn blocks b c → ⊥
   pub inside : (i b c : ℕ) → slice_get stack i ≡ Some b → slice_get stack (i + 1) ≡ Some c → IsDirectlyIn blocks c b
 
--- the stack of open blocks, each of which begins before the token `watermark`
+-- the stack is empty, or has a block and all blocks that enclose it; each block on it begins before the token `watermark`
 pub record IsOpen (blocks : List BlockRow) (stack : List ℕ) (watermark : ℕ) : Type 0 where
   pub chain : AreOpen blocks stack
   pub begun : (b : ℕ) → Contains stack b → b < watermark
 
--- the innermost open block
+-- the block is the innermost open one, the last on the stack
 abbrev pub IsInnermost : List ℕ → ℕ → Type 0
 IsInnermost stack block = slice_get stack (length stack - 1) ≡ Some block
 
--- entering a block: every open block was open before or is opened for the first time, and the block itself is opened last
+-- the effect of entering a block: it is the innermost open block; each open block was open before or is opened for the first time; if any
+-- block was opened, the last one was the block itself
 pub record Enters (blocks : List BlockRow) (block : ℕ) (old : List ℕ) (since : ℕ) (new : List ℕ) (watermark : ℕ) : Type 0 where
   pub scope_stack : IsOpen blocks new watermark
   pub innermost : IsInnermost new block
@@ -53,29 +54,30 @@ pub record IsIn (members : List Member) (k block : ℕ) : Type 0 where
   pub there : slice_get members k ≡ Some member
   pub placed : member.place ≡ Block block
 
--- the member with index k, which is before j, is declared in a block and has the name with number n
+-- k is below j, and the member with index k is declared in a block by the name with number n
 pub record IsNamedAt (members : List Member) (numbers : List ℕ) (j n k : ℕ) : Type 0 where
   pub below : k < j
   pub number : slice_index numbers k ≡ n
   pub block : ℕ
   pub inside : IsIn members k block
 
--- the member with index k is one that `IsNamedAt` describes, and its block is open
+-- k is below j, and the member with index k is declared in an open block by the name with number n
 pub record IsVisibleAt (members : List Member) (numbers stack : List ℕ) (j n k : ℕ) : Type 0 where
   pub named : IsNamedAt members numbers j n k
   pub is_open : Contains stack named.block
 
--- there is an index, and it is at least k
+-- the optional index is present and at least k
 abbrev pub IsLimit : Option ℕ → ℕ → Type 0
 IsLimit at k = (s : ℕ) × (at ≡ Some s) × (k ≤ s)
 
--- the head of the list of candidates for a name: every visible member with this name has at most that index
+-- `at` is a head of the list of candidates for the name with number n: a member with this name or None; no visible member with this name
+-- has a larger index
 pub record IsStart (members : List Member) (numbers stack : List ℕ) (j n : ℕ) (at : Option ℕ) : Type 0 where
   pub limit : (k : ℕ) → IsVisibleAt members numbers stack j n k → IsLimit at k
   pub some : (s : ℕ) → at ≡ Some s → IsNamedAt members numbers j n s
 
--- of the members before index j: their blocks have been opened; the block of a visible member encloses the blocks of all later members;
--- each name has a head of its candidates, and each member links to the candidates before it
+-- for the members before index j: their blocks have been opened; the block of a visible member encloses the blocks of all later members;
+-- `latest` has the head of each name's candidates, and `earlier` links each member to the next older candidate for its name
 pub record AreVisible (blocks : List BlockRow) (members : List Member) (numbers stack : List ℕ) (watermark j : ℕ) (latest earlier : List (Option ℕ)) : Type 0 where
   pub begun : (k b : ℕ) → k < j → IsIn members k b → b < watermark
   pub ordered : (k i b c : ℕ) → k < i → i < j → IsIn members k b → IsIn members i c → Contains stack b → Encloses blocks b c
@@ -83,7 +85,7 @@ pub record AreVisible (blocks : List BlockRow) (members : List Member) (numbers 
   pub behind : (k i b c : ℕ) → k < i → i < j → slice_index numbers k ≡ slice_index numbers i → IsIn members k b → IsIn members i c → Encloses blocks b c → IsLimit (slice_index_or earlier i None) k
   pub older : (i h : ℕ) → slice_index_or earlier i None ≡ Some h → IsNamedAt members numbers i (slice_index numbers i) h
 
--- the scope is an open block
+-- the scope is a block, and that block is open
 abbrev pub IsOpenScope : List ℕ → Scope → Type 0
 IsOpenScope stack (Block b) = Contains stack b
 IsOpenScope stack (Record r) = ⊥

@@ -1,4 +1,4 @@
--- What holds while members and uses are visited in token order.
+-- Invariants of a pass that visits members and uses in token order.
 use Rattle.std.specs.Prelude.{◌≡◌, ◌⊎◌, ℕ, ◌+◌, ◌<◌, ◌≤◌, List, slice_get, Some, Contains}
 use Rattle.module_table.specs.declared.rows.Block.{Block as BlockRow}
 use Rattle.module_table.specs.declared.rows.Used.{Used}
@@ -8,18 +8,18 @@ use Rattle.scopes.specs.declared.members.Scope.TheVariants.{Block}
 use Rattle.ob_scope.specs.declared.bindings.Bindings.{Bindings}
 use Rattle.ob_scope.specs.Visibility.{IsInnermost}
 
--- a name with this token number occurs in this block: as a member of the block or as a use in it
+-- the name at the token `number` occurs in this block: as a member that the block declares, or as a use
 pub data IsNameIn (members : List Member) (uses : List Used) (number block : ℕ) : Type 0 where
   member : (m : Member) → Contains members m → m.place ≡ Block block → m.number ≡ number → IsNameIn members uses number block
   use_row : (u : Used) → Contains uses u → u.block ≡ block → u.number ≡ number → IsNameIn members uses number block
 
--- the names of each block are contiguous: they come after the block's first two tokens, and every name between these tokens and a name
--- of the block is in the block
+-- the names of each block are contiguous: those in it come after its first two tokens; each name between these and a name in the
+-- block is in the block
 pub record AreContiguous (blocks : List BlockRow) (members : List Member) (uses : List Used) : Type 0 where
   pub behind : (n b c : ℕ) → IsNameIn members uses n c → Encloses blocks b c → b + 1 < n
   pub between : (n m b c d : ℕ) → IsNameIn members uses n c → IsNameIn members uses m d → b + 1 < n → n ≤ m → Encloses blocks b d → Encloses blocks b c
 
--- each block that encloses this one is open, or it begins after all blocks opened so far
+-- each block that encloses this block is open, or begins after all blocks that have been opened so far
 abbrev pub MayEnter : List BlockRow → List ℕ → ℕ → ℕ → Type 0
 MayEnter blocks stack watermark block = (b : ℕ) → Encloses blocks b block → Contains stack b ⊎ (watermark ≤ b)
 

@@ -1,6 +1,8 @@
-//! The bindings that are visible at a token, maintained while members and uses are visited in token order.
-//! Each name has a linked list of candidates, the latest member first. A look-up removes candidates whose blocks have ended, for good. So
+//! The bindings of names that are visible at a token, maintained while members and uses are visited in token order.
+//! Each name has a linked list of candidates, the latest member first. A look-up permanently removes candidates whose blocks have ended. So
 //! each member is removed at most once, and a use costs one look-up at any depth of nesting.
+//! Common clauses: `blocks` and `members` are sorted by token index (`IsIncreasingBy`). `numbers` has for each member the number of its
+//! name, which is below the number of names (`within`). `before`: all members declared so far come before the token.
 ghost use Rattle.std.specs.Prelude.{◌≡◌, ◌≤◌, ◌<◌, false, true, ℕ, Some, None, List, Option, length, slice_get, slice_set, slice_index, slice_index_or, IfOk, IfSome, IfNone, OnOk, ◌+◌};
 ghost use Rattle.module_table.specs.declared.rows.Block.{Block};
 ghost use Rattle.module_table.specs.Order.{IsIncreasingBy};
@@ -20,19 +22,19 @@ use ob_scan::TokenTexts;
 use scopes::{Member, Scope};
 use std::alloc::{AllocError, Global};
 
-/// The bindings in the open blocks.
+/// The open blocks, and for each name a linked list of candidates: the members with this name that may be visible in the open blocks.
 #[derive(Drop)]
 pub(crate) struct Bindings {
     pub(crate) open: ScopeStack,
     /// The number of members declared so far.
     pub(crate) next: usize,
-    /// For each name its latest candidate.
+    /// For each number of a name, the index of the name's latest candidate; `None` if it has no candidate.
     pub(crate) latest: Vec<Option<usize>>,
-    /// For each member the candidate before it, with an equal name.
+    /// For each member, the index of the next older candidate for its name; `None` if there is none.
     pub(crate) earlier: Vec<Option<usize>>,
 }
 
-/// A list of `count` empty links.
+/// A list with `count` times `None`.
 fn empty_links(alloc: Global, count: usize) -> Result<Vec<Option<usize>>, AllocError>
     ensures len { IfOk result (λ v. length v.items ≡ count) }
     ensures none { IfOk result (λ v. (i : ℕ) → slice_index_or v.items i None ≡ None) }
@@ -44,7 +46,7 @@ fn empty_links(alloc: Global, count: usize) -> Result<Vec<Option<usize>>, AllocE
     Ok(locations)
 }
 
-/// The bindings before the first token.
+/// The bindings before the first token, for this number of names and of members: no open block and no candidate.
 pub(crate) fn empty_bindings(
     alloc: Global,
     names: usize,
@@ -52,6 +54,7 @@ pub(crate) fn empty_bindings(
 ) -> Result<Bindings, AllocError>
     ensures next { IfOk result (λ s. s.next ≡ 0) }
     ensures watermark { IfOk result (λ s. s.open.watermark ≡ 0) }
+    // With `Ok` the bindings satisfy the invariant, for all blocks and members of this number.
     ensures bindings { IfOk result (λ s. (blocks : List Block) (ds : List Member) (numbers : List ℕ) → length ds ≡ members → AreBindings blocks ds numbers names s) }
 {
     let latest = empty_links(alloc, names)?;
@@ -68,7 +71,7 @@ pub(crate) fn empty_bindings(
     })
 }
 
-/// The latest candidate, from this one back, whose block is open.
+/// The latest candidate whose block is open, among `from` and the older candidates for its name; `None` if there is none.
 fn latest_visible(
     stack: &[u32],
     members: &[Member],
@@ -78,8 +81,10 @@ fn latest_visible(
     requires sorted { IsIncreasingBy (λ (b : ℕ). b) stack.now }
     requires as_many { length earlier.now ≡ length members.now }
     requires within { IfSome from (λ i. i < length members.now) }
+    // Links lead to smaller indexes, so the search ends.
     requires falls { (i h : ℕ) → slice_index_or earlier.now i None ≡ Some h → h < i }
     ensures open { IfSome result (λ i. (m : Member) × (slice_get members.now i ≡ Some m) × IsOpenScope stack.now m.place) }
+    // If the list that begins with `from` has all visible members with a name, the list that begins with the result has them too.
     ensures start { (blocks : List Block) (numbers : List ℕ) (watermark j n : ℕ) (latest : List (Option ℕ)) → AreVisible blocks members.now numbers stack.now watermark j latest earlier.now
         → IsStart members.now numbers stack.now j n from → IsStart members.now numbers stack.now j n result }
 {
@@ -93,7 +98,7 @@ fn latest_visible(
     None
 }
 
-/// Makes a member the latest candidate for its name.
+/// Makes the member with the index `at` the latest candidate for the name with this number.
 fn bind_name(bindings: &mut Bindings, number: usize, at: usize)
     requires number { number < length bindings.old.latest.items }
     requires member { at < length bindings.old.earlier.items }
@@ -106,7 +111,8 @@ fn bind_name(bindings: &mut Bindings, number: usize, at: usize)
     bindings.latest[number] = Some(at);
 }
 
-/// Declares the next member. A field is bound in no block.
+/// Declares the next member: opens its block, and makes it the latest candidate for its name. A field only advances `next`, since it isn't
+/// declared in a block.
 fn declare_member(
     bindings: &mut Bindings,
     blocks: &[Block],
@@ -114,14 +120,19 @@ fn declare_member(
     numbers: &[usize],
 ) -> Result<(), AllocError>
     requires blocks { IsIncreasingBy (λ (b : Block). b.first) blocks.now }
+    // There is a next member.
     requires more { bindings.old.next < length members.now }
     requires numbers { length numbers.now ≡ length members.now }
     requires within { (k : ℕ) → k < length members.now → slice_index numbers.now k < length bindings.old.latest.items }
     requires members { IsIncreasingBy (λ (m : Member). m.number) members.now }
+    // The bindings cover exactly the members declared so far.
     requires bindings { AreBindings blocks.now members.now numbers.now (length bindings.old.latest.items) bindings.old }
+    // For some token, no name visited so far is after it; and the names of each block are contiguous.
     requires walk { (uses : List Used) × (token : ℕ) × IsOnWalk blocks.now members.now uses bindings.old token }
     ensures next { OnOk result (bindings.new.next ≡ bindings.old.next + 1) }
+    // With `Ok`: if the next member isn't after a token, the last visited name still isn't after that token.
     ensures walk { OnOk result ((uses : List Used) (token : ℕ) → ((m : Member) → slice_get members.now bindings.old.next ≡ Some m → m.number ≤ token) → IsOnWalk blocks.now members.now uses bindings.old token → IsOnWalk blocks.now members.now uses bindings.new token) }
+    // With `Ok` the bindings cover exactly the members declared so far.
     ensures bindings { OnOk result (AreBindings blocks.now members.now numbers.now (length bindings.old.latest.items) bindings.new) }
 {
     let at = bindings.next;
@@ -133,7 +144,7 @@ fn declare_member(
     Ok(())
 }
 
-/// Whether the member with this index comes before the token.
+/// Whether there is a member with this index, and it comes before the token.
 fn is_before_token(members: &[Member], place: usize, token: u32) -> bool
     ensures yes { result ≡ true → (m : Member) × (slice_get members.now place ≡ Some m) × (m.number < token) }
     ensures no { result ≡ false → (m : Member) → slice_get members.now place ≡ Some m → token ≤ m.number }
@@ -144,7 +155,7 @@ fn is_before_token(members: &[Member], place: usize, token: u32) -> bool
     }
 }
 
-/// Declares all members before this token.
+/// Declares all members before this token that aren't declared yet.
 fn declare_members_before(
     bindings: &mut Bindings,
     blocks: &[Block],
@@ -156,11 +167,17 @@ fn declare_members_before(
     requires members { IsIncreasingBy (λ (m : Member). m.number) members.now }
     requires numbers { length numbers.now ≡ length members.now }
     requires within { (k : ℕ) → k < length members.now → slice_index numbers.now k < length bindings.old.latest.items }
+    // The bindings cover exactly the members declared so far.
     requires bindings { AreBindings blocks.now members.now numbers.now (length bindings.old.latest.items) bindings.old }
+    // All members declared so far come before the token.
     requires before { (k : ℕ) (m : Member) → k < bindings.old.next → slice_get members.now k ≡ Some m → m.number < token }
+    // No name visited so far is after the token, and the names of each block are contiguous.
     requires walk { (uses : List Used) × IsOnWalk blocks.now members.now uses bindings.old token }
+    // With `Ok` the bindings cover exactly the members declared so far.
     ensures bindings { OnOk result (AreBindings blocks.now members.now numbers.now (length bindings.old.latest.items) bindings.new) }
+    // With `Ok` names are still visited in token order.
     ensures walk { OnOk result ((uses : List Used) → IsOnWalk blocks.now members.now uses bindings.old token → IsOnWalk blocks.now members.now uses bindings.new token) }
+    // With `Ok` exactly the members before the token have been declared.
     ensures prefix { OnOk result (IsPrefixBefore members.now bindings.new.next token) }
 {
     while is_before_token(members, bindings.next, token) {
@@ -169,8 +186,8 @@ fn declare_members_before(
     Ok(())
 }
 
-/// The index of the member that a name at this token resolves to in this block. `number` is the number of the name. Tokens must be passed
-/// in increasing order.
+/// The index of the member to which the name at this token, in this block, resolves; `None` if it resolves to none. `number` is the number
+/// of the name, `None` if no member has the name. Successive calls need tokens in increasing order.
 pub(crate) fn resolve_name(
     text: &TokenTexts,
     blocks: &[Block],
@@ -181,19 +198,30 @@ pub(crate) fn resolve_name(
     token: u32,
     number: Option<usize>,
 ) -> Result<Option<usize>, AllocError>
+    // A given `number` is that of the name of the token.
     requires named { IfSome number (λ n. n ≡ name_number named.now.names.keys (text_at text.now.bytes.now text.now.tokens.now token)) }
     requires within { IfSome number (λ n. n < length named.now.names.keys) }
+    // Without a `number` no member has the name of the token.
     requires unnamed { IfNone number (length named.now.names.keys ≤ name_number named.now.names.keys (text_at text.now.bytes.now text.now.tokens.now token)) }
     requires blocks { IsIncreasingBy (λ (b : Block). b.first) blocks.now }
     requires members { IsIncreasingBy (λ (m : Member). m.number) members.now }
+    // `named` has for each member the number of its name.
     requires numbered { AreInterned (text_at text.now.bytes.now text.now.tokens.now) members.now named.now.names.keys named.now.numbers.items }
+    // The bindings cover exactly the members declared so far.
     requires bindings { AreBindings blocks.now members.now named.now.numbers.items (length named.now.names.keys) bindings.old }
+    // All members declared so far come before the token.
     requires before { (k : ℕ) (m : Member) → k < bindings.old.next → slice_get members.now k ≡ Some m → m.number < token }
+    // No name visited so far is after the token, and the names of each block are contiguous.
     requires walk { (uses : List Used) × IsOnWalk blocks.now members.now uses bindings.old token × IsNameIn members.now uses token block }
+    // With `Ok` names are still visited in token order.
     ensures walk { OnOk result ((uses : List Used) (later : ℕ) → token ≤ later → IsNameIn members.now uses token block → IsOnWalk blocks.now members.now uses bindings.old token → IsOnWalk blocks.now members.now uses bindings.new later) }
+    // With `Ok` the bindings cover exactly the members declared so far.
     ensures bindings { OnOk result (AreBindings blocks.now members.now named.now.numbers.items (length named.now.names.keys) bindings.new) }
+    // With `Ok` exactly the members before the token have been declared.
     ensures prefix { OnOk result (IsPrefixBefore members.now bindings.new.next token) }
+    // With `Some` the name resolves to the member with the returned index.
     ensures found { IfOk result (λ at. IfSome at (IsResolved (text_at text.now.bytes.now text.now.tokens.now) blocks.now members.now block token)) }
+    // With `None` the name at the token resolves to no member.
     ensures none { IfOk result (λ at. IfNone at (ResolvesToNothing (text_at text.now.bytes.now text.now.tokens.now) blocks.now members.now (use_in block token))) }
 {
     declare_members_before(bindings, blocks, members, named.numbers.as_slice(), token)?;

@@ -1,4 +1,4 @@
-//! The types that blocks declare, for pointer targets that are used before their declaration.
+//! The types that blocks declare, by block and name. A pointer's target type may be declared after its use.
 ghost use Rattle.std.specs.Prelude.{◌≡◌, ℕ, true, length, IfOk, IfSome, IfNone};
 ghost use Rattle.module_table.specs.declared.rows.DeclKind.TheVariants as decl_kinds;
 ghost use Rattle.ob_scope.specs.BlockTypes.{AreTypes};
@@ -10,7 +10,7 @@ use scopes::{Member, Scope};
 use std::alloc::{AllocError, Global};
 use text_hash::Seed;
 
-/// Whether a declaration is a type.
+/// Whether a declaration of this kind declares a type.
 fn is_type(decl_kind: DeclKind) -> bool
     ensures yes { result ≡ true → decl_kind ≡ decl_kinds.Type }
     ensures no { decl_kind ≡ decl_kinds.Type → result ≡ true }
@@ -26,7 +26,7 @@ fn is_type(decl_kind: DeclKind) -> bool
     }
 }
 
-/// The block that declares this member, if the member is a type.
+/// The block that declares this member, if the member is a type; otherwise `None`.
 fn block_of_type(member: Member) -> Option<u32>
     ensures found { IfSome result (λ b. (member.place ≡ locations.Block b) × (member.decl_kind ≡ decl_kinds.Type)) }
     ensures none { IfNone result ((b : ℕ) → member.place ≡ locations.Block b → member.decl_kind ≡ decl_kinds.Type → ⊥) }
@@ -40,8 +40,8 @@ fn block_of_type(member: Member) -> Option<u32>
     }
 }
 
-/// Maps a block and the number of a name to the index of the type that the block declares by this name. The map holds only types, which
-/// are few among the members.
+/// A map from a block and the number of a name to the index of the member that is the type which this block declares by this name. It
+/// contains only types, which are few among the members.
 pub(crate) fn index_block_types(
     alloc: Global,
     seed: Seed,
@@ -49,6 +49,7 @@ pub(crate) fn index_block_types(
     numbers: &[usize],
 ) -> Result<IndexMap<(u32, usize), usize, Seed>, AllocError>
     requires { length numbers.now ≡ length members.now }
+    // With `Ok` the map has exactly the types that the blocks declare.
     ensures { IfOk result (AreTypes members.now numbers.now (length members.now)) }
 {
     let mut types = IndexMap::with_hasher(alloc, seed);

@@ -1,4 +1,5 @@
-//! Resolves a table to scopes.
+//! Computes the scopes of a module from its table.
+//! Clauses `few`: a module has at most 2^24 uses. Clauses `sorted`: the members are sorted by token index.
 ghost use Rattle.std.specs.Prelude.{◌≡◌, ◌≤◌, [], length, take, Ok, IfOk, IfErr, OnOk};
 ghost use Rattle.ob_scan.specs.Spelling.{AreInText, IsOutcome};
 ghost use Rattle.ob_scan.specs.Texts.{text_at};
@@ -28,7 +29,8 @@ use ob_scan::{Token, TokenTexts};
 use scopes::{Alias, Member, Scope, Scopes};
 use std::alloc::{AllocError, Global};
 
-/// The number of uses that the alias declared by this token qualifies, from the counts of all members.
+/// The number of uses that the alias declared by this token qualifies; 0 if the token declares no member. `counts` has such a number for
+/// each member.
 fn alias_use_count(members: &[Member], counts: &[u64], alias: u32) -> u64
     requires sorted { IsIncreasingBy (λ (m : Member). m.number) members.now }
     requires as_many { length counts.now ≡ length members.now }
@@ -40,7 +42,7 @@ fn alias_use_count(members: &[Member], counts: &[u64], alias: u32) -> u64
     }
 }
 
-/// The aliases of the import items, in order.
+/// For each import item, in order, its alias with the name of the imported module and the number of uses that the alias qualifies.
 fn build_aliases(
     alloc: Global,
     text: &TokenTexts,
@@ -48,6 +50,7 @@ fn build_aliases(
     counts: &[u64],
     imports: &[Import],
 ) -> Result<Vec<Alias>, AllocError>
+    // The tokens are ranges of the bytes.
     requires in_text { AreInText text.now.bytes.now text.now.tokens.now }
     requires sorted { IsIncreasingBy (λ (m : Member). m.number) members.now }
     requires as_many { length counts.now ≡ length members.now }
@@ -65,15 +68,18 @@ fn build_aliases(
     Ok(aliases)
 }
 
-/// The scope fault for an index fault: the first duplicates with their name and offsets, or `Memory`.
+/// The error of a module for an error of its member index: the name and the byte offsets of the first duplicates, or `Memory`.
 fn duplicate_fault(
     alloc: Global,
     text: &TokenTexts,
     members: &[Member],
     fault: IndexFault,
 ) -> Result<ScopeFault, AllocError>
+    // The tokens are ranges of the bytes.
     requires in_text { AreInText text.now.bytes.now text.now.tokens.now }
+    // The error has the indexes of the first two members with one scope and name, or is `Memory`.
     requires twice { IsIndexFault (text_at text.now.bytes.now text.now.tokens.now) members.now fault }
+    // With `Ok` the result is the error of every module that has these members.
     ensures { IfOk result (λ fault. (rows : Rows) → members.now ≡ members_of rows → AreNames (text_at text.now.bytes.now text.now.tokens.now) rows
         → IsScopeFault text.now.bytes.now text.now.tokens.now rows fault) }
 {
@@ -99,7 +105,7 @@ fn duplicate_fault(
     Ok(fault)
 }
 
-/// Assembles the scopes from the meanings and counts of all uses.
+/// The scopes of a module, from the meanings of all its uses and the number of uses that each member qualifies.
 fn assemble_scopes(
     alloc: Global,
     text: &TokenTexts,
@@ -107,14 +113,22 @@ fn assemble_scopes(
     members: &[Member],
     found: Resolutions,
 ) -> Result<Scopes, AllocError>
+    // The tokens are ranges of the bytes.
     requires in_text { AreInText text.now.bytes.now text.now.tokens.now }
+    // The lists of the table are sorted.
     requires ordered { AreRowsSorted (rows_in table.now) }
     requires few { length (rows_in table.now).uses ≤ 16777216 }
+    // `members` has exactly the members of the table.
     requires members { members.now ≡ members_of (rows_in table.now) }
+    // The declared names are identifiers.
     requires named { AreNames (text_at text.now.bytes.now text.now.tokens.now) (rows_in table.now) }
+    // No scope declares a name twice.
     requires once { HasNoDuplicates (text_at text.now.bytes.now text.now.tokens.now) members.now }
+    // `found.meanings` has exactly the meanings of the uses that have one, in token order.
     requires meant { AreMeant (text_at text.now.bytes.now text.now.tokens.now) (rows_in table.now).blocks members.now (rows_in table.now).uses (length (rows_in table.now).uses) found.meanings.items }
+    // `found.counts` has for each member the number of uses that it qualifies.
     requires counted { AreCounted (text_at text.now.bytes.now text.now.tokens.now) (rows_in table.now).blocks members.now (rows_in table.now).uses (length (rows_in table.now).uses) found.counts.items }
+    // With `Ok` the result has the scopes of the table.
     ensures { IfOk result (AreScopes text.now.bytes.now text.now.tokens.now (rows_in table.now)) }
 {
     let aliases = build_aliases(
@@ -128,19 +142,24 @@ fn assemble_scopes(
     Ok(Scopes::new(name, found.meanings, aliases))
 }
 
-/// Returns a fault if two members are duplicates. The hash table of all members is built only if the order of their scopes doesn't show
-/// that they are distinct. Members up to the first one out of order are interned.
+/// Fails with the first duplicates if two members are duplicates. Builds the hash table of all members only if the order of their scopes
+/// doesn't show that they are distinct. Interns the names of the members up to the first one out of order.
 fn reject_duplicates<'a>(
     alloc: Global,
     text: &TokenTexts<'a>,
     members: &[Member],
     named: &mut Interner<'a>,
 ) -> Result<(), ScopeFault>
+    // The tokens are ranges of the bytes.
     requires in_text { AreInText text.now.bytes.now text.now.tokens.now }
+    // No name is interned yet.
     requires empty_interner { named.old.names.keys ≡ [] }
     requires no_numbers { named.old.numbers.items ≡ [] }
+    // With `Ok` the members interned so far have the numbers of their names.
     ensures numbered { OnOk result (AreInterned (text_at text.now.bytes.now text.now.tokens.now) (take (length named.new.numbers.items) members.now) named.new.names.keys named.new.numbers.items) }
+    // With `Ok` no scope declares a name twice.
     ensures once { OnOk result (HasNoDuplicates (text_at text.now.bytes.now text.now.tokens.now) members.now) }
+    // With `Err` the error has the first duplicates, or an allocation failed.
     ensures fault { IfErr result (λ fault. (rows : Rows) → members.now ≡ members_of rows → AreNames (text_at text.now.bytes.now text.now.tokens.now) rows
         → IsScopeFault text.now.bytes.now text.now.tokens.now rows fault) }
 {
@@ -153,7 +172,7 @@ fn reject_duplicates<'a>(
     }
 }
 
-/// Resolves all uses of a module without duplicates, some of whose names are interned.
+/// The scopes of a module without duplicates. `named` may already have interned the names of the first members.
 fn build_scopes<'a>(
     alloc: Global,
     text: &TokenTexts<'a>,
@@ -161,14 +180,22 @@ fn build_scopes<'a>(
     members: &[Member],
     named: &mut Interner<'a>,
 ) -> Result<Scopes, AllocError>
+    // The tokens are ranges of the bytes.
     requires in_text { AreInText text.now.bytes.now text.now.tokens.now }
+    // The lists of the table are sorted.
     requires ordered { AreRowsSorted (rows_in table.now) }
     requires few { length (rows_in table.now).uses ≤ 16777216 }
+    // The names of each block are contiguous.
     requires together { AreContiguous (rows_in table.now).blocks members.now (rows_in table.now).uses }
+    // `members` has exactly the members of the table.
     requires members { members.now ≡ members_of (rows_in table.now) }
+    // The declared names are identifiers.
     requires named { AreNames (text_at text.now.bytes.now text.now.tokens.now) (rows_in table.now) }
+    // No scope declares a name twice.
     requires once { HasNoDuplicates (text_at text.now.bytes.now text.now.tokens.now) members.now }
+    // The members interned so far have the numbers of their names.
     requires numbered { AreInterned (text_at text.now.bytes.now text.now.tokens.now) (take (length named.old.numbers.items) members.now) named.old.names.keys named.old.numbers.items }
+    // With `Ok` the result has the scopes of the table.
     ensures { IfOk result (AreScopes text.now.bytes.now text.now.tokens.now (rows_in table.now)) }
 {
     intern_rest(text, members, named)?;
@@ -176,20 +203,27 @@ fn build_scopes<'a>(
     assemble_scopes(alloc, text, table, members, found)
 }
 
-/// Resolves all uses of a module, or returns the fault of its first duplicates.
-fn checked_scopes(
+/// The scopes of a module with these members; or the error that has its first duplicates.
+fn check_and_build_scopes(
     alloc: Global,
     text: &TokenTexts,
     table: &Table,
     members: &[Member],
 ) -> Result<Scopes, ScopeFault>
+    // The tokens are ranges of the bytes.
     requires in_text { AreInText text.now.bytes.now text.now.tokens.now }
+    // The lists of the table are sorted.
     requires ordered { AreRowsSorted (rows_in table.now) }
     requires few { length (rows_in table.now).uses ≤ 16777216 }
+    // The names of each block are contiguous.
     requires together { AreContiguous (rows_in table.now).blocks members.now (rows_in table.now).uses }
+    // `members` has exactly the members of the table.
     requires members { members.now ≡ members_of (rows_in table.now) }
+    // The declared names are identifiers.
     requires named { AreNames (text_at text.now.bytes.now text.now.tokens.now) (rows_in table.now) }
+    // With `Ok` the result has the scopes of the table.
     ensures scoped { IfOk result (AreScopes text.now.bytes.now text.now.tokens.now (rows_in table.now)) }
+    // With `Err` the error has the first duplicates, or an allocation failed.
     ensures fault { IfErr result (IsScopeFault text.now.bytes.now text.now.tokens.now (rows_in table.now)) }
 {
     let mut named = empty_interner(alloc, text, members.len())?;
@@ -201,7 +235,7 @@ fn checked_scopes(
 
 /// The scopes of a module: the declaration that each use means by the scope rule, and the number of uses that each alias qualifies
 /// (Oberon-07 report, sections 4 and 11). If two identifiers in one block or record have equal names, returns `Twice` or `TwiceField`
-/// with the first pair, the one whose second identifier comes first. Returns `Memory` if an allocation fails.
+/// with the first such pair, whose second identifier comes first. Returns `Memory` if an allocation fails.
 pub fn scopes_from(
     alloc: Global,
     table: &Table,
@@ -210,17 +244,17 @@ pub fn scopes_from(
 ) -> Result<Scopes, ScopeFault>
     // Every token is a range of the bytes.
     requires in_text { AreInText bytes.now tokens.now }
-    // The tokens are those that the scanner returns for the bytes.
+    // The scanner returns these tokens for the bytes.
     requires spelled { IsOutcome bytes.now (Ok tokens.now) }
     // The table holds the entries of a syntax tree of these tokens.
     requires rows { AreTreeRows (IsIdentifier tokens.now) (length tokens.now) (rows_in table.now) }
-    // The scopes are those of the table, which has no duplicates.
+    // With `Ok` the table has no duplicates, and the result has its scopes.
     ensures scoped { IfOk result (AreScopes bytes.now tokens.now (rows_in table.now)) }
-    // The fault names the first duplicates, or an allocation failed.
+    // With `Err` the error has the first duplicates, or an allocation failed.
     ensures fault { IfErr result (IsScopeFault bytes.now tokens.now (rows_in table.now)) }
 {
     table.invariants();
     let text = TokenTexts { bytes, tokens };
     let members = declared_members(alloc, table.decl_groups(), table.declared())?;
-    checked_scopes(alloc, &text, table, members.as_slice())
+    check_and_build_scopes(alloc, &text, table, members.as_slice())
 }

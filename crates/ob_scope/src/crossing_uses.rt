@@ -1,4 +1,4 @@
-//! The uses that cross an import.
+//! The uses that cross an import: the qualified names whose alias denotes the imported module.
 ghost use Rattle.std.specs.Prelude.{◌≡◌, ℕ, true, List, Contains, IfNone, IfOk, IfSome};
 ghost use Rattle.ob_scan.specs.declared.token.Token.{Token};
 ghost use Rattle.ob_scan.specs.Texts.{text_at};
@@ -17,16 +17,16 @@ use module_table::{Table, Used, index_of};
 use scopes::{Member, Scopes};
 use std::alloc::{AllocError, Global};
 
-/// A use that crosses an import: a qualified name `alias.member`, by its tokens.
+/// A use that crosses an import: a qualified name `alias.member`, given by the indexes of its two names among the tokens.
 #[derive(Clone, Copy, Drop)]
 pub struct Crossing {
-    /// The token number of the alias.
+    /// The index of the token that is the alias.
     pub first: u32,
-    /// The token number of the name after the dot.
+    /// The index of the token that is the name after the dot.
     pub last: u32,
 }
 
-/// Whether this token declares an import.
+/// Whether the token with this index declares an import's alias.
 fn declares_import(members: &[Member], number: u32) -> bool
     requires { IsIncreasingBy (λ (m : Member). m.number) members.now }
     ensures yes { result ≡ true → IsImportAt members.now number }
@@ -38,7 +38,7 @@ fn declares_import(members: &[Member], number: u32) -> bool
     }
 }
 
-/// Whether this token declares an alias of the module named `imported`.
+/// Whether the token with this index declares an alias of the module named `imported`.
 fn is_alias_for(scopes: &Scopes, members: &[Member], number: u32, imported: &str) -> bool
     requires { IsIncreasingBy (λ (m : Member). m.number) members.now }
     ensures alias { result ≡ true → IsAliasFor scopes.now number imported.now }
@@ -48,7 +48,7 @@ fn is_alias_for(scopes: &Scopes, members: &[Member], number: u32, imported: &str
     scopes.is_alias_of(number, imported) && declares_import(members, number)
 }
 
-/// The tokens of a use if it crosses to the module named `imported`.
+/// The tokens of the use, if it crosses to the module named `imported`; otherwise `None`.
 fn find_crossing(
     scopes: &Scopes,
     members: &[Member],
@@ -57,7 +57,9 @@ fn find_crossing(
 ) -> Option<Crossing>
     requires { IsIncreasingBy (λ (m : Member). m.number) members.now }
     ensures tokens { IfSome result (IsOfUse used) }
+    // With `Some`: if the scopes and members are those of a module that has the use, the use crosses to the module named `imported`.
     ensures found { IfSome result (λ _. (bytes : List ℕ) (ts : List Token) (rows : Rows) → AreScopesOf bytes ts rows members.now scopes.now → Contains rows.uses used → Crosses (text_at bytes ts) rows imported.now used) }
+    // With `None`: if the scopes and members are those of a module that has the use, the use doesn't cross to that module.
     ensures none { IfNone result ((bytes : List ℕ) (ts : List Token) (rows : Rows) → AreScopesOf bytes ts rows members.now scopes.now → Contains rows.uses used → Crosses (text_at bytes ts) rows imported.now used → ⊥) }
 {
     let last = used.member?;
@@ -72,14 +74,15 @@ fn find_crossing(
     }
 }
 
-/// The uses that cross to the module named `imported`, in token order: the uses that one of the module's aliases qualifies (Oberon-07
-/// report, section 11). If the scopes aren't those of the table, nothing is promised. Returns `AllocError` if an allocation fails.
+/// The uses that cross to the module named `imported`, in token order: the uses that one of its aliases qualifies (Oberon-07 report,
+/// section 11). The result is right only if the scopes are those of the table. Returns `AllocError` if an allocation fails.
 pub fn crossings(
     alloc: Global,
     table: &Table,
     scopes: &Scopes,
     imported: &str,
 ) -> Result<Vec<Crossing>, AllocError>
+    // With `Ok`: if the scopes are those of the table, the result has exactly the uses that cross to the module.
     ensures { IfOk result (λ cs. (bytes : List ℕ) (ts : List Token) → AreScopes bytes ts (rows_in table.now) scopes.now
         → AreCrossings (text_at bytes ts) (rows_in table.now) imported.now (rows_in table.now).uses cs.items) }
 {

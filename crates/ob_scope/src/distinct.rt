@@ -1,4 +1,5 @@
-//! A test for duplicates that needs no hash table: members with equal names mostly occur in scopes with increasing start tokens.
+//! A test for duplicates that needs no hash table: if for each name the start tokens of its scopes increase, as they mostly do, no scope
+//! declares the name twice.
 ghost use Rattle.std.specs.Prelude.{◌≡◌, [], true, length, take, IfOk, IfSome, OnOk};
 ghost use Rattle.ob_scan.specs.Spelling.{AreInText};
 ghost use Rattle.ob_scan.specs.Texts.{text_at};
@@ -12,15 +13,16 @@ use ob_scan::TokenTexts;
 use scopes::{Member, Scope};
 use std::alloc::{AllocError, Global};
 
-/// Exclusive upper bounds for the start tokens of the scopes of a name: of its blocks, and of its records.
+/// Two bounds for a name: all blocks and all records that have declared it so far start before `block` and `record`, respectively.
 #[derive(Clone, Copy, Drop)]
 pub(crate) struct StartBounds {
     pub(crate) block: u64,
     pub(crate) record: u64,
 }
 
-/// Advances the bound past the scope; `None` if the scope starts before the bound and so might be a repetition.
+/// The bounds of a name with this scope added; `None` if the scope starts before its bound, so it might have declared the name already.
 fn raise_bound(passed: StartBounds, place: Scope) -> Option<StartBounds>
+    // With `Some` the scope isn't among those below the old bounds. It and all of those are below the new bounds.
     ensures new { IfSome result (λ _. IsBelowBound passed place → ⊥) }
     ensures passed { IfSome result (λ r. IsBelowBound r place) }
     ensures kept { IfSome result (λ r. (p : Place) → IsBelowBound passed p → IsBelowBound r p) }
@@ -44,19 +46,22 @@ fn raise_bound(passed: StartBounds, place: Scope) -> Option<StartBounds>
     }
 }
 
-/// Interns the names of members in order, up to the first whose scope starts before the bound of its name. Returns whether all members
-/// passed.
+/// Interns the names of the members in order. Stops with `false` after the first member whose scope starts before the bound of its name;
+/// returns true if there is none.
 fn intern_ascending<'a>(
     text: &TokenTexts<'a>,
     members: &[Member],
     named: &mut Interner<'a>,
     passed: &mut [StartBounds],
 ) -> Result<bool, AllocError>
+    // The tokens are ranges of the bytes.
     requires in_text { AreInText text.now.bytes.now text.now.tokens.now }
     requires empty_interner { named.old.names.keys ≡ [] }
     requires no_numbers { named.old.numbers.items ≡ [] }
     requires as_many { length passed.old ≡ length members.now }
+    // With `Ok` the members interned so far have the numbers of their names.
     ensures numbered { OnOk result (AreInterned (text_at text.now.bytes.now text.now.tokens.now) (take (length named.new.numbers.items) members.now) named.new.names.keys named.new.numbers.items) }
+    // If the result is true, no scope declares a name twice.
     ensures once { IfOk result (λ b. b ≡ true → HasNoDuplicates (text_at text.now.bytes.now text.now.tokens.now) members.now) }
 {
     for i in 0..members.len() {
@@ -69,17 +74,21 @@ fn intern_ascending<'a>(
     Ok(true)
 }
 
-/// Whether the order of scopes shows that no two members are duplicates; `false` leaves it open. Interns the names that it has tested.
+/// Whether the order of scopes shows that no two members are duplicates. If false, there may be duplicates or not. Interns the names of the
+/// members that it tests.
 pub(crate) fn are_distinct_by_order<'a>(
     alloc: Global,
     text: &TokenTexts<'a>,
     members: &[Member],
     named: &mut Interner<'a>,
 ) -> Result<bool, AllocError>
+    // The tokens are ranges of the bytes.
     requires in_text { AreInText text.now.bytes.now text.now.tokens.now }
     requires empty_interner { named.old.names.keys ≡ [] }
     requires no_numbers { named.old.numbers.items ≡ [] }
+    // With `Ok` the members interned so far have the numbers of their names.
     ensures numbered { OnOk result (AreInterned (text_at text.now.bytes.now text.now.tokens.now) (take (length named.new.numbers.items) members.now) named.new.names.keys named.new.numbers.items) }
+    // If the result is true, no scope declares a name twice.
     ensures once { IfOk result (λ b. b ≡ true → HasNoDuplicates (text_at text.now.bytes.now text.now.tokens.now) members.now) }
 {
     let none = StartBounds {

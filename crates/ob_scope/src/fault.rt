@@ -1,9 +1,9 @@
-//! The faults of scope resolution.
+//! The errors of scope resolution.
 
 use std::alloc::{AllocError, AllocFailed};
 use thiserror::Error;
 
-/// Why a module has no scopes. `first` and `second` are the byte offsets of the two identifiers.
+/// The error because of which a module has no scopes. `first` and `second` are the byte offsets of the two identifiers named `name`.
 #[derive(Debug, PartialEq, Eq, Drop, Error)]
 pub enum ScopeFault {
     /// Two identifiers with one name are declared in one block.

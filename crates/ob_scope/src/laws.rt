@@ -16,52 +16,53 @@ ghost use Rattle.scopes.specs.Scope.{IsFirstDuplicate, ResolvesTo, HasNoDuplicat
 ghost use Rattle.scopes.specs.Scoped.{AliasUses, AreScopes, ModuleScopes};
 ghost use Rattle.scopes.specs.Weights.{uses_of_import, uses_of_all};
 
-/// If there are no duplicates, a use means at most one declaration.
-pub fn one_meaning()
+/// If no scope declares a name twice, a use means at most one declaration.
+pub fn meaning_is_unique()
     ensures { (name : ℕ → List ℕ) (blocks : List Block) (ds : List Member) (u : Used) (d e : Member) →
         HasNoDuplicates name ds → ResolvesTo name blocks ds u d → ResolvesTo name blocks ds u e → d ≡ e }
 {}
 
-/// There are no first duplicates if there are none at all; otherwise there is at most one such pair.
-pub fn one_fault()
-    // Without duplicates there are no first duplicates.
+/// The first duplicates among the members are unique, and exist only if a scope declares a name twice.
+pub fn first_duplicates_are_unique()
+    // If no scope declares a name twice, there are no first duplicates.
     ensures no_pair { (name : ℕ → List ℕ) (ds : List Member) (d e : Member) → HasNoDuplicates name ds → IsFirstDuplicate name ds d e → ⊥ }
-    // The first duplicates are unique.
+    // Any two pairs of first duplicates are equal.
     ensures one_pair { (name : ℕ → List ℕ) (ds : List Member) (d e f g : Member) →
         IsFirstDuplicate name ds d e → IsFirstDuplicate name ds f g → (d ≡ f) × (e ≡ g) }
 {}
 
-/// Either there are no duplicates, or there are first duplicates.
-pub fn some_fault()
+/// Either no scope declares a name twice, or there are first duplicates.
+pub fn first_duplicates_exist()
     ensures { (name : ℕ → List ℕ) (ds : List Member) → HasNoDuplicates name ds ⊎ ((d e : Member) × IsFirstDuplicate name ds d e) }
 {}
 
-/// The members are sorted by token number if the declared identifiers are; then a token declares at most one member.
-pub fn one_declared()
-    // The members are sorted by token number.
+/// If the declared identifiers are sorted by token index, the members are too, and a token declares at most one member.
+pub fn members_are_sorted()
+    // The members are sorted by token index.
     ensures sorted { (rows : Rows) → IsIncreasingBy (λ (d : Declared). d.number) rows.declared → IsIncreasingBy (λ (m : Member). m.number) (members_of rows) }
     // A token declares at most one member.
     ensures one { (rows : Rows) (d e : Member) → IsIncreasingBy (λ (d : Declared). d.number) rows.declared →
         Contains (members_of rows) d → Contains (members_of rows) e → d.number ≡ e.number → d ≡ e }
 {}
 
-/// The number of uses that cross to a module is the sum of the uses of its aliases.
+/// The number of uses that cross to an imported module is the sum of the numbers of uses that this module's aliases qualify.
 pub fn weight_of_aliases()
     ensures { (bytes : List ℕ) (ts : List Token) (rows : Rows) (s : ModuleScopes) (imported : List ℕ) →
         AreScopes bytes ts rows s → HasWeight (text_at bytes ts) rows imported (uses_of_import s.aliases imported) }
 {}
 
 /// The import of a module has exactly one weight.
-pub fn one_weight()
+pub fn weight_is_unique()
     ensures { (name : ℕ → List ℕ) (rows : Rows) (imported : List ℕ) (n m : ℕ) →
         HasWeight name rows imported n → HasWeight name rows imported m → n ≡ m }
 {}
 
-/// All aliases together qualify at most as many uses as there are, and the aliases of one module at most as many as all aliases.
-pub fn weight_le()
-    // All aliases qualify at most as many uses as there are.
+/// All aliases of a module together qualify no more uses than the module has. The aliases of one imported module qualify no more uses than
+/// all aliases.
+pub fn weights_are_bounded()
+    // All aliases of a module together qualify at most as many uses as the module has.
     ensures all { (bytes : List ℕ) (ts : List Token) (rows : Rows) (s : ModuleScopes) → AreScopes bytes ts rows s → uses_of_all s.aliases ≤ length rows.uses }
-    // The aliases of one module qualify at most as many uses as all aliases.
+    // The aliases of one imported module qualify at most as many uses as all aliases.
     ensures one { (aliases : List AliasUses) (imported : List ℕ) → uses_of_import aliases imported ≤ uses_of_all aliases }
 {}
 
@@ -70,13 +71,13 @@ pub fn weight_of_crossings()
     ensures { (name : ℕ → List ℕ) (rows : Rows) (imported : List ℕ) (cs : List Crossing) → AreCrossings name rows imported rows.uses cs → HasWeight name rows imported (length cs) }
 {}
 
-/// The list of uses that cross to a module is unique.
-pub fn one_crossings()
+/// For a module and the name of an imported module, the list of the uses that cross to the imported module is unique.
+pub fn crossings_are_unique()
     ensures { (name : ℕ → List ℕ) (rows : Rows) (imported : List ℕ) (cs ds : List Crossing) →
         AreCrossings name rows imported rows.uses cs → AreCrossings name rows imported rows.uses ds → cs ≡ ds }
 {}
 
 /// The bytes, tokens and entries of a module determine its scopes.
-pub fn one_scopes()
+pub fn scopes_are_unique()
     ensures { (bytes : List ℕ) (ts : List Token) (rows : Rows) (s t : ModuleScopes) → AreScopes bytes ts rows s → AreScopes bytes ts rows t → s ≡ t }
 {}

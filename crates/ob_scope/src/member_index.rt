@@ -17,7 +17,7 @@ pub(crate) struct MemberKey<'a> {
     pub(crate) name: Name<'a>,
 }
 
-/// Why there is no index: the members with these two indexes are duplicates, or an allocation failed.
+/// The error because of which no index is built: the members with these two list positions are duplicates, or an allocation failed.
 #[derive(Clone, Copy)]
 pub(crate) enum IndexFault {
     Twice(usize, usize),
@@ -32,12 +32,12 @@ fn member_key<'a>(text: &TokenTexts<'a>, member: &Member) -> MemberKey<'a>
     MemberKey {
         place: member.place,
         name: Name {
-            bytes: text.of(member.number),
+            bytes: text.token_text(member.number),
         },
     }
 }
 
-/// The index of the members; a key's position in it is the member's index. Fails at the first duplicates.
+/// A hash set of the scope and name of each member, in member order. Fails with the first duplicates, if there are any.
 pub(crate) fn build_member_index<'a>(
     alloc: Global,
     text: &TokenTexts<'a>,
@@ -45,7 +45,9 @@ pub(crate) fn build_member_index<'a>(
     members: &[Member],
 ) -> Result<IndexSet<MemberKey<'a>, Seed>, IndexFault>
     requires { AreInText text.now.bytes.now text.now.tokens.now }
+    // With `Ok` the keys are the scopes and names of the members, in their order, and no two of them are equal.
     ensures index { IfOk result (λ index. IsIndex (text_at text.now.bytes.now text.now.tokens.now) members.now index.keys) }
+    // With `Err` the error has the positions of the first two members with one scope and name, or is `Memory`.
     ensures fault { IfErr result (IsIndexFault (text_at text.now.bytes.now text.now.tokens.now) members.now) }
 {
     let Ok(mut index) = IndexSet::with_capacity_and_hasher(alloc, members.len(), seed) else {

@@ -9,7 +9,7 @@ use module_table::{DeclGroup, Declared, index_of};
 use scopes::{Member, Scope};
 use std::alloc::{AllocError, Global};
 
-/// The scope of the identifiers of a declaration group.
+/// The scope that declares the identifiers of a declaration group: a record if it is a group of fields, otherwise a block.
 fn group_scope(by: DeclGroup) -> Scope
     ensures { result ≡ group_scope by }
 {
@@ -29,7 +29,8 @@ fn group_begins_at(decl_groups: &[DeclGroup], at: usize, first: u32) -> bool
     }
 }
 
-/// The index of the declaration group that begins with this token. Tries the hint and the index after it, then a binary search.
+/// The index of the declaration group that begins with the token `first`; `None` if there is none. Tries the index `cursor` and the next
+/// one, then a binary search.
 fn group_index_by_hint(decl_groups: &[DeclGroup], cursor: usize, first: u32) -> Option<usize>
     requires { IsIncreasingBy (λ (d : DeclGroup). d.first) decl_groups.now }
     ensures found { IfSome result (IsIndexBy (λ (d : DeclGroup). d.first) decl_groups.now first) }
@@ -45,7 +46,8 @@ fn group_index_by_hint(decl_groups: &[DeclGroup], cursor: usize, first: u32) -> 
     index_of(decl_groups, first)
 }
 
-/// The declaration group that begins with this token. Moves the hint to its index, so that look-ups in order need no search.
+/// The declaration group that begins with the token `first`; `None` if there is none. Starts the search at index `cursor`, and sets it to
+/// the index of the found group, so that look-ups in order take constant time.
 fn decl_group_at(decl_groups: &[DeclGroup], cursor: &mut usize, first: u32) -> Option<DeclGroup>
     requires { IsIncreasingBy (λ (d : DeclGroup). d.first) decl_groups.now }
     ensures { result ≡ decl_group_at decl_groups.now first }
@@ -55,7 +57,7 @@ fn decl_group_at(decl_groups: &[DeclGroup], cursor: &mut usize, first: u32) -> O
     Some(decl_groups[at])
 }
 
-/// A declared identifier with the scope and kind of its declaration group.
+/// The member for a declared identifier, with the scope and kind of its declaration group; `None` if it has no group.
 fn declared_member(
     decl_groups: &[DeclGroup],
     cursor: &mut usize,
@@ -74,7 +76,7 @@ fn declared_member(
     }
 }
 
-/// The members of these declaration groups, in token order.
+/// The members for these declared identifiers, each with the scope and kind of its declaration group, in the order of the identifiers.
 pub(crate) fn declared_members(
     alloc: Global,
     decl_groups: &[DeclGroup],
@@ -84,7 +86,7 @@ pub(crate) fn declared_members(
     ensures { IfOk result (λ v. v.items ≡ declared_members decl_groups.now declared.now) }
 {
     let mut members = Vec::with_capacity(alloc, declared.len())?;
-    // Identifiers are in the order of their declaration groups, so the hint is right for most.
+    // Identifiers are mostly in the order of their declaration groups, so most look-ups succeed at the cursor.
     let mut cursor = 0;
     for row in declared {
         if let Some(member) = declared_member(decl_groups, &mut cursor, *row) {

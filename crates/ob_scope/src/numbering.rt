@@ -1,4 +1,4 @@
-//! Interns the names of members, so that names are hashed once and compared as numbers.
+//! Interns the names of members: equal names get equal numbers, so that each name is hashed once and then compared by its number.
 ghost use Rattle.std.specs.Prelude.{◌≡◌, ◌≤◌, ◌<◌, ◌+◌, ◌∷◌, ◌++◌, [], length, take, IfOk, IfSome, IfNone, OnOk};
 ghost use Rattle.ob_scan.specs.Spelling.{AreInText};
 ghost use Rattle.ob_scan.specs.Texts.{text_at};
@@ -10,14 +10,15 @@ use scopes::Member;
 use std::alloc::{AllocError, Global};
 use text_hash::{Name, Seed};
 
-/// The distinct names in the order of their first occurrence, and for each member the number of its name.
+/// The distinct names of the interned members, in the order of their first occurrence. `numbers` has for each of these members the index of
+/// its name in `names`.
 #[derive(Drop)]
 pub(crate) struct Interner<'a> {
     pub(crate) names: IndexSet<Name<'a>, Seed>,
     pub(crate) numbers: Vec<usize>,
 }
 
-/// No names, with capacity for the numbers of `count` members. The seed of the hash table comes from the source text.
+/// An interner without names, with capacity for the numbers of `count` members. The seed of its hash table comes from the source text.
 pub(crate) fn empty_interner<'a>(
     alloc: Global,
     text: &TokenTexts<'a>,
@@ -31,21 +32,25 @@ pub(crate) fn empty_interner<'a>(
     Ok(Interner { names, numbers })
 }
 
-/// Interns the name of the next member and returns its number.
+/// Interns the name of the member with index `at`, and returns the number of the name. `at` is the number of the members interned so far.
 pub(crate) fn intern_member<'a>(
     text: &TokenTexts<'a>,
     members: &[Member],
     named: &mut Interner<'a>,
     at: usize,
 ) -> Result<usize, AllocError>
+    // The tokens are ranges of the bytes.
     requires in_text { AreInText text.now.bytes.now text.now.tokens.now }
     requires within { at < length members.now }
+    // The members interned so far have the numbers of their names.
     requires numbered { AreInterned (text_at text.now.bytes.now text.now.tokens.now) (take at members.now) named.old.names.keys named.old.numbers.items }
+    // With `Ok` the members up to index `at` have the numbers of their names.
     ensures numbered { OnOk result (AreInterned (text_at text.now.bytes.now text.now.tokens.now) (take (at + 1) members.now) named.new.names.keys named.new.numbers.items) }
     ensures number { IfOk result (λ n. named.new.numbers.items ≡ named.old.numbers.items ++ n ∷ []) }
+    // With `Ok` at most one name is new.
     ensures grown { OnOk result (length named.new.names.keys ≤ length named.old.names.keys + 1) }
 {
-    let bytes = text.of(members[at].number);
+    let bytes = text.token_text(members[at].number);
     match named.names.insert_full(Name { bytes }) {
         Ok((number, _)) => {
             named.numbers.push(number)?;
@@ -61,8 +66,11 @@ pub(crate) fn intern_rest<'a>(
     members: &[Member],
     named: &mut Interner<'a>,
 ) -> Result<(), AllocError>
+    // The tokens are ranges of the bytes.
     requires in_text { AreInText text.now.bytes.now text.now.tokens.now }
+    // The members interned so far have the numbers of their names.
     requires numbered { AreInterned (text_at text.now.bytes.now text.now.tokens.now) (take (length named.old.numbers.items) members.now) named.old.names.keys named.old.numbers.items }
+    // With `Ok` all members have the numbers of their names.
     ensures { OnOk result (AreInterned (text_at text.now.bytes.now text.now.tokens.now) members.now named.new.names.keys named.new.numbers.items) }
 {
     let begin = named.numbers.len();

@@ -1,4 +1,4 @@
-//! The meaning of a use: the declaration that it resolves to, or a type declared later if the use is a pointer's target.
+//! The meaning of a use: the declaration to which it resolves; if there is none and the use is a pointer's target, a type declared later.
 ghost use Rattle.std.specs.Prelude.{◌≡◌, ◌≤◌, ◌<◌, ℕ, List, Some, length, slice_get, IfOk, IfSome, IfNone, OnOk};
 ghost use Rattle.ob_scan.specs.Spelling.{AreInText};
 ghost use Rattle.ob_scan.specs.Texts.{text_at};
@@ -24,7 +24,7 @@ use scopes::Member;
 use std::alloc::AllocError;
 use text_hash::Seed;
 
-/// The index of the type with this name that this block declares.
+/// The index of the type, among the members, that this block declares by the name with this number; `None` if there is none.
 fn type_index(
     types: &IndexMap<(u32, usize), usize, Seed>,
     block: u32,
@@ -35,7 +35,7 @@ fn type_index(
     types.get(&(block, number)).copied()
 }
 
-/// The index of the type named like this token that this block declares after the token.
+/// The index of the type, among the members, that this block declares after the token by the token's name; `None` if there is none.
 fn find_later_type(
     text: &TokenTexts,
     types: &IndexMap<(u32, usize), usize, Seed>,
@@ -45,13 +45,19 @@ fn find_later_type(
     token: u32,
     number: Option<usize>,
 ) -> Option<usize>
+    // A given `number` is that of the name of the token.
     requires named { IfSome number (λ n. n ≡ name_number named.now.names.keys (text_at text.now.bytes.now text.now.tokens.now token)) }
     requires within { IfSome number (λ n. n < length named.now.names.keys) }
+    // Without a `number` no member has the name of the token.
     requires unnamed { IfNone number (length named.now.names.keys ≤ name_number named.now.names.keys (text_at text.now.bytes.now text.now.tokens.now token)) }
+    // No scope declares a name twice.
     requires once { HasNoDuplicates (text_at text.now.bytes.now text.now.tokens.now) members.now }
+    // `named` has for each member the number of its name.
     requires numbered { AreInterned (text_at text.now.bytes.now text.now.tokens.now) members.now named.now.names.keys named.now.numbers.items }
+    // `types` has exactly the types that the blocks declare.
     requires types { AreTypes members.now named.now.numbers.items (length members.now) types.now }
     ensures found { IfSome result (IsTypeAfter (text_at text.now.bytes.now text.now.tokens.now) members.now block token) }
+    // With `None` the block declares no such type.
     ensures none { IfNone result ((i : ℕ) → IsTypeAfter (text_at text.now.bytes.now text.now.tokens.now) members.now block token i → ⊥) }
 {
     let number = number?;
@@ -74,8 +80,9 @@ pub(crate) fn enclosing_block(blocks: &[Block], block: u32) -> Option<u32>
     if outer < block { Some(outer) } else { None }
 }
 
-/// The index of the member that a use means. Uses must be passed in token order, as the bindings advance with them.
-pub(crate) fn meaning(
+/// The index of the member that a use means; `None` if it means none. Successive calls need uses in token order, since each call advances
+/// the bindings to its use.
+pub(crate) fn resolve_use(
     text: &TokenTexts,
     types: &IndexMap<(u32, usize), usize, Seed>,
     blocks: &[Block],
@@ -84,22 +91,33 @@ pub(crate) fn meaning(
     bindings: &mut Bindings,
     used: Used,
 ) -> Result<Option<usize>, AllocError>
+    // The tokens are ranges of the bytes.
     requires in_text { AreInText text.now.bytes.now text.now.tokens.now }
     requires blocks { IsIncreasingBy (λ (b : Block). b.first) blocks.now }
     requires members { IsIncreasingBy (λ (m : Member). m.number) members.now }
+    // No scope declares a name twice.
     requires once { HasNoDuplicates (text_at text.now.bytes.now text.now.tokens.now) members.now }
+    // `types` has exactly the types that the blocks declare.
     requires types { AreTypes members.now named.now.numbers.items (length members.now) types.now }
+    // `named` has for each member the number of its name.
     requires numbered { AreInterned (text_at text.now.bytes.now text.now.tokens.now) members.now named.now.names.keys named.now.numbers.items }
+    // The bindings cover exactly the members declared so far.
     requires bindings { AreBindings blocks.now members.now named.now.numbers.items (length named.now.names.keys) bindings.old }
     requires before { (k : ℕ) (m : Member) → k < bindings.old.next → slice_get members.now k ≡ Some m → m.number < used.number }
+    // No name visited so far is after the token, and the names of each block are contiguous.
     requires walk { (uses : List Used) × IsOnWalk blocks.now members.now uses bindings.old used.number × IsNameIn members.now uses used.number used.block }
+    // Names are still visited in token order.
     ensures walk { OnOk result ((uses : List Used) (later : ℕ) → used.number ≤ later → IsNameIn members.now uses used.number used.block → IsOnWalk blocks.now members.now uses bindings.old used.number → IsOnWalk blocks.now members.now uses bindings.new later) }
+    // The bindings cover exactly the members declared so far.
     ensures bindings { OnOk result (AreBindings blocks.now members.now named.now.numbers.items (length named.now.names.keys) bindings.new) }
+    // Exactly the members before the token have been declared.
     ensures prefix { OnOk result (IsPrefixBefore members.now bindings.new.next used.number) }
+    // With `Some` the use means the member with the returned index.
     ensures found { IfOk result (λ at. IfSome at (IsMeant (text_at text.now.bytes.now text.now.tokens.now) blocks.now members.now used)) }
+    // With `None` the use means no member.
     ensures none { IfOk result (λ at. IfNone at (MeansNothing (text_at text.now.bytes.now text.now.tokens.now) blocks.now members.now used)) }
 {
-    let number = name_number(&named.names, text.of(used.number));
+    let number = name_number(&named.names, text.token_text(used.number));
     let at = resolve_name(
         text,
         blocks,

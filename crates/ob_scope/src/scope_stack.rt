@@ -10,15 +10,15 @@ use module_table::Block;
 use scopes::Scope;
 use std::alloc::AllocError;
 
-/// The open blocks by their first tokens, from the outermost to the innermost.
+/// The stack of the open blocks, each given by the index of its first token, from the outermost to the innermost block.
 #[derive(Drop)]
 pub(crate) struct ScopeStack {
     pub(crate) stack: Vec<u32>,
-    /// One more than the first token of the block opened last, or 0. Only contracts use it.
+    /// One more than the index of the first token of the block opened last; 0 before the first one. Only contracts use it.
     pub(crate) watermark: u64,
 }
 
-/// Closes the blocks whose first token is after that of this block.
+/// Removes from the stack the blocks whose first token is after the first token of `block`.
 fn close_later_blocks(stack: &mut Vec<u32>, block: u32)
     requires { IsIncreasingBy (λ (b : ℕ). b) stack.old.items }
     ensures prefix { (rest : List ℕ) × (stack.old.items ≡ stack.new.items ++ rest) }
@@ -40,7 +40,7 @@ fn is_innermost(stack: &[u32], block: u32) -> bool
     }
 }
 
-/// Pushes a block.
+/// Pushes a block, and sets the watermark to one more than the index of its first token.
 fn push_block(scope_stack: &mut ScopeStack, block: u32) -> Result<(), AllocError>
     ensures stack { OnOk result (scope_stack.new.stack.items ≡ scope_stack.old.stack.items ++ block ∷ []) }
     ensures later { OnOk result (scope_stack.new.watermark ≡ block + 1) }
@@ -50,15 +50,18 @@ fn push_block(scope_stack: &mut ScopeStack, block: u32) -> Result<(), AllocError
     Ok(())
 }
 
-/// Makes this block the innermost open one: closes later blocks, and opens the blocks around it first if they aren't open.
+/// Makes this block the innermost open one: closes the blocks that begin later, and opens those that enclose it if they aren't open.
 fn open_enclosing(
     scope_stack: &mut ScopeStack,
     blocks: &[Block],
     block: u32,
 ) -> Result<(), AllocError>
     requires sorted { IsIncreasingBy (λ (b : Block). b.first) blocks.now }
+    // The stack is empty, or has a block and all blocks around it, the outermost first.
     requires chain { IsOpen blocks.now scope_stack.old.stack.items scope_stack.old.watermark }
+    // Each block around this block is open, or begins after all blocks opened so far.
     requires may { MayEnter blocks.now scope_stack.old.stack.items scope_stack.old.watermark block }
+    // With `Ok` the block is the innermost open one, and no closed block was opened again.
     ensures { OnOk result (Enters blocks.now block scope_stack.old.stack.items scope_stack.old.watermark scope_stack.new.stack.items scope_stack.new.watermark) }
 {
     close_later_blocks(&mut scope_stack.stack, block);
@@ -79,8 +82,11 @@ pub(crate) fn enter_block(
     block: u32,
 ) -> Result<(), AllocError>
     requires sorted { IsIncreasingBy (λ (b : Block). b.first) blocks.now }
+    // The stack is empty, or has a block and all blocks around it, the outermost first.
     requires chain { IsOpen blocks.now scope_stack.old.stack.items scope_stack.old.watermark }
+    // Each block around this block is open, or begins after all blocks opened so far.
     requires may { MayEnter blocks.now scope_stack.old.stack.items scope_stack.old.watermark block }
+    // With `Ok` the block is the innermost open one, and no closed block was opened again.
     ensures { OnOk result (Enters blocks.now block scope_stack.old.stack.items scope_stack.old.watermark scope_stack.new.stack.items scope_stack.new.watermark) }
 {
     if is_innermost(scope_stack.stack.as_slice(), block) {
@@ -89,7 +95,7 @@ pub(crate) fn enter_block(
     open_enclosing(scope_stack, blocks, block)
 }
 
-/// The index of a block in the stack, by binary search.
+/// The index of a block in the stack, by binary search; `None` if the block isn't open.
 fn index_in_stack(stack: &[u32], block: u32) -> Option<usize>
     requires { IsIncreasingBy (λ (b : ℕ). b) stack.now }
     ensures found { IfSome result (IsIndexBy (λ (b : ℕ). b) stack.now block) }
@@ -120,7 +126,7 @@ fn is_open_block(stack: &[u32], block: u32) -> bool
     index_in_stack(stack, block).is_some()
 }
 
-/// Whether a scope is an open block.
+/// Whether this scope is a block, and that block is open; false for a record.
 pub(crate) fn is_open(stack: &[u32], scope: Scope) -> bool
     requires { IsIncreasingBy (λ (b : ℕ). b) stack.now }
     ensures yes { result ≡ true → IsOpenScope stack.now scope }

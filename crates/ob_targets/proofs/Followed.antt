@@ -8,13 +8,13 @@ use Rattle.module_table.specs.declared.rows.Selector.{Selector}
 use Rattle.module_table.specs.declared.rows.Step.{Step}
 use Rattle.ob_types.specs.declared.nodes.Field.{Field}
 use Rattle.ob_types.specs.declared.nodes.Node.{Node}
-use Rattle.ob_types.specs.World.{World, text}
+use Rattle.ob_view.specs.World.{World, text}
 use Rattle.ob_types.specs.SameDeclaration.{same}
 use Rattle.ob_types.specs.Shapes.{shape, field_of, base_of}
 use Rattle.ob_targets.specs.declared.designator_type.DesignatorType.{DesignatorType}
 use Rattle.ob_targets.specs.declared.designator_type.DesignatorType.TheVariants as knowns
-use Rattle.ob_targets.specs.declared.target.Target.{Target}
-use Rattle.ob_targets.specs.Targets.{field_target, target_type, used_target}
+use Rattle.ob_view.specs.declared.target.Target.{Target}
+use Rattle.ob_targets.specs.Targets.{field_target, target_type, use_target}
 use Rattle.ob_targets.specs.Steps.{begins_designator, FindsField, Follows, IsTypeBefore, StepsTo, Levels, Selects, there, nowhere, of_module, of_nothing, exported, field, no_field, unknown, none, one, to_field, to_elements, to_target, by_guard, at_head, behind}
 
 follows_once : (Leads : Node → Node → Type 0) → ((n x y : Node) → Leads n x → Leads n y → x ≡ y) → (o a b : DesignatorType) → Follows Leads o a → Follows Leads o b → a ≡ b
@@ -61,7 +61,7 @@ module _ (w : World) where
       cc
 
   pub knows_once : (i : ℕ) (a b : DesignatorType) → IsTypeBefore w i a → IsTypeBefore w i b → a ≡ b
-  knows_once i a b (at_head {s = s} p first) (at_head {s = t} q other) = ap (λ (v : Selector). target_type w (used_target w v.of)) (one_selector i s t p q)
+  knows_once i a b (at_head {s = s} p first) (at_head {s = t} q other) = ap (λ (v : Selector). target_type w (use_target w v.of)) (one_selector i s t p q)
   knows_once i a b (at_head {s = s} p first) (behind {i = j} {t = t} before q other known leads) = absurd (begins_or_not (suc j) s t p q first other)
   knows_once i a b (behind {i = j} {t = t} before q other known leads) (at_head {s = s} p first) = absurd (begins_or_not (suc j) s t p q first other)
   knows_once i a b (behind {i = j} {s = s} {o = o} at_s p first known leads) (behind {s = t} {o = u} at_t q other knows led) =

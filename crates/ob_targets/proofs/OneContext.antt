@@ -11,7 +11,7 @@ use Rattle.ob_targets.specs.SyntaxPositionKinds.{HasSyntaxPosition, SyntaxPositi
 use Rattle.ob_targets.specs.SyntaxPositionKinds as contexts
 
 abbrev context_of : Role → SyntaxPositionKind
-context_of (Declares starred) = contexts.Declaration
+context_of (Declares is_exported) = contexts.Declaration
 context_of Aliases = contexts.Declaration
 context_of Imports = contexts.ImportedName
 context_of Uses = contexts.Use
@@ -44,8 +44,8 @@ module _ (m : Module) (k : ℕ) where
   role_of c (contexts.selected s h e) = at Selects k (each_one (OfSelector P) (rows_of m).selectors s (module_roles m).4 h k e) refl
   role_of c (contexts.second u h e) = at Selects k ((each_one (OfUse P) (rows_of m).uses u (module_roles m).3 h).1 k e) refl
 
-pub one_syntax_position : (m : Module) (k : ℕ) (c d : SyntaxPositionKind) → HasSyntaxPosition (rows_of m) k c → HasSyntaxPosition (rows_of m) k d → c ≡ d
-one_syntax_position m k c d h i =
+pub syntax_position_is_unique : (m : Module) (k : ℕ) (c d : SyntaxPositionKind) → HasSyntaxPosition (rows_of m) k c → HasSyntaxPosition (rows_of m) k d → c ≡ d
+syntax_position_is_unique m k c d h i =
     let a = role_of m k c h in
     let b = role_of m k d i in
     let both : Some a.0 ≡ Some b.0 = sym a.1 ∙ b.1 in

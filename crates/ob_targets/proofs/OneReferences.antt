@@ -2,8 +2,8 @@
 use Rattle.std.proofs.Common.{◌≡◌, ℕ, List, [], ◌∷◌, length, map, refl, sym, ap, ap₂, ◌∙◌, subst}
 use Rattle.std.specs.List.{All}
 use Rattle.std.proofs.lemmas.List.Elements.{All-head, All-tail}
-use Rattle.ob_types.specs.World.{World}
-use Rattle.ob_targets.specs.declared.target.Reference.{Reference}
+use Rattle.ob_view.specs.World.{World}
+use Rattle.ob_view.specs.declared.target.Reference.{Reference}
 use Rattle.ob_targets.specs.Refers.{AreReferences, Refers}
 use Rattle.ob_targets.proofs.Referred.{role_once, target_once}
 
@@ -31,5 +31,5 @@ module _ (w : World) where
       (same_reference r s first (All-head IsOfWorld r rs a) (All-head IsOfWorld s ss b))
       (same_references rs ss rest (All-tail IsOfWorld r rs a) (All-tail IsOfWorld s ss b))
 
-  pub one_references : (rs ss : List Reference) → AreReferences w rs → AreReferences w ss → rs ≡ ss
-  one_references rs ss a b = same_references rs ss (a.numbers ∙ sym b.numbers) a.each b.each
+  pub references_are_unique : (rs ss : List Reference) → AreReferences w rs → AreReferences w ss → rs ≡ ss
+  references_are_unique rs ss a b = same_references rs ss (a.numbers ∙ sym b.numbers) a.each b.each

@@ -3,14 +3,14 @@ use Rattle.std.proofs.Common.{◌≡◌, ℕ, Some, false, refl, sym, ap, ◌∙
 use Rattle.std.specs.Prelude.{slice_get}
 use Rattle.module_table.specs.declared.rows.End.{End}
 use Rattle.module_table.specs.declared.rows.Used.{Used}
-use Rattle.ob_types.specs.World.{World}
+use Rattle.ob_view.specs.World.{World}
 use Rattle.ob_targets.specs.declared.designator_type.DesignatorType.{DesignatorType}
 use Rattle.ob_targets.specs.declared.syntax_position.SyntaxPosition.{SyntaxPosition}
 use Rattle.ob_targets.specs.declared.syntax_position.SyntaxPosition.TheVariants as syntax_positions
-use Rattle.ob_targets.specs.declared.target.Target.{Target}
-use Rattle.ob_targets.specs.declared.target.Target.TheVariants as targets
+use Rattle.ob_view.specs.declared.target.Target.{Target}
+use Rattle.ob_view.specs.declared.target.Target.TheVariants as targets
 use Rattle.ob_targets.specs.SyntaxPosition.{syntax_position}
-use Rattle.ob_targets.specs.Targets.{end_target, is_written, second_target, use_role, used_target}
+use Rattle.ob_targets.specs.Targets.{end_target, is_written, qualident_member_target, use_role, use_target}
 use Rattle.ob_targets.specs.Steps.{IsTypeBefore, Selects}
 use Rattle.ob_targets.specs.Refers.{Refers, own_name, item, declaration, end, used, selected, second, nowhere}
 use Rattle.ob_targets.proofs.Followed.{knows_once, selects_once}
@@ -29,7 +29,7 @@ module _ (w : World) where
   record SecondStands (k at : ℕ) (t : Target) : Type 0 where
     row : Used
     there : slice_get w.rows.uses at ≡ Some row
-    is : t ≡ second_target w k (used_target w row.number)
+    is : t ≡ qualident_member_target w k (use_target w row.number)
 
   -- the target of an identifier with this syntactic position
   Stands : ℕ → SyntaxPosition → Target → Type 0
@@ -37,12 +37,12 @@ module _ (w : World) where
   Stands k (syntax_positions.Item at) t = t ≡ targets.«Module» at
   Stands k (syntax_positions.Declaration at) t = t ≡ targets.Declared k
   Stands k (syntax_positions.End at) t = EndStands at t
-  Stands k (syntax_positions.Use at) t = t ≡ used_target w k
+  Stands k (syntax_positions.Use at) t = t ≡ use_target w k
   Stands k (syntax_positions.Selected at) t = SelectedStands k at t
-  Stands k (syntax_positions.Second at) t = SecondStands k at t
+  Stands k (syntax_positions.QualidentMember at) t = SecondStands k at t
   Stands k syntax_positions.Nowhere t = t ≡ targets.Unresolved
 
-  -- and its role
+  -- the role of an identifier with this syntactic position and this target
   role : ℕ → SyntaxPosition → Target → ℕ
   role k syntax_positions.OwnName t = 1
   role k (syntax_positions.Item at) t = 2
@@ -50,7 +50,7 @@ module _ (w : World) where
   role k (syntax_positions.End at) t = 0
   role k (syntax_positions.Use at) t = use_role w t (is_written w.rows k)
   role k (syntax_positions.Selected at) t = use_role w t (is_written w.rows k)
-  role k (syntax_positions.Second at) t = use_role w t false
+  role k (syntax_positions.QualidentMember at) t = use_role w t false
   role k syntax_positions.Nowhere t = 0
 
   stands : (k : ℕ) (t : Target) (r : ℕ) → Refers w k t r → Stands k (syntax_position w.rows k) t
@@ -90,7 +90,7 @@ module _ (w : World) where
   second_once k at t u a b =
       let e : Some a.row ≡ Some b.row = sym a.there ∙ b.there in
       let is : a.row ≡ b.row = cc in
-      a.is ∙ ap (λ (v : Used). second_target w k (used_target w v.number)) is ∙ sym b.is
+      a.is ∙ ap (λ (v : Used). qualident_member_target w k (use_target w v.number)) is ∙ sym b.is
 
   stands_once : (k : ℕ) (s : SyntaxPosition) (t u : Target) → Stands k s t → Stands k s u → t ≡ u
   unfolding Stands
@@ -100,7 +100,7 @@ module _ (w : World) where
   stands_once k (syntax_positions.End at) t u a b = end_once at t u a b
   stands_once k (syntax_positions.Use at) t u a b = a ∙ sym b
   stands_once k (syntax_positions.Selected at) t u a b = selected_once k at t u a b
-  stands_once k (syntax_positions.Second at) t u a b = second_once k at t u a b
+  stands_once k (syntax_positions.QualidentMember at) t u a b = second_once k at t u a b
   stands_once k syntax_positions.Nowhere t u a b = a ∙ sym b
 
   pub target_once : (k : ℕ) (t u : Target) (r s : ℕ) → Refers w k t r → Refers w k u s → t ≡ u

@@ -43,12 +43,12 @@ use Rattle.ob_scope.proofs.Placing.{declarer_found}
 use Rattle.type_graph.specs.declared.shape.Shape.TheVariants as shapes
 use Rattle.ob_types.specs.declared.nodes.Named.TheVariants as named
 use Rattle.ob_types.specs.declared.nodes.Node.TheVariants as nodes
-use Rattle.ob_types.specs.Shapes.{TypeShape, is_type, known, may_mean, resolve_imported_name, type_if_visible, visible_type, declared_type_shape}
-use Rattle.ob_types.specs.World.{World, imported_declaration, named_declaration, aliased_module_name}
+use Rattle.ob_types.specs.Shapes.{TypeShape, is_type, shape_or_unknown, may_mean, resolve_imported_name, type_if_visible, visible_type, declared_type_shape}
+use Rattle.ob_view.specs.World.{World, imported_declaration, named_declaration, aliased_module_name}
 use Rattle.ob_targets.specs.ScopeRule.{IsBlockUse, MeansAlias, MeansType}
 use Rattle.ob_targets.proofs.Aliased.{alias_before, aliased}
 use Rattle.ob_targets.specs.SyntaxPositionKinds as contexts
-use Rattle.ob_targets.proofs.OneContext.{one_syntax_position}
+use Rattle.ob_targets.proofs.OneContext.{syntax_position_is_unique}
 
 -- ---- lists
 
@@ -134,7 +134,7 @@ module _ (bytes : List ℕ) (ts : List Token) (m : Module) (s : ModuleScopes) (u
 
     never_both : (row : Declared) → Contains rows.declared row → row.number ≡ u.number → ⊥
     never_both row has same =
-        let e = one_syntax_position m u.number contexts.Declaration contexts.Use (contexts.declared row has same) (contexts.used u is.is_use refl) in cc
+        let e = syntax_position_is_unique m u.number contexts.Declaration contexts.Use (contexts.declared row has same) (contexts.used u is.is_use refl) in cc
 
     -- the member of an entry that declares the name
     abbrev member : Declared → DeclGroup → Member
@@ -296,9 +296,9 @@ module _ (bytes : List ℕ) (ts : List Token) (m : Module) (s : ModuleScopes) (u
       unfolding named_declaration
       placed = ap (option_and_then (λ (x : ModuleInterface). index_of x None name)) there
 
-      denoted : resolve_imported_name w i start u.is_target (Simple name) ≡ known (option_and_then seen_at (index_of seen None name))
+      denoted : resolve_imported_name w i start u.is_target (Simple name) ≡ shape_or_unknown (option_and_then seen_at (index_of seen None name))
       unfolding resolve_imported_name
-      denoted = ap (λ (o : Option ℕ). known (option_and_then (visible_type w i start u.is_target) o)) placed ∙ ap (λ (f : ℕ → Option TypeShape). known (option_and_then f (index_of seen None name))) (λ j d. type_at d j)
+      denoted = ap (λ (o : Option ℕ). shape_or_unknown (option_and_then (visible_type w i start u.is_target) o)) placed ∙ ap (λ (f : ℕ → Option TypeShape). shape_or_unknown (option_and_then f (index_of seen None name))) (λ j d. type_at d j)
 
       -- the declaration that the name denotes
       record IsDenoted (d : ℕ) : Type 0 where
@@ -311,21 +311,21 @@ module _ (bytes : List ℕ) (ts : List Token) (m : Module) (s : ModuleScopes) (u
       one_place : (p d : ℕ) → shape_at p ≡ shape_at d → p ≡ d
       one_place p d e = cc
 
-      by_type : (p d : ℕ) (it : Declaration) (b : Bool) → is_type it.decl_kind ≡ b → index_of seen None name ≡ Some p → declaration_at seen p ≡ Some it → may_mean start u.is_target it ≡ true → known (if b then Some (shape_at p) else None) ≡ shape_at d → IsDenoted d
+      by_type : (p d : ℕ) (it : Declaration) (b : Bool) → is_type it.decl_kind ≡ b → index_of seen None name ≡ Some p → declaration_at seen p ≡ Some it → may_mean start u.is_target it ≡ true → shape_or_unknown (if b then Some (shape_at p) else None) ≡ shape_at d → IsDenoted d
       by_type p d it false e place at may_be is_shape = absurd cc
       by_type p d it true e place at may_be is_shape =
           let same = one_place p d is_shape in
           record { it = it; place = place ∙ ap (λ (n : ℕ). Some n) same; at = ap (declaration_at seen) (sym same) ∙ at; may_be = may_be; a_type = e }
 
-      by_place : (p d : ℕ) (it : Declaration) (b : Bool) → may_mean start u.is_target it ≡ b → index_of seen None name ≡ Some p → declaration_at seen p ≡ Some it → known (if b then declared_type_shape i p it else None) ≡ shape_at d → IsDenoted d
+      by_place : (p d : ℕ) (it : Declaration) (b : Bool) → may_mean start u.is_target it ≡ b → index_of seen None name ≡ Some p → declaration_at seen p ≡ Some it → shape_or_unknown (if b then declared_type_shape i p it else None) ≡ shape_at d → IsDenoted d
       by_place p d it false e place at is_shape = absurd cc
       by_place p d it true e place at is_shape = by_type p d it (is_type it.decl_kind) refl place at e is_shape
 
-      by_declaration : (p d : ℕ) (o : Option Declaration) → declaration_at seen p ≡ o → index_of seen None name ≡ Some p → known (option_and_then (type_if_visible i p start u.is_target) o) ≡ shape_at d → IsDenoted d
+      by_declaration : (p d : ℕ) (o : Option Declaration) → declaration_at seen p ≡ o → index_of seen None name ≡ Some p → shape_or_unknown (option_and_then (type_if_visible i p start u.is_target) o) ≡ shape_at d → IsDenoted d
       by_declaration p d None at place is_shape = absurd cc
       by_declaration p d (Some it) at place is_shape = by_place p d it (may_mean start u.is_target it) refl place at is_shape
 
-      by_name : (d : ℕ) (o : Option ℕ) → index_of seen None name ≡ o → known (option_and_then seen_at o) ≡ shape_at d → IsDenoted d
+      by_name : (d : ℕ) (o : Option ℕ) → index_of seen None name ≡ o → shape_or_unknown (option_and_then seen_at o) ≡ shape_at d → IsDenoted d
       by_name d None place is_shape = absurd cc
       by_name d (Some p) place is_shape = by_declaration p d (declaration_at seen p) refl place is_shape
 
@@ -345,12 +345,12 @@ module _ (bytes : List ℕ) (ts : List Token) (m : Module) (s : ModuleScopes) (u
             there = h.at ∙ ap (λ (x : Declaration). Some x) first.exact;
           }
 
-      shape_is : (d : ℕ) (it : Declaration) → may_mean start u.is_target it ≡ true → is_type it.decl_kind ≡ true → known (type_if_visible i d start u.is_target it) ≡ shape_at d
+      shape_is : (d : ℕ) (it : Declaration) → may_mean start u.is_target it ≡ true → is_type it.decl_kind ≡ true → shape_or_unknown (type_if_visible i d start u.is_target it) ≡ shape_at d
       shape_is d it may_be a_type = rw (may_be, a_type) refl
 
       to_shape : (d : ℕ) → MeansType bytes ts rows s u.number d → resolve_imported_name w i start u.is_target (Simple name) ≡ shape_at d
       to_shape d h =
-          denoted ∙ ap (λ (o : Option ℕ). known (option_and_then seen_at o)) h.place ∙ ap (λ (o : Option Declaration). known (option_and_then (type_if_visible i d start u.is_target) o)) h.there
+          denoted ∙ ap (λ (o : Option ℕ). shape_or_unknown (option_and_then seen_at o)) h.place ∙ ap (λ (o : Option Declaration). shape_or_unknown (option_and_then (type_if_visible i d start u.is_target) o)) h.there
           ∙ shape_is d (declaration bytes ts rows.parts h.row h.by) (may h.row h.by h.declares h.a_type h.means) (ap is_type h.a_type)
 
       pub alone : (d : ℕ) → (resolve_imported_name w i start u.is_target (Simple name) ≡ shape_at d) ↔ MeansType bytes ts rows s u.number d

@@ -53,7 +53,7 @@ same a k e = eq-eqb a k e
 
 module _ (rows : Rows) (k : ℕ) where
   abbrev by_second : SyntaxPosition
-  by_second = first (is_second k) syntax_positions.Second rows.uses syntax_positions.Nowhere
+  by_second = first (is_second k) syntax_positions.QualidentMember rows.uses syntax_positions.Nowhere
 
   abbrev by_selected : SyntaxPosition
   by_selected = first (is_selected k) syntax_positions.Selected rows.selectors by_second
@@ -81,7 +81,7 @@ module _ (rows : Rows) (k : ℕ) where
       let d = none_first (is_end_name k) syntax_positions.End rows.ends by_use (λ n f. cc) c.1 in
       let u = none_first (is_use k) syntax_positions.Use rows.uses by_selected (λ n f. cc) d.1 in
       let s = none_first (is_selected k) syntax_positions.Selected rows.selectors by_second (λ n f. cc) u.1 in
-      let t = none_first (is_second k) syntax_positions.Second rows.uses syntax_positions.Nowhere (λ n f. cc) s.1 in
+      let t = none_first (is_second k) syntax_positions.QualidentMember rows.uses syntax_positions.Nowhere (λ n f. cc) s.1 in
       elim named [
         | names.own is ↦ not_own is
         | names.imported i among is ↦ b.0 i among (same i.imported k is)

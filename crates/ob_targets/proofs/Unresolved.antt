@@ -3,11 +3,12 @@ use Rattle.std.proofs.Common.{◌≡◌, ℕ, zero, suc, ◌⊎◌, inl, inr, Li
 use Rattle.std.specs.List.{Contains, filter}
 use Rattle.std.specs.Prelude.{◌↔◌}
 use Rattle.std.proofs.lemmas.List.Elements.{All-contains}
-use Rattle.ob_types.specs.World.{World}
-use Rattle.ob_targets.specs.declared.target.Reference.{Reference}
-use Rattle.ob_targets.specs.declared.target.Target.{Target}
-use Rattle.ob_targets.specs.declared.target.Target.TheVariants as targets
-use Rattle.ob_targets.specs.Refers.{identifiers, is_unresolved, unresolved, AreReferences, Refers, DenotesNothing}
+use Rattle.ob_view.specs.World.{World}
+use Rattle.ob_view.specs.declared.target.Reference.{Reference}
+use Rattle.ob_view.specs.declared.target.Target.{Target}
+use Rattle.ob_view.specs.declared.target.Target.TheVariants as targets
+use Rattle.ob_targets.specs.Refers.{identifiers, unresolved, AreReferences, Refers, DenotesNothing}
+use Rattle.ob_view.specs.TargetKinds.{is_unresolved}
 use Rattle.ob_targets.proofs.Referred.{target_once}
 
 in_head : {X : Type 0} (x : X) (xs : List X) → Contains (x ∷ xs) x
@@ -20,13 +21,13 @@ head_or_tail : {X : Type 0} (y : X) (xs : List X) (x : X) → Contains (y ∷ xs
 head_or_tail y xs x (zero, l, e) = inl e
 head_or_tail y xs x (suc k, l, e) = inr (k, omega arith, e)
 
--- a reference with this number
+-- the list has a reference with this token number
 record HasNumber (rs : List Reference) (k : ℕ) : Type 0 where
   row : Reference
   among : Contains rs row
   is : row.number ≡ k
 
--- and one that denotes nothing
+-- the list has a reference with this token number that denotes nothing
 record HasNothing (rs : List Reference) (k : ℕ) : Type 0 where
   row : Reference
   among : Contains rs row
@@ -49,7 +50,7 @@ nothing_is (targets.«Module» at) e = absurd (let f : false ≡ true = e in cc)
 nothing_is targets.Predeclared e = absurd (let f : false ≡ true = e in cc)
 nothing_is targets.Unresolved e = refl
 
--- the numbers of the references that denote nothing, if the first does or doesn't
+-- the numbers of the references that denote nothing in the list `r ∷ rs`; the flag is whether `r` denotes nothing
 abbrev with_first : Bool → Reference → List Reference → List ℕ
 with_first b r rs = map (λ (x : Reference). x.number) (cond b (r ∷ filter (λ (x : Reference). is_unresolved x.target) rs) (filter (λ (x : Reference). is_unresolved x.target) rs))
 
@@ -67,7 +68,7 @@ found : (rs : List Reference) (k : ℕ) → Contains (unresolved rs) k → HasNo
 found [] k (i, l, e) = absurd (omega arith)
 found (r ∷ rs) k c = found_step r rs k (is_unresolved r.target) refl (λ d. found rs k d) c
 
--- and conversely
+-- the number of a reference that denotes nothing is among the unresolved numbers
 kept_first : (r : Reference) (rs : List Reference) (b : Bool) → true ≡ b → Contains (with_first b r rs) r.number
 kept_first r rs true e = in_head r.number (unresolved rs)
 kept_first r rs false e = absurd (cc)

@@ -1,4 +1,4 @@
--- What a name in a module's block denotes by the module's own scopes, in terms of the module's interface.
+-- What a type name in a module's block means by the scopes of the module itself, expressed by indices of the module's interface.
 use Rattle.std.specs.Prelude.{◌≡◌, ℕ, List, Some, None, Contains, map}
 use Rattle.ob_scan.specs.declared.token.Token.{Token}
 use Rattle.ob_scan.specs.Spelling.{Spells}
@@ -17,7 +17,8 @@ use Rattle.ob_interface.specs.OwnTable.{Declares}
 use Rattle.ob_interface.specs.Placed.{declaration_at, index_of}
 use Rattle.scopes.specs.Scoped.{AreScopes, ModuleScopes}
 
--- a use in the block of an accepted module: the bytes spell the tokens, the tree derives them, and the scopes are those of the tree's table
+-- `u` is a use in the block of an accepted module: the bytes spell the tokens `ts`, `m` is the syntax tree of the tokens, and `s` has the
+-- scopes of the module table of `m`
 pub record IsBlockUse (bytes : List ℕ) (ts : List Token) (m : Module) (s : ModuleScopes) (u : Used) : Type 0 where
   pub spelled : Spells bytes ts
   pub derives : Derives (map (λ (t : Token). t.kind) ts) m
@@ -26,7 +27,8 @@ pub record IsBlockUse (bytes : List ℕ) (ts : List Token) (m : Module) (s : Mod
   pub outer : u.block ≡ 0
 
 module _ (bytes : List ℕ) (ts : List Token) (rows : Rows) (s : ModuleScopes) where
-  -- by the module's own scopes the use of this token means a type of the block, which the interface declares at this index
+  -- by the scopes of the module itself, the use at token `used` means a type declaration in the module's block. In the module's interface
+  -- this declaration has the index `d`
   pub record MeansType (used d : ℕ) : Type 0 where
     pub row : Declared
     pub by : DeclGroup
@@ -36,7 +38,7 @@ module _ (bytes : List ℕ) (ts : List Token) (rows : Rows) (s : ModuleScopes) w
     pub place : index_of (interface_of bytes ts rows) None (text_at bytes ts used) ≡ Some d
     pub there : declaration_at (interface_of bytes ts rows) d ≡ Some (declaration bytes ts rows.parts row by)
 
-  -- by the module's own scopes the use of this token means an alias of the module of this name
+  -- by the scopes of the module itself, the use at token `used` means the alias of an import item that names the module `name`
   pub record MeansAlias (used : ℕ) (name : List ℕ) : Type 0 where
     pub item : Import
     pub among : Contains rows.imports item

@@ -14,19 +14,19 @@ use Rattle.module_table.specs.Parts.{Rows}
 use Rattle.ob_targets.specs.declared.syntax_position.SyntaxPosition.{SyntaxPosition}
 use Rattle.ob_targets.specs.declared.syntax_position.SyntaxPosition.TheVariants as syntax_positions
 
--- whether the optional token number is this one
+-- whether the token number in the option is `k`; false if there is none
 abbrev pub is_token : ℕ → Option ℕ → Bool
 is_token k None = false
 is_token k (Some n) = n == k
 
--- the token number of the name that a selector selects, if the selector is a dot and a name
+-- the token number of the name after the dot of a selector; None for a selector of another kind
 abbrev pub name_of : Step → Option ℕ
 name_of (steps.Field k) = Some k
 name_of (steps.Elements n) = None
 name_of steps.Target = None
 name_of (steps.Arguments t) = None
 
--- whether this token is the alias of the import item
+-- whether token `k` is the alias of the import item
 abbrev pub is_alias : ℕ → Import → Bool
 is_alias k i = i.alias == k
 
@@ -38,11 +38,11 @@ is_imported_name k i = i.imported == k
 abbrev pub is_declared : ℕ → Declared → Bool
 is_declared k d = d.number == k
 
--- whether this token is the name after the END of the entry
+-- whether token `k` is the name after END that this entry of the module table has
 abbrev pub is_end_name : ℕ → End → Bool
 is_end_name k e = e.number == k
 
--- whether this token is the use of the entry
+-- whether token `k` is the identifier of this use
 abbrev pub is_use : ℕ → Used → Bool
 is_use k u = u.number == k
 
@@ -50,17 +50,17 @@ is_use k u = u.number == k
 abbrev pub is_selected : ℕ → Selector → Bool
 is_selected k s = is_token k (name_of s.step)
 
--- whether this token is the name after a dot that follows the use in a qualident
+-- whether token `k` is the second identifier of the qualident whose first identifier is this use
 abbrev pub is_second : ℕ → Used → Bool
 is_second k u = is_token k u.member
 
--- the position that the index of the first entry for which the test holds gives, or else the other position
+-- the syntactic position that `at` gives the index of the first entry for which the test holds, or `otherwise` if it holds for none
 abbrev pub first : {X : Type 0} → (X → Bool) → (ℕ → SyntaxPosition) → List X → SyntaxPosition → SyntaxPosition
 first stands at rows otherwise = option_map_or at (position stands rows) otherwise
 
 -- the syntactic position of a token, by the first of these kinds of entries that has it, or else the given position. By the law
--- one_syntax_position only one kind has it, with two exceptions: an import item's alias is also declared, and both kinds of names after a
--- dot may have it
+-- `syntax_position_is_unique` only one kind has it, with two exceptions: an import item's alias is also a declared identifier, and a name
+-- after a dot may be that of a selector and of a qualident
 abbrev pub syntax_position_or : Rows → ℕ → SyntaxPosition → SyntaxPosition
 syntax_position_or rows k otherwise = if k == module_name_token then syntax_positions.OwnName else
     first (is_alias k) syntax_positions.Item rows.imports (
@@ -69,8 +69,8 @@ syntax_position_or rows k otherwise = if k == module_name_token then syntax_posi
     first (is_end_name k) syntax_positions.End rows.ends (
     first (is_use k) syntax_positions.Use rows.uses (
     first (is_selected k) syntax_positions.Selected rows.selectors (
-    first (is_second k) syntax_positions.Second rows.uses otherwise))))))
+    first (is_second k) syntax_positions.QualidentMember rows.uses otherwise))))))
 
--- the syntactic position of a token, Nowhere if no entry has it
+-- the syntactic position of token `k`; Nowhere if no entry of the module table has the token
 abbrev pub syntax_position : Rows → ℕ → SyntaxPosition
 syntax_position rows k = syntax_position_or rows k syntax_positions.Nowhere

@@ -9,8 +9,8 @@ use Rattle.module_table.specs.declared.rows.Used.{Used}
 use Rattle.module_table.specs.Tables.{module_name_token}
 use Rattle.module_table.specs.Parts.{Rows}
 
--- a token's context: the module's own name, the name after := in an import item, a declared identifier, the name after END, a name that
--- is looked up, or a name after a dot
+-- the context of a token in the module table. The token is the module's own name, the name after := in an import item, or a declared
+-- identifier or alias. Or it is the name after END, a name that is looked up, or a name after a dot
 pub data SyntaxPositionKind : Type 0 where
   OwnName : SyntaxPositionKind
   ImportedName : SyntaxPositionKind
@@ -19,7 +19,8 @@ pub data SyntaxPositionKind : Type 0 where
   Use : SyntaxPositionKind
   Member : SyntaxPositionKind
 
--- an entry of the table names this token in this context; an import item without := has one token, its alias, which is declared
+-- an entry of the module table has token `k` in this context. In an import item without := the alias is the only token; its context is
+-- Declaration
 pub data HasSyntaxPosition (rows : Rows) (k : ℕ) : SyntaxPositionKind → Type 0 where
   own : k ≡ module_name_token → HasSyntaxPosition rows k OwnName
   imported : (i : Import) → Contains rows.imports i → i.imported ≡ k → i.alias ≢ k → HasSyntaxPosition rows k ImportedName

@@ -2,13 +2,13 @@
 
 use ob_types::Node;
 
-/// The designator type of a prefix of a designator, its head with its first selectors: what the prefix is known to denote.
+/// What a prefix of a designator is known to denote. A prefix is the designator's head with its first selectors, or with none.
 #[derive(Clone, Copy, Drop)]
 pub enum DesignatorType {
-    /// Neither a module nor a type.
+    /// It isn't known that the prefix denotes a module, or a value of some type.
     Nothing,
-    /// The module that the import item at this index names.
+    /// The prefix denotes the module that the import item at this index names.
     Module(u32),
-    /// A value of this type.
+    /// The prefix denotes a value of this type.
     Typed(Node),
 }

@@ -4,6 +4,7 @@ ghost use Rattle.std.specs.List.{list_any};
 ghost use Rattle.std.specs.Str.{bytes_eq};
 ghost use Rattle.ob_targets.specs.Predeclared.{basic_types, functions, is_predeclared, procedures};
 
+/// Whether this is the name of one of the six basic types, which are predeclared.
 fn is_basic_type(name: &[u8]) -> bool
     ensures { result ≡ list_any (bytes_eq name.now) basic_types }
 {
@@ -15,6 +16,7 @@ fn is_basic_type(name: &[u8]) -> bool
         || name == b"SET".as_slice()
 }
 
+/// Whether this is the name of one of the ten predeclared function procedures.
 fn is_predeclared_function(name: &[u8]) -> bool
     ensures { result ≡ list_any (bytes_eq name.now) functions }
 {
@@ -30,6 +32,7 @@ fn is_predeclared_function(name: &[u8]) -> bool
         || name == b"CHR".as_slice()
 }
 
+/// Whether this is the name of one of the eight predeclared proper procedures.
 fn is_predeclared_procedure(name: &[u8]) -> bool
     ensures { result ≡ list_any (bytes_eq name.now) procedures }
 {

@@ -1,7 +1,7 @@
 //! Lookups of inherited fields, compared with the generated source: in seeded forests of records, and in cycles of bases.
 
 use crate::readings::table_in;
-use ob_interface::{Interface, exports_of};
+use ob_interface::{Interface, read_interface};
 use ob_scan::laws::tokens_in_text;
 use ob_scan::{Token, scan};
 use ob_scope::scopes_from;
@@ -48,7 +48,7 @@ struct DrawnField {
 #[derive(Drop)]
 struct DrawnRecord {
     at: u32,
-    above: Option<u32>,
+    base_of_record: Option<u32>,
     fields: Vec<DrawnField>,
 }
 
@@ -68,7 +68,7 @@ impl Seed {
 }
 
 /// The record that is the base of a record.
-fn above(seed: &mut Seed, shape: Shape, record: u32) -> Option<u32> {
+fn base_of_record(seed: &mut Seed, shape: Shape, record: u32) -> Option<u32> {
     match shape {
         Shape::Tree => record
             .checked_sub(1)
@@ -80,7 +80,7 @@ fn above(seed: &mut Seed, shape: Shape, record: u32) -> Option<u32> {
 }
 
 /// The offset of what is written next.
-fn here(text: &String) -> u32 {
+fn end_offset(text: &String) -> u32 {
     u32::try_from(text.len()).unwrap_or(u32::MAX)
 }
 
@@ -99,7 +99,7 @@ fn draw_fields(
             let exported = seed.below(3) > 0;
             fields.push(DrawnField {
                 name,
-                at: here(text),
+                at: end_offset(text),
                 exported,
             })?;
             let mark = if exported { "*" } else { "" };
@@ -117,15 +117,19 @@ fn draw_record(
     shape: Shape,
     record: u32,
 ) -> Result<DrawnRecord, AllocError> {
-    let at = here(text);
+    let at = end_offset(text);
     write!(text, "T{record}* = RECORD ")?;
-    let above = above(seed, shape, record);
-    if let Some(base) = above {
+    let base_of_record = base_of_record(seed, shape, record);
+    if let Some(base) = base_of_record {
         write!(text, "(P{base}) ")?;
     }
     let fields = draw_fields(alloc, text, seed)?;
     text.push_str(" END; ")?;
-    Ok(DrawnRecord { at, above, fields })
+    Ok(DrawnRecord {
+        at,
+        base_of_record,
+        fields,
+    })
 }
 
 /// Writes a module with records, whose bases are pointers to others.
@@ -152,7 +156,7 @@ fn draw_variables(alloc: Global, text: &mut String) -> Result<Vec<u32>, AllocErr
     text.push_str("MODULE M; IMPORT N; VAR ")?;
     let mut places = Vec::new(alloc);
     for record in 0..RECORDS {
-        places.push(here(text))?;
+        places.push(end_offset(text))?;
         write!(text, "x{record}: N.T{record}; ")?;
     }
     text.push_str("END M.")?;
@@ -178,32 +182,43 @@ fn declared_field(record: &DrawnRecord, name: u32, from_outside: bool) -> Option
 }
 
 /// The offset of the field that a name denotes in a record, by the source: its own, or else that of a base record.
-fn meant(drawn: &[DrawnRecord], record: u32, name: u32, from_outside: bool) -> Option<u32> {
+fn expected_field(
+    drawn: &[DrawnRecord],
+    record: u32,
+    name: u32,
+    from_outside: bool,
+) -> Option<u32> {
     let mut record = record;
     for _ in 0..RECORDS {
         let it = drawn.get(record as usize)?;
         if let Some(at) = declared_field(it, name, from_outside) {
             return Some(at);
         }
-        record = it.above?;
+        record = it.base_of_record?;
     }
     None
 }
 
 /// The offset of the identifier of the field that a lookup finds.
-fn offset_of(types: &Types, field: Field) -> Option<u32> {
+fn field_offset(types: &Types, field: Field) -> Option<u32> {
     match field {
-        Field::Own(token) => Some(types.tokens().get(token as usize)?.start),
+        Field::Own(token) => Some(types.view().tokens().get(token as usize)?.start),
         Field::Other {
             reached,
             declaration,
-        } => Some(types.interface(reached)?.declaration_at(declaration)?.start),
+        } => Some(
+            types
+                .view()
+                .interface(reached)?
+                .declaration_at(declaration)?
+                .start,
+        ),
     }
 }
 
 /// The type of the declaration at an offset.
 fn type_at(types: &Types, at: u32) -> Option<Node> {
-    let token = types.tokens().iter().position(|it| it.start == at)?;
+    let token = types.view().tokens().iter().position(|it| it.start == at)?;
     types.type_expr(u32::try_from(token).ok()?)
 }
 
@@ -226,7 +241,7 @@ fn compare_name<'a, R: Abort>(
 ) -> Result<(), Fail> {
     let node = node.copied().flatten().ok_or("no type")?;
     let at = match finder.find_field(node, name.as_bytes())? {
-        Some(field) => offset_of(finder.graph(), field),
+        Some(field) => field_offset(finder.graph(), field),
         None => None,
     };
     assert_eq!(rt; at, want, "{name}");
@@ -251,7 +266,7 @@ fn compare_record<'a, R: Abort>(
 ) -> Result<(), Fail> {
     for (at, name) in names.iter().enumerate() {
         let node = compared.nodes.get(record as usize);
-        let want = meant(
+        let want = expected_field(
             compared.drawn,
             record,
             u32::try_from(at)?,
@@ -306,9 +321,9 @@ fn compare<R: Abort + AllocGlobal>(
         from_outside,
     };
     let (fields, absent) = (names(alloc, "f", NAMES)?, names(alloc, "w", ABSENT)?);
-    let mut climbing = Finder::new(alloc, types, types.bytes(), 0);
+    let mut climbing = Finder::new(alloc, types, types.view().bytes(), 0);
     compare_records(rt, &mut climbing, &compared, fields.as_slice())?;
-    let mut hopping = Finder::new(alloc, types, types.bytes(), usize::MAX);
+    let mut hopping = Finder::new(alloc, types, types.view().bytes(), usize::MAX);
     compare_absent(rt, &mut hopping, &compared, absent.as_slice())?;
     compare_records(rt, &mut hopping, &compared, fields.as_slice())
 }
@@ -339,7 +354,7 @@ pub(crate) fn exports(alloc: Global, text: &[u8]) -> Result<Arc<Interface>, Fail
     tokens_in_text();
     let tokens = scan(alloc, text)?;
     let table = table_in(alloc, text, &tokens)?;
-    let exports = exports_of(alloc, &table, tokens.as_slice(), text)?;
+    let exports = read_interface(alloc, &table, tokens.as_slice(), text)?;
     Ok(Arc::new(alloc, Interface::new(alloc, exports)?)?)
 }
 

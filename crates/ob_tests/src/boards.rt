@@ -111,7 +111,7 @@ fn lists(alloc: Global, lists: &[&[u32]]) -> Result<Vec<Vec<u32>>, AllocError> {
     Ok(copies)
 }
 
-fn entry_of(alloc: Global, number: u32, name: &str) -> Result<Named, AllocError> {
+fn named_entry(alloc: Global, number: u32, name: &str) -> Result<Named, AllocError> {
     Ok(Named {
         name: String::from_str(alloc, name)?,
         number: Arc::new(alloc, number)?,
@@ -126,7 +126,7 @@ fn append_delivery<T: NamedTree>(
     number: u32,
     name: &str,
 ) -> Result<(), AllocError> {
-    match board.deliver(number, entry_of(alloc, number, name)?) {
+    match board.deliver(number, named_entry(alloc, number, name)?) {
         Ok(()) => description.push_str("taken"),
         Err((fault, _entry)) => write!(description, "{fault:?}"),
     }
@@ -217,6 +217,6 @@ pub(crate) fn describe_board(alloc: Global, steps: &[Step]) -> Result<String, Al
 }
 
 #[test]
-fn boards_go_step_by_step(rt: HostRuntime) -> Result<(), Fail> {
+fn board_steps_have_their_outcomes(rt: HostRuntime) -> Result<(), Fail> {
     check_rows(&rt, ROWS)
 }

@@ -3,11 +3,11 @@ use crate::asked::Asked::Package;
 use crate::asked::{Row, check_rows};
 use crate::readings::table_in;
 use ob_emit::document;
-use ob_emit::laws::names_of_scopes;
+use ob_emit::laws::scoped_names_are_identifiers;
 use ob_scan::laws::tokens_in_text;
 use ob_scan::scan;
 use ob_scope::scopes_from;
-use ob_types::Types;
+use ob_view::View;
 use std::alloc::Global;
 use std::test::Fail;
 
@@ -29,12 +29,12 @@ pub(crate) fn describe_document(
     package_name: &str,
 ) -> Result<String, Fail> {
     tokens_in_text();
-    names_of_scopes();
+    scoped_names_are_identifiers();
     let tokens = scan(alloc, text)?;
     let table = table_in(alloc, text, &tokens)?;
     let scopes = scopes_from(alloc, &table, tokens.as_slice(), text)?;
-    let types = Types::new(alloc, text, tokens.as_slice(), &table, &scopes, &[])?;
-    match document(alloc, "M.Mod", &types, &[], package_name) {
+    let view = View::new(alloc, text, tokens.as_slice(), &table, &scopes, &[])?;
+    match document(alloc, "M.Mod", &view, &[], package_name) {
         Ok(_) => Ok(String::from_str(alloc, "a document")?),
         Err(fault) => Ok(format!(in alloc; "{fault}")?),
     }

@@ -2,7 +2,7 @@
 use crate::asked::Asked::{Found, Seen};
 use crate::asked::{Row, check_rows};
 use crate::readings::table_in;
-use ob_interface::{Interface, Part, TypeExpr, TypeName, exports_of};
+use ob_interface::{Interface, Part, TypeExpr, TypeName, read_interface};
 use ob_scan::laws::tokens_in_text;
 use ob_scan::scan;
 use std::alloc::{AllocError, Global};
@@ -61,7 +61,7 @@ fn interface_of(alloc: Global, text: &[u8]) -> Result<Interface, Fail> {
     let tokens = scan(alloc, text)?;
     tokens_in_text();
     let table = table_in(alloc, text, &tokens)?;
-    let exports = exports_of(alloc, &table, tokens.as_slice(), text)?;
+    let exports = read_interface(alloc, &table, tokens.as_slice(), text)?;
     Ok(Interface::new(alloc, exports)?)
 }
 
@@ -102,7 +102,7 @@ fn append_part(alloc: Global, description: &mut String, part: Part<'_>) -> Resul
 fn describe_parts(alloc: Global, interface: &Interface, place: u32) -> Result<String, AllocError> {
     let mut description = String::new(alloc);
     for at in 0..4 {
-        if let Some(part) = interface.part(place, at) {
+        if let Some(part) = interface.type_part(place, at) {
             append_part(alloc, &mut description, part)?;
         }
     }

@@ -5,6 +5,7 @@ use ob_scan::laws::tokens_in_text;
 use ob_scan::scan;
 use ob_scope::scopes_from;
 use ob_types::{Field, Node, Types};
+use ob_view::View;
 use std::process::Abort;
 use std::test::Fail;
 
@@ -14,15 +15,15 @@ const OTHER: &[u8] = b"MODULE B; TYPE T* = RECORD x*: INTEGER END; END B.";
 /// Token 10, counted from 0, is `y`. Its type expressions have two components: the record, and the type of `y`.
 const OWN: &[u8] = b"MODULE M; IMPORT B; TYPE R = RECORD y: CHAR END; END M.";
 
-fn compare_owners(rt: &impl Abort, types: &Types) {
-    assert_eq!(rt; types.reached().len(), 1);
-    assert_eq!(rt; types.imported_owner(0, 7), Some(0));
-    assert_eq!(rt; types.imported_owner(0, 8), None);
-    assert_eq!(rt; types.imported_owner(1, 7), None);
+fn compare_owners(rt: &impl Abort, view: &View) {
+    assert_eq!(rt; view.reached().len(), 1);
+    assert_eq!(rt; view.imported_owner(0, 7), Some(0));
+    assert_eq!(rt; view.imported_owner(0, 8), None);
+    assert_eq!(rt; view.imported_owner(1, 7), None);
 }
 
 /// Whether it is the first component of the second declaration of the other module.
-fn is_first_part(node: Option<Node>) -> bool {
+fn is_first_component(node: Option<Node>) -> bool {
     match node {
         Some(
             Node::Other {
@@ -36,7 +37,7 @@ fn is_first_part(node: Option<Node>) -> bool {
 }
 
 /// Whether it is the second component of the module's own type expressions.
-fn is_second(node: Option<Node>) -> bool {
+fn is_second_component(node: Option<Node>) -> bool {
     match node {
         Some(Node::Own(part)) => part == 1,
         _ => false,
@@ -48,8 +49,8 @@ fn compare_fields(rt: &impl Abort, types: &Types) {
         reached: 0,
         declaration: 1,
     };
-    assert!(rt; is_first_part(types.type_of_field(there)));
-    assert!(rt; is_second(types.type_of_field(Field::Own(10))));
+    assert!(rt; is_first_component(types.type_of_field(there)));
+    assert!(rt; is_second_component(types.type_of_field(Field::Own(10))));
     assert!(rt; types.type_of_field(Field::Own(9)).is_none());
 }
 
@@ -68,7 +69,7 @@ fn compare<R: Abort + AllocGlobal>(rt: &R) -> Result<(), Fail> {
         &scopes,
         reached.as_slice(),
     )?;
-    compare_owners(rt, &types);
+    compare_owners(rt, types.view());
     compare_fields(rt, &types);
     Ok(())
 }

@@ -17,12 +17,12 @@ use Rattle.ob_tree.proofs.Closed.{IsClosed, closed-is, closed-both, closed-const
 use Rattle.ob_tree.proofs.ClosedExpressions.{closed-expr_list}
 use Rattle.ob_tree.proofs.ClosedStatements.{closed-qualident}
 
-module _ (P : Events → Type 0) (closed : IsClosed P) (declares : (starred : Bool) (n : ℕ) → P (declared starred n)) where
+module _ (P : Events → Type 0) (closed : IsClosed P) (declares : (is_exported : Bool) (n : ℕ) → P (declared is_exported n)) where
   -- ---- parameters
 
   pub closed-identdef : (i : Identdef) → P (identdef_events i)
   unfolding identdef_events
-  closed-identdef i = closed-both P closed (declares i.starred i.name) (closed-so P closed i.starred (closed.a_word kinds.Star))
+  closed-identdef i = closed-both P closed (declares i.is_exported i.name) (closed-so P closed i.is_exported (closed.a_word kinds.Star))
 
   section_held : (s : ParameterSection) → P (section_events s)
   unfolding section_events

@@ -18,7 +18,7 @@ use Rattle.ob_tree.specs.Expressions.{expr_events}
 use Rattle.ob_tree.specs.Statements.{block_events}
 use Rattle.ob_tree.specs.Types.{parameters_events}
 use Rattle.ob_tree.specs.Declaring.{const_events, type_decl_events, variable_events, part, declarations_events, procedure_events, import_events, module_events}
-use Rattle.ob_tree.specs.Derives.{endings_in}
+use Rattle.ob_tree.specs.Derives.{end_names_in}
 use Rattle.ob_tree.proofs.DeclarationLayers.{procedure_shown, declarations_out, procedure_out}
 use Rattle.ob_tree.proofs.Gathers.{Gathers, Without, without, gathered-append, gathered-past, gathered-construct, gathered-each_push}
 use Rattle.ob_tree.proofs.Closed.{IsClosed, closed-both, closed-construct, closed-there, closed-each, closed-separated}
@@ -26,10 +26,10 @@ use Rattle.ob_tree.proofs.ClosedExpressions.{closed-expr}
 use Rattle.ob_tree.proofs.ClosedStatements.{closed-block}
 use Rattle.ob_tree.proofs.ClosedTypes.{closed-identdef, closed-parameters, closed-type, closed-var}
 
-one_more : (m : TreeEvent) (ms : Events) → endings_in (m ∷ ms) ≡ endings_in (m ∷ []) ++ endings_in ms
+one_more : (m : TreeEvent) (ms : Events) → end_names_in (m ∷ ms) ≡ end_names_in (m ∷ []) ++ end_names_in ms
 one_more (Begins c n) ms = refl
 one_more (Ends c) ms = refl
-one_more (Identifier (Declares starred) n) ms = refl
+one_more (Identifier (Declares is_exported) n) ms = refl
 one_more (Identifier Aliases n) ms = refl
 one_more (Identifier Imports n) ms = refl
 one_more (Identifier Uses n) ms = refl
@@ -40,7 +40,7 @@ one_more (Identifier (Repeats m) n) ms = refl
 one_more (Value k n) ms = refl
 one_more (Word k) ms = refl
 
-gathers : Gathers endings_in
+gathers : Gathers end_names_in
 gathers = record {
   nothing = refl;
   more = one_more;
@@ -57,13 +57,13 @@ gathers = record {
 
 -- no name after END is in it
 abbrev NoEnd : Events → Type 0
-NoEnd = Without endings_in
+NoEnd = Without end_names_in
 
 no_end : IsClosed NoEnd
-no_end = without endings_in gathers
+no_end = without end_names_in gathers
 
-declares : (starred : Bool) (n : ℕ) → NoEnd (declared starred n)
-declares starred n = record { none = refl }
+declares : (is_exported : Bool) (n : ℕ) → NoEnd (declared is_exported n)
+declares is_exported n = record { none = refl }
 
 aliases : (n : ℕ) → NoEnd (aliased n)
 aliases n = record { none = refl }
@@ -95,42 +95,42 @@ part_none k f xs w = closed-both NoEnd no_end (no_end.a_word k) (closed-each NoE
 -- ---- sequences with names after END
 
 -- the names after END in a sequence that follows one without any
-past : (a b : Events) → NoEnd a → endings_in (a ++ b) ≡ endings_in b
-past = gathered-past endings_in gathers
+past : (a b : Events) → NoEnd a → end_names_in (a ++ b) ≡ end_names_in b
+past = gathered-past end_names_in gathers
 
-pub endings-append : (a b : Events) → endings_in (a ++ b) ≡ endings_in a ++ endings_in b
-endings-append = gathered-append endings_in gathers
+pub collect_end_names-append : (a b : Events) → end_names_in (a ++ b) ≡ end_names_in a ++ end_names_in b
+collect_end_names-append = gathered-append end_names_in gathers
 
-pub endings-each_push : {X : Type 0} (f : X → Events) (xs : List X) (x : X) → endings_in (each f (xs ++ x ∷ [])) ≡ endings_in (each f xs) ++ endings_in (f x)
-endings-each_push f xs x = gathered-each_push endings_in gathers f xs x
+pub collect_end_names-each_push : {X : Type 0} (f : X → Events) (xs : List X) (x : X) → end_names_in (each f (xs ++ x ∷ [])) ≡ end_names_in (each f xs) ++ end_names_in (f x)
+collect_end_names-each_push f xs x = gathered-each_push end_names_in gathers f xs x
 
 -- only the procedures contain names after END
-pub declarations_ends : (d : Declarations) → endings_in (declarations_events d) ≡ endings_in (each (λ p. procedure_events p ++ word kinds.Semicolon) (out-Declarations d).procedures.items)
-declarations_ends d =
-    ap endings_in (declarations_out d)
+pub append_declaration_end_names : (d : Declarations) → end_names_in (declarations_events d) ≡ end_names_in (each (λ p. procedure_events p ++ word kinds.Semicolon) (out-Declarations d).procedures.items)
+append_declaration_end_names d =
+    ap end_names_in (declarations_out d)
     ∙ past _ _ (closed-there NoEnd no_end (λ v. part kinds.Const const_events v.items) (out-Declarations d).constants (λ v. part_none kinds.Const const_events v.items const_none))
     ∙ past _ _ (closed-there NoEnd no_end (λ v. part kinds.Type type_decl_events v.items) (out-Declarations d).types (λ v. part_none kinds.Type type_decl_events v.items type_decl_none))
     ∙ past _ _ (closed-there NoEnd no_end (λ v. part kinds.Var variable_events v.items) (out-Declarations d).variables (λ v. part_none kinds.Var variable_events v.items variable_none))
 
 -- the names after END of the inner procedures, then the procedure's own
-pub procedure_ends : (p : ProcDecl) → endings_in (procedure_events p) ≡ endings_in (declarations_events (out-ProcDecl p).declarations) ++ ((out-ProcDecl p).name.name, (out-ProcDecl p).end_name) ∷ []
-procedure_ends p =
-    ap endings_in (procedure_out p) ∙ gathered-construct endings_in gathers constructs.ProcedureDeclaration (procedure_shown (out-ProcDecl p))
+pub append_procedure_end_names : (p : ProcDecl) → end_names_in (procedure_events p) ≡ end_names_in (declarations_events (out-ProcDecl p).declarations) ++ ((out-ProcDecl p).name.name, (out-ProcDecl p).end_name) ∷ []
+append_procedure_end_names p =
+    ap end_names_in (procedure_out p) ∙ gathered-construct end_names_in gathers constructs.ProcedureDeclaration (procedure_shown (out-ProcDecl p))
     ∙ past _ _ (closed-identdef NoEnd no_end declares (out-ProcDecl p).name)
     ∙ past _ _ (closed-there NoEnd no_end parameters_events (out-ProcDecl p).parameters (closed-parameters NoEnd no_end declares))
-    ∙ endings-append (declarations_events (out-ProcDecl p).declarations) _
-    ∙ ap (λ (es : List (ℕ × ℕ)). endings_in (declarations_events (out-ProcDecl p).declarations) ++ es) (
+    ∙ collect_end_names-append (declarations_events (out-ProcDecl p).declarations) _
+    ∙ ap (λ (es : List (ℕ × ℕ)). end_names_in (declarations_events (out-ProcDecl p).declarations) ++ es) (
     past _ _ (closed-there NoEnd no_end (λ b. word kinds.Begin ++ block_events b.value) (out-ProcDecl p).body (λ b. closed-both NoEnd no_end (no_end.a_word kinds.Begin) (closed-block NoEnd no_end b.value)))
     ∙ past _ _ (closed-there NoEnd no_end (λ e. word kinds.Return ++ expr_events e.value) (out-ProcDecl p).returned (λ e. closed-both NoEnd no_end (no_end.a_word kinds.Return) (closed-expr NoEnd no_end e.value))))
 
-pub module_ends : (m : Module) → endings_in (module_events m) ≡ endings_in (declarations_events m.declarations) ++ (m.name, m.end_name) ∷ []
+pub append_module_end_names : (m : Module) → end_names_in (module_events m) ≡ end_names_in (declarations_events m.declarations) ++ (m.name, m.end_name) ∷ []
 unfolding module_events
-module_ends m =
-    gathered-construct endings_in gathers constructs.Module _
+append_module_end_names m =
+    gathered-construct end_names_in gathers constructs.Module _
     ∙ past _ _ (closed-there NoEnd no_end (λ l. word kinds.Import ++ (separated kinds.Comma import_events l ++ word kinds.Semicolon)) m.imports
     (λ l. closed-both NoEnd no_end (no_end.a_word kinds.Import) (closed-both NoEnd no_end (closed-separated NoEnd no_end kinds.Comma import_events l import_none) (no_end.a_word kinds.Semicolon))))
-    ∙ endings-append (declarations_events m.declarations) _
-    ∙ ap (λ (es : List (ℕ × ℕ)). endings_in (declarations_events m.declarations) ++ es)
+    ∙ collect_end_names-append (declarations_events m.declarations) _
+    ∙ ap (λ (es : List (ℕ × ℕ)). end_names_in (declarations_events m.declarations) ++ es)
     (past _ _ (closed-there NoEnd no_end (λ b. word kinds.Begin ++ block_events b) m.body (λ b. closed-both NoEnd no_end (no_end.a_word kinds.Begin) (closed-block NoEnd no_end b))))
 
-pub ruleset end_walks = (append_assoc, append-nil, endings-append, endings-each_push, take_at_read, take_all, declarations_ends, procedure_ends, module_ends)
+pub ruleset end_walks = (append_assoc, append-nil, collect_end_names-append, collect_end_names-each_push, take_at_read, take_all, append_declaration_end_names, append_procedure_end_names, append_module_end_names)

@@ -10,7 +10,7 @@ pub qualident_out : (q : Qualident) → qualident_events q ≡ used q.head ++ if
 unfolding qualident_events
 qualident_out q = refl
 
-pub identdef_out : (i : Identdef) → identdef_events i ≡ declared i.starred i.name ++ if_true i.starred (word kinds.Star)
+pub identdef_out : (i : Identdef) → identdef_events i ≡ declared i.is_exported i.name ++ if_true i.is_exported (word kinds.Star)
 unfolding identdef_events
 identdef_out i = refl
 

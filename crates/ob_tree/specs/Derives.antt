@@ -37,7 +37,7 @@ yields m = numbers_from 0 (module_events m)
 -- the token numbers of the identifiers that an event sequence declares, in order
 abbrev pub declared_in : Events → List ℕ
 declared_in [] = []
-declared_in (Identifier (Declares starred) n ∷ ms) = n ∷ declared_in ms
+declared_in (Identifier (Declares is_exported) n ∷ ms) = n ∷ declared_in ms
 declared_in (Identifier Aliases n ∷ ms) = n ∷ declared_in ms
 declared_in (Identifier Imports n ∷ ms) = declared_in ms
 declared_in (Identifier Uses n ∷ ms) = declared_in ms
@@ -54,7 +54,7 @@ declared_in (Word k ∷ ms) = declared_in ms
 abbrev pub used_in : Events → List ℕ
 used_in [] = []
 used_in (Identifier Uses n ∷ ms) = n ∷ used_in ms
-used_in (Identifier (Declares starred) n ∷ ms) = used_in ms
+used_in (Identifier (Declares is_exported) n ∷ ms) = used_in ms
 used_in (Identifier Aliases n ∷ ms) = used_in ms
 used_in (Identifier Imports n ∷ ms) = used_in ms
 used_in (Identifier Completes n ∷ ms) = used_in ms
@@ -67,17 +67,17 @@ used_in (Value k n ∷ ms) = used_in ms
 used_in (Word k ∷ ms) = used_in ms
 
 -- the names after END in order, as pairs: the identifier whose name must be repeated, and the name after END
-abbrev pub endings_in : Events → List (ℕ × ℕ)
-endings_in [] = []
-endings_in (Identifier (Repeats name) n ∷ ms) = (name, n) ∷ endings_in ms
-endings_in (Identifier (Declares starred) n ∷ ms) = endings_in ms
-endings_in (Identifier Aliases n ∷ ms) = endings_in ms
-endings_in (Identifier Imports n ∷ ms) = endings_in ms
-endings_in (Identifier Uses n ∷ ms) = endings_in ms
-endings_in (Identifier Completes n ∷ ms) = endings_in ms
-endings_in (Identifier Selects n ∷ ms) = endings_in ms
-endings_in (Identifier Names n ∷ ms) = endings_in ms
-endings_in (Begins c n ∷ ms) = endings_in ms
-endings_in (Ends c ∷ ms) = endings_in ms
-endings_in (Value k n ∷ ms) = endings_in ms
-endings_in (Word k ∷ ms) = endings_in ms
+abbrev pub end_names_in : Events → List (ℕ × ℕ)
+end_names_in [] = []
+end_names_in (Identifier (Repeats name) n ∷ ms) = (name, n) ∷ end_names_in ms
+end_names_in (Identifier (Declares is_exported) n ∷ ms) = end_names_in ms
+end_names_in (Identifier Aliases n ∷ ms) = end_names_in ms
+end_names_in (Identifier Imports n ∷ ms) = end_names_in ms
+end_names_in (Identifier Uses n ∷ ms) = end_names_in ms
+end_names_in (Identifier Completes n ∷ ms) = end_names_in ms
+end_names_in (Identifier Selects n ∷ ms) = end_names_in ms
+end_names_in (Identifier Names n ∷ ms) = end_names_in ms
+end_names_in (Begins c n ∷ ms) = end_names_in ms
+end_names_in (Ends c ∷ ms) = end_names_in ms
+end_names_in (Value k n ∷ ms) = end_names_in ms
+end_names_in (Word k ∷ ms) = end_names_in ms

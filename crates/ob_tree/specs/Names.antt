@@ -11,4 +11,4 @@ qualident_events q = used q.head ++ if_present (λ m. word kinds.Dot ++ complete
 
 -- identdef = ident ["*"]
 unfoldable pub identdef_events : Identdef → Events
-identdef_events i = declared i.starred i.name ++ if_true i.starred (word kinds.Star)
+identdef_events i = declared i.is_exported i.name ++ if_true i.is_exported (word kinds.Star)

@@ -43,13 +43,13 @@ height (Word k ∷ ms) = height ms
 unfoldable pub construct : Construct → Events → Events
 construct c parts = Begins c (if is_level c then suc (height parts) else height parts) ∷ (parts ++ Ends c ∷ [])
 
--- a token without a number of its own: a reserved word, an operator or a delimiter
+-- a reserved word, an operator or a delimiter: its event has a kind, but no token number
 abbrev pub word : Kind → Events
 word k = Word k ∷ []
 
 -- an identifier that is declared, with whether it is exported
 abbrev pub declared : Bool → ℕ → Events
-declared starred n = Identifier (Declares starred) n ∷ []
+declared is_exported n = Identifier (Declares is_exported) n ∷ []
 
 -- an identifier in each of the other roles, by its token number
 abbrev pub aliased : ℕ → Events

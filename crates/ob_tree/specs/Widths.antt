@@ -10,7 +10,7 @@ name_width (Some n) = 3
 
 -- an identifier, optionally followed by "*"
 abbrev pub identdef_width : Identdef → ℕ
-identdef_width i = if i.starred then 2 else 1
+identdef_width i = if i.is_exported then 2 else 1
 
 -- the optional name of a base record, in parentheses
 abbrev pub base_width : Option Qualident → ℕ

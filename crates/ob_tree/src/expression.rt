@@ -117,7 +117,7 @@ pub struct Designator {
     pub selectors: Vec<Selector>,
 }
 
-/// A selector of a designator. A type guard and a call with one argument have the same syntax; name resolution tells them apart.
+/// A selector of a designator. A type guard and a call with one argument have equal syntax; only name resolution can distinguish them.
 #[derive(Drop)]
 #[cycle(expressions)]
 pub enum Selector {

@@ -14,9 +14,9 @@ pub struct Qualident {
     pub member: Option<u32>,
 }
 
-/// A declaring identifier, with whether an export mark follows.
+/// An identifier that is declared. `is_exported` states whether the export mark `*` follows.
 #[derive(Clone, Copy)]
 pub struct Identdef {
     pub name: u32,
-    pub starred: bool,
+    pub is_exported: bool,
 }

@@ -3,8 +3,8 @@
 /// The role of an identifier at its location in a tree.
 #[derive(Clone, Copy, Drop)]
 pub enum Role {
-    /// It is declared here; `starred` tells whether it has the export mark. A parameter never has one.
-    Declares { starred: bool },
+    /// It is declared here; `is_exported` states whether it has the export mark. A parameter never has one.
+    Declares { is_exported: bool },
     /// The first name of an import item, which declares the alias.
     Aliases,
     /// The name after `:=` in an import item: the imported module's own name.

@@ -18,8 +18,8 @@ use Rattle.ob_types.specs.declared.nodes.Node.{Node}
 use Rattle.ob_types.specs.declared.nodes.Node.TheVariants as nodes
 use Rattle.ob_types.specs.declared.nodes.Record.{Record}
 use Rattle.ob_types.specs.declared.nodes.Record.TheVariants as records
-use Rattle.ob_types.specs.Shapes.{TypeShape, known, is_type, declared_type_shape, imported_type, exported_type, type_if_visible, visible_type, may_mean, resolve_imported_name, imported_part, imported_base_shape, shape, is_pointer_target, is_pointer, field_of, base_of}
-use Rattle.ob_types.specs.World.{World, module_number, exported_at, exported, imported_declaration, named_declaration, aliased_module_name, imported_base, imported_part as part_row_there}
+use Rattle.ob_types.specs.Shapes.{TypeShape, shape_or_unknown, is_type, declared_type_shape, imported_type, exported_type, type_if_visible, visible_type, may_mean, resolve_imported_name, imported_part_shape, imported_base_shape, shape, is_pointer_target, is_pointer, field_of, base_of}
+use Rattle.ob_view.specs.World.{World, module_number, exported_at, exported_index, imported_declaration, named_declaration, aliased_module_name, imported_base, imported_part as part_row_there}
 
 -- ---- common modules
 
@@ -56,8 +56,8 @@ same_alias : (w v : World) (i j : ℕ) (alias : List ℕ) → IsCommonModule w v
 unfolding aliased_module_name
 same_alias w v i j alias t = says w v i j (λ (m : ModuleInterface). module_named m alias) t
 
-same_exported : (w v : World) (i j : ℕ) (name : List ℕ) → IsCommonModule w v i j → exported w i name ≡ exported v j name
-unfolding exported
+same_exported : (w v : World) (i j : ℕ) (name : List ℕ) → IsCommonModule w v i j → exported_index w i name ≡ exported_index v j name
+unfolding exported_index
 same_exported w v i j name t = says w v i j (λ (m : ModuleInterface). exported_at m None name) t
 
 same_row : (w v : World) (i j d p : ℕ) → IsCommonModule w v i j → part_row_there w i d p ≡ part_row_there v j d p
@@ -87,7 +87,7 @@ data AreAlikeIf (w v : World) : Option TypeShape → Option TypeShape → Type 0
   neither : AreAlikeIf w v None None
   both : {s t : TypeShape} → AreShapesAlike w v s t → AreAlikeIf w v (Some s) (Some t)
 
-known_alike : (w v : World) (o p : Option TypeShape) → AreAlikeIf w v o p → AreShapesAlike w v (known o) (known p)
+known_alike : (w v : World) (o p : Option TypeShape) → AreAlikeIf w v o p → AreShapesAlike w v (shape_or_unknown o) (shape_or_unknown p)
 known_alike w v o p neither = unknowns
 known_alike w v o p (both a) = a
 
@@ -98,12 +98,12 @@ then_same w v f g (Some x) h = h x
 then_alike : {X : Type 0} (w v : World) (f g : X → Option TypeShape) (o p : Option X) → o ≡ p → ((x : X) → AreAlikeIf w v (f x) (g x)) → AreAlikeIf w v (option_and_then f o) (option_and_then g p)
 then_alike {X} w v f g o p e h = subst (λ (q : Option X). AreAlikeIf w v (option_and_then f o) (option_and_then g q)) e (then_same w v f g o h)
 
-map_same : {X : Type 0} (w v : World) (f g : X → TypeShape) (o : Option X) → ((x : X) → AreShapesAlike w v (f x) (g x)) → AreShapesAlike w v (known (option_map f o)) (known (option_map g o))
+map_same : {X : Type 0} (w v : World) (f g : X → TypeShape) (o : Option X) → ((x : X) → AreShapesAlike w v (f x) (g x)) → AreShapesAlike w v (shape_or_unknown (option_map f o)) (shape_or_unknown (option_map g o))
 map_same w v f g None h = unknowns
 map_same w v f g (Some x) h = h x
 
-map_alike : {X : Type 0} (w v : World) (f g : X → TypeShape) (o p : Option X) → o ≡ p → ((x : X) → AreShapesAlike w v (f x) (g x)) → AreShapesAlike w v (known (option_map f o)) (known (option_map g p))
-map_alike {X} w v f g o p e h = subst (λ (q : Option X). AreShapesAlike w v (known (option_map f o)) (known (option_map g q))) e (map_same w v f g o h)
+map_alike : {X : Type 0} (w v : World) (f g : X → TypeShape) (o p : Option X) → o ≡ p → ((x : X) → AreShapesAlike w v (f x) (g x)) → AreShapesAlike w v (shape_or_unknown (option_map f o)) (shape_or_unknown (option_map g p))
+map_alike {X} w v f g o p e h = subst (λ (q : Option X). AreShapesAlike w v (shape_or_unknown (option_map f o)) (shape_or_unknown (option_map g q))) e (map_same w v f g o h)
 
 if_alike : (w v : World) (b : Bool) (o p : Option TypeShape) → AreAlikeIf w v o p → AreAlikeIf w v (if b then o else None) (if b then p else None)
 if_alike w v true o p h = h
@@ -118,7 +118,7 @@ there_alike w v i j d t = then_alike w v (declared_type_shape i d) (declared_typ
 
 exported_alike : (w v : World) (name : List ℕ) (i j : ℕ) → IsCommonModule w v i j → AreAlikeIf w v (exported_type w name i) (exported_type v name j)
 unfolding exported_type
-exported_alike w v name i j t = then_alike w v (imported_type w i) (imported_type v j) (exported w i name) (exported v j name) (same_exported w v i j name t) (λ d. there_alike w v i j d t)
+exported_alike w v name i j t = then_alike w v (imported_type w i) (imported_type v j) (exported_index w i name) (exported_index v j name) (same_exported w v i j name t) (λ d. there_alike w v i j d t)
 
 seen_by_alike : (w v : World) (i j d start : ℕ) (is_target : Bool) (it : Declaration) → IsCommonModule w v i j → AreAlikeIf w v (type_if_visible i d start is_target it) (type_if_visible j d start is_target it)
 seen_by_alike w v i j d start is_target it t = if_alike w v (may_mean start is_target it) (declared_type_shape i d it) (declared_type_shape j d it) (by_alike w v i j d it t)
@@ -128,7 +128,7 @@ unfolding visible_type
 seen_alike w v i j start is_target d t =
     then_alike w v (type_if_visible i d start is_target) (type_if_visible j d start is_target) (imported_declaration w i d) (imported_declaration v j d) (same_declaration w v i j d t) (λ it. seen_by_alike w v i j d start is_target it t)
 
--- a name of a module leads to one module in both, or to none
+-- the two optional indexes are those of a common module in the two worlds, or both are None
 pub data AreHomesAlike (w v : World) : Option ℕ → Option ℕ → Type 0 where
   no_homes : AreHomesAlike w v None None
   module_numbers : {i j : ℕ} → IsCommonModule w v i j → AreHomesAlike w v (Some i) (Some j)
@@ -164,7 +164,7 @@ module _ (w v : World) (imports : AreImportsAlike w v) where
       (subst (λ (o : Option (List ℕ)). AreAlikeIf w v (option_and_then (exported_type w name) (option_and_then (module_number w) (aliased_module_name w i alias))) (option_and_then (exported_type v name) (option_and_then (module_number v) o)))
       (same_alias w v i j alias t) here)
 
-  row_alike : (i j d p : ℕ) (part : Part) → IsCommonModule w v i j → AreShapesAlike w v (imported_part w i d p part) (imported_part v j d p part)
+  row_alike : (i j d p : ℕ) (part : Part) → IsCommonModule w v i j → AreShapesAlike w v (imported_part_shape w i d p part) (imported_part_shape v j d p part)
   row_alike i j d p Array t = arrays (part_alike t)
   row_alike i j d p Pointer t = pointers (part_alike t)
   row_alike i j d p (RecordPart k) t = both_records (record_alike t)
@@ -175,7 +175,7 @@ module _ (w v : World) (imports : AreImportsAlike w v) where
   shape_alike : (n m : Node) → AreNodesCommon w v n m → AreShapesAlike w v (shape w n) (shape v m)
   unfolding shape
   shape_alike n m (part_alike {i = i} {j = j} {d = d} {p = p} t) =
-      map_alike w v (imported_part w i d p) (imported_part v j d p) (part_row_there w i d p) (part_row_there v j d p) (same_row w v i j d p t) (λ part. row_alike i j d p part t)
+      map_alike w v (imported_part_shape w i d p) (imported_part_shape v j d p) (part_row_there w i d p) (part_row_there v j d p) (same_row w v i j d p t) (λ part. row_alike i j d p part t)
   shape_alike n m (base_alike {i = i} {j = j} {r = r} t) =
       map_alike w v (imported_base_shape w i) (imported_base_shape v j) (imported_base w i r) (imported_base v j r) (same_base w v i j r t) (λ b. named_alike i j b.start false b.name t)
 

@@ -11,10 +11,10 @@ use Rattle.ob_types.specs.declared.nodes.Node.{Node}
 use Rattle.ob_types.specs.declared.nodes.Node.TheVariants as nodes
 use Rattle.ob_types.specs.declared.nodes.Record.{Record}
 use Rattle.ob_types.specs.declared.nodes.Record.TheVariants as records
-use Rattle.ob_types.specs.ModuleNumbers.{module_number_in}
+use Rattle.ob_view.specs.ModuleNumbers.{module_number_in}
 use Rattle.ob_types.specs.Shapes.{base_of, field_of, shape}
 use Rattle.ob_types.specs.Within.{AreWithin}
-use Rattle.ob_types.specs.World.{World, module_number}
+use Rattle.ob_view.specs.World.{World, module_number}
 use Rattle.ob_types.proofs.CommonModules.{end_known, hop_from, hop_onto, lacks_field, no_end_known}
 use Rattle.ob_types.proofs.Within.{imports_alike, number_is, place_is}
 

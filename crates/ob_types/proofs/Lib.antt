@@ -1,6 +1,4 @@
 pub mod SameDeclaration
-pub mod Firsts
-pub mod Ascending
 pub mod Backwards
 pub mod Telling
 pub mod CommonModules

@@ -9,7 +9,7 @@ use Rattle.ob_types.specs.declared.nodes.Node.{Node}
 use Rattle.ob_types.specs.declared.precomputed.TypeEnds.{TypeEnds}
 use Rattle.ob_types.specs.PrecomputedEnds.{key_cmp, AreAllEndsOf, AreEndsOf}
 use Rattle.ob_types.specs.Shapes.{shape}
-use Rattle.ob_types.specs.World.{World}
+use Rattle.ob_view.specs.World.{World}
 
 -- the table stores the ends of one more declaration
 pub one_more : (w : World) (i d : ℕ) (ends : TypeEnds) (before after : BTreeMap (ℕ × ℕ) TypeEnds) → ((k : ℕ × ℕ) → get key_cmp after k ≡ cond (is_at (key_cmp (i, d)) k) (Some ends) (get key_cmp before k)) → AreEndsOf w i d ends → AreAllEndsOf w before → AreAllEndsOf w after

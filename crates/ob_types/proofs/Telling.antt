@@ -19,7 +19,7 @@ use Rattle.ob_types.specs.declared.nodes.Record.{Record}
 use Rattle.ob_types.specs.declared.nodes.Record.TheVariants as records
 use Rattle.ob_types.specs.Shapes.{field_of}
 use Rattle.ob_types.specs.FieldLists.{Fields, StayListed, ListsDeclaration, ListsModule, ListsLocal, ListsReached, ListsRow}
-use Rattle.ob_types.specs.World.{World, exported_at, field_at, if_exported, is_of_record, text}
+use Rattle.ob_view.specs.World.{World, exported_at, field_at, if_exported, is_of_record, text}
 
 both_true : (a b : Bool) → a && b ≡ true → (a ≡ true) × (b ≡ true)
 both_true true true e = (refl, refl)

@@ -10,9 +10,9 @@ use Rattle.ob_interface.specs.Interfaces.{ModuleInterface}
 use Rattle.ob_interface.specs.Placed.{module_named}
 use Rattle.module_table.proofs.Elements.{contains_slice}
 use Rattle.ob_types.specs.CommonModules.{IsCommonModule}
-use Rattle.ob_types.specs.ModuleNumbers.{module_number_in}
+use Rattle.ob_view.specs.ModuleNumbers.{module_number_in}
 use Rattle.ob_types.specs.Within.{AreWithin}
-use Rattle.ob_types.specs.World.{World, module_number, aliased_module_name}
+use Rattle.ob_view.specs.World.{World, module_number, aliased_module_name}
 use Rattle.ob_types.proofs.CommonModules.{no_homes, module_numbers, AreHomesAlike, AreImportsAlike}
 
 pub record IsPlaced (modules : List ModuleInterface) (k : ℕ) (name : List ℕ) : Type 0 where
@@ -28,7 +28,7 @@ placed (m ∷ modules) name k e =
     record { module_there = _; at = slice_get-get_or (m ∷ modules) k m first.0; named = (bytes_eq-Decides _ name).0 first.1 }
 
 module _ (w v : World) (within : AreWithin v.reached w.reached) where
-  -- a module to which its name leads here is found by its name there
+  -- a module that the world `w` finds by its name is also found by its name in the world `v`
   twin_of : (i : ℕ) (m : ModuleInterface) → slice_get w.reached i ≡ Some m → module_number w m.name ≡ Some i → (j : ℕ) × IsCommonModule w v i j
   unfolding module_number
   twin_of i m at named =
@@ -48,7 +48,7 @@ module _ (w v : World) (within : AreWithin v.reached w.reached) where
   unfolding module_number
   home_placed name i is = placed w.reached name i is
 
-  -- a name that has an index here has the index of an equal module there
+  -- if a name has an index in the world `w`, it has in the world `v` the index of the same module
   home_twin : (name : List ℕ) (i : ℕ) → module_number w name ≡ Some i → (j : ℕ) × (module_number v name ≡ Some j) × IsCommonModule w v i j
   home_twin name i is =
       let p = home_placed name i is in
@@ -72,9 +72,9 @@ module _ (w v : World) (within : AreWithin v.reached w.reached) where
       let (j, is, t) = home_twin name k here in
       subst (λ (o : Option ℕ). AreHomesAlike w v (Some k) o) (sym is ∙ external) (module_numbers t)
 
-  named_by : (i : ℕ) (alias name : List ℕ) (m : ModuleInterface) → slice_get w.reached i ≡ Some m → aliased_module_name w i alias ≡ Some name → module_named m alias ≡ Some name
+  name_node : (i : ℕ) (alias name : List ℕ) (m : ModuleInterface) → slice_get w.reached i ≡ Some m → aliased_module_name w i alias ≡ Some name → module_named m alias ≡ Some name
   unfolding aliased_module_name
-  named_by i alias name m at e = sym (ap (option_and_then (λ (x : ModuleInterface). module_named x alias)) at) ∙ e
+  name_node i alias name m at e = sym (ap (option_and_then (λ (x : ModuleInterface). module_named x alias)) at) ∙ e
 
   pub imports_alike : AreImportsAlike w v
-  imports_alike i j alias name t e = home_both i t.common alias name (module_number w name) (module_number v name) t.here (named_by i alias name t.common t.here e) refl refl
+  imports_alike i j alias name t e = home_both i t.common alias name (module_number w name) (module_number v name) t.here (name_node i alias name t.common t.here e) refl refl

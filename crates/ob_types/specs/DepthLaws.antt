@@ -19,10 +19,10 @@ use Rattle.ob_types.specs.declared.nodes.Node.TheVariants as nodes
 use Rattle.ob_types.specs.declared.nodes.Record.{Record}
 use Rattle.ob_types.specs.declared.nodes.Record.TheVariants as records
 use Rattle.ob_types.specs.Depths.{part_count, imported_part_count, depth, all_parts, height}
-use Rattle.ob_types.specs.Shapes.{TypeShape, known, is_type, declared_type_shape, imported_type, exported_type, type_as, local_type, module_of_alias, resolve_type_name, type_if_visible, visible_type, may_mean, resolve_imported_name, local_shape, imported_part, imported_base_shape, shape, base_name, base_of}
-use Rattle.ob_types.specs.World.{World, text, meaning, decl_kind_of, type_index_of, record_at, module_number, exported, imported_declaration, named_declaration, aliased_module_name, imported_base, imported_part as part_row_there}
+use Rattle.ob_types.specs.Shapes.{TypeShape, shape_or_unknown, is_type, declared_type_shape, imported_type, exported_type, type_as, local_type, module_of_alias, resolve_type_name, type_if_visible, visible_type, may_mean, resolve_imported_name, local_shape, imported_part_shape, imported_base_shape, shape, base_name, base_of}
+use Rattle.ob_view.specs.World.{World, text, meaning, decl_kind_of, type_index_of, record_at, module_number, exported_index, imported_declaration, named_declaration, aliased_module_name, imported_base, imported_part as part_row_there}
 
--- ---- a type's name denotes a name or nothing known
+-- ---- a name resolves to a named type or to Unknown
 
 abbrev IsNameShape : TypeShape → Type 0
 IsNameShape (shapes.Array n) = ⊥
@@ -36,7 +36,7 @@ abbrev IsNameIf : Option TypeShape → Type 0
 IsNameIf None = Unit {0}
 IsNameIf (Some s) = IsNameShape s
 
-known_name : (o : Option TypeShape) → IsNameIf o → IsNameShape (known o)
+known_name : (o : Option TypeShape) → IsNameIf o → IsNameShape (shape_or_unknown o)
 known_name None h = tt
 known_name (Some s) h = h
 
@@ -61,7 +61,7 @@ there_name w i d = then_name (declared_type_shape i d) (imported_declaration w i
 
 exported_name : (w : World) (name : List ℕ) (i : ℕ) → IsNameIf (exported_type w name i)
 unfolding exported_type
-exported_name w name i = then_name (imported_type w i) (exported w i name) (there_name w i)
+exported_name w name i = then_name (imported_type w i) (exported_index w i name) (there_name w i)
 
 as_name : (w : World) (k : ℕ) (s : DeclKind) → IsNameIf (type_as w k s)
 as_name w k s = if_name (is_type s) _ (map_name _ (type_index_of w k) (λ p. tt))
@@ -87,14 +87,14 @@ unfolding resolve_imported_name
 that_name w i start is_target (Simple name) = known_name _ (then_name (visible_type w i start is_target) (named_declaration w i name) (seen_name w i start is_target))
 that_name w i start is_target (Qualified alias name) = known_name _ (then_name (exported_type w name) (option_and_then (module_number w) (aliased_module_name w i alias)) (exported_name w name))
 
--- a name is no other kind of type
+-- a shape that is a named type or Unknown doesn't equal a shape that is neither
 not_name : (s t : TypeShape) → IsNameShape s → s ≡ t → (IsNameShape t → ⊥) → ⊥
 not_name s t h e none = none (subst (λ (x : TypeShape). IsNameShape x) e h)
 
 -- ---- types at an index
 
--- a type that isn't a name is a component within the list
-here_at : (w : World) (k : ℕ) (o : Option TypePart) (s : TypeShape) → slice_get w.rows.parts k ≡ o → known (option_map (local_shape w k) o) ≡ s → (IsNameShape s → ⊥) → k < length w.rows.parts
+-- if the type at an index is neither a name nor Unknown, the index is within the list of components
+here_at : (w : World) (k : ℕ) (o : Option TypePart) (s : TypeShape) → slice_get w.rows.parts k ≡ o → shape_or_unknown (option_map (local_shape w k) o) ≡ s → (IsNameShape s → ⊥) → k < length w.rows.parts
 here_at w k None s e h none = absurd (none (subst (λ (x : TypeShape). IsNameShape x) h tt))
 here_at w k (Some p) s e h none = slice_get_within w.rows.parts k p e
 
@@ -110,11 +110,11 @@ row_at : (w : World) (i d j : ℕ) (p : Part) → part_row_there w i d j ≡ Som
 unfolding part_row_there imported_declaration imported_part_count
 row_at w i d j p e = within_form j p (option_and_then (λ (m : ModuleInterface). declaration_at m d) (slice_get w.reached i)) (sym (part_by d j (slice_get w.reached i)) ∙ e)
 
-there_at : (w : World) (i d j : ℕ) (o : Option Part) (s : TypeShape) → part_row_there w i d j ≡ o → known (option_map (imported_part w i d j) o) ≡ s → (IsNameShape s → ⊥) → j < imported_part_count w i d
+there_at : (w : World) (i d j : ℕ) (o : Option Part) (s : TypeShape) → part_row_there w i d j ≡ o → shape_or_unknown (option_map (imported_part_shape w i d j) o) ≡ s → (IsNameShape s → ⊥) → j < imported_part_count w i d
 there_at w i d j None s e h none = absurd (none (subst (λ (x : TypeShape). IsNameShape x) h tt))
 there_at w i d j (Some p) s e h none = row_at w i d j p e
 
-based_name : (w : World) (i : ℕ) (o : Option Base) → IsNameShape (known (option_map (imported_base_shape w i) o))
+based_name : (w : World) (i : ℕ) (o : Option Base) → IsNameShape (shape_or_unknown (option_map (imported_base_shape w i) o))
 based_name w i None = tt
 based_name w i (Some b) = that_name w i b.start false b.name
 
@@ -135,18 +135,18 @@ here_pointer w k b x parts.Record m e = cc
 here_pointer w k b x parts.Procedure m e = cc
 here_pointer w k b x (parts.Named member) m e = absurd (not_name _ (shapes.Pointer m) (here_name w x member) e (λ h. h))
 
-there_pointer : (w : World) (i d j : ℕ) (p : Part) (m : Node) → imported_part w i d j p ≡ shapes.Pointer m → m ≡ nodes.Other i d (suc j)
+there_pointer : (w : World) (i d j : ℕ) (p : Part) (m : Node) → imported_part_shape w i d j p ≡ shapes.Pointer m → m ≡ nodes.Other i d (suc j)
 there_pointer w i d j Array m e = cc
 there_pointer w i d j Pointer m e = cc
 there_pointer w i d j (RecordPart k) m e = cc
 there_pointer w i d j Procedure m e = cc
 there_pointer w i d j (NamedPart start name) m e = absurd (not_name _ (shapes.Pointer m) (that_name w i start _ name) e (λ h. h))
 
-behind_here : (w : World) (k : ℕ) (o : Option TypePart) (m : Node) → known (option_map (local_shape w k) o) ≡ shapes.Pointer m → m ≡ nodes.Own (suc k)
+behind_here : (w : World) (k : ℕ) (o : Option TypePart) (m : Node) → shape_or_unknown (option_map (local_shape w k) o) ≡ shapes.Pointer m → m ≡ nodes.Own (suc k)
 behind_here w k None m e = cc
 behind_here w k (Some p) m e = here_pointer w k p.declared_by p.number p.part m e
 
-behind_there : (w : World) (i d j : ℕ) (o : Option Part) (m : Node) → known (option_map (imported_part w i d j) o) ≡ shapes.Pointer m → m ≡ nodes.Other i d (suc j)
+behind_there : (w : World) (i d j : ℕ) (o : Option Part) (m : Node) → shape_or_unknown (option_map (imported_part_shape w i d j) o) ≡ shapes.Pointer m → m ≡ nodes.Other i d (suc j)
 behind_there w i d j None m e = cc
 behind_there w i d j (Some p) m e = there_pointer w i d j p m e
 

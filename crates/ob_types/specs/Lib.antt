@@ -1,8 +1,6 @@
-pub mod World
 pub mod Shapes
 pub mod SameDeclaration
-pub mod ModuleNumbers
-pub mod WorldOfParts
+pub mod FieldIndex
 pub mod FieldLists
 pub mod Depths
 pub mod DepthLaws

@@ -16,8 +16,8 @@ use Rattle.ob_types.specs.declared.nodes.Node.{Node}
 use Rattle.ob_types.specs.declared.nodes.Node.TheVariants as nodes
 use Rattle.ob_types.specs.declared.nodes.Record.{Record}
 use Rattle.ob_types.specs.declared.nodes.Record.TheVariants as records
-use Rattle.ob_types.specs.Shapes.{TypeShape, known, is_type, declared_type_shape, imported_type, exported_type, type_as, local_type, module_of_alias, resolve_type_name, type_if_visible, visible_type, may_mean, resolve_imported_name, local_shape, imported_part, imported_base_shape, shape, is_pointer_target}
-use Rattle.ob_types.specs.World.{World, text, meaning, decl_kind_of, type_index_of, module_number, exported, imported_declaration, named_declaration, aliased_module_name, imported_base, imported_part as part_row_there}
+use Rattle.ob_types.specs.Shapes.{TypeShape, shape_or_unknown, is_type, declared_type_shape, imported_type, exported_type, type_as, local_type, module_of_alias, resolve_type_name, type_if_visible, visible_type, may_mean, resolve_imported_name, local_shape, imported_part_shape, imported_base_shape, shape, is_pointer_target}
+use Rattle.ob_view.specs.World.{World, text, meaning, decl_kind_of, type_index_of, module_number, exported_index, imported_declaration, named_declaration, aliased_module_name, imported_base, imported_part as part_row_there}
 
 -- ---- equality
 
@@ -48,7 +48,7 @@ gives_once : (w : World) (d : Named) (n m : Node) → GivesNode w d n → GivesN
 gives_once w (named.Own k) n m p q = let e : Some n ≡ Some m = sym p ∙ q in cc
 gives_once w (named.Other i d) n m p q = sym p ∙ q
 
--- a type that is a name has the type that its declaration gives
+-- if this type is a named type, its node is that of the type which its declaration gives
 abbrev IsGiven : World → TypeShape → Type 0
 IsGiven w (shapes.Array n) = Unit {0}
 IsGiven w (shapes.Pointer n) = Unit {0}
@@ -61,7 +61,7 @@ abbrev IsGivenIf : World → Option TypeShape → Type 0
 IsGivenIf w None = Unit {0}
 IsGivenIf w (Some s) = IsGiven w s
 
-known_given : (w : World) (o : Option TypeShape) → IsGivenIf w o → IsGiven w (known o)
+known_given : (w : World) (o : Option TypeShape) → IsGivenIf w o → IsGiven w (shape_or_unknown o)
 known_given w None h = tt
 known_given w (Some s) h = h
 
@@ -82,7 +82,7 @@ there_given w i d = then_given w (declared_type_shape i d) (imported_declaration
 
 exported_given : (w : World) (name : List ℕ) (i : ℕ) → IsGivenIf w (exported_type w name i)
 unfolding exported_type
-exported_given w name i = then_given w (imported_type w i) (exported w i name) (there_given w i)
+exported_given w name i = then_given w (imported_type w i) (exported_index w i name) (there_given w i)
 
 at_form : (w : World) (k : ℕ) (o : Option ℕ) → type_index_of w k ≡ o → IsGivenIf w (option_map (λ (p : ℕ). shapes.Named (named.Own k) (nodes.Own p)) o)
 at_form w k None e = tt
@@ -119,14 +119,14 @@ own_part_given w k b x parts.Record = tt
 own_part_given w k b x parts.Procedure = tt
 own_part_given w k b x (parts.Named member) = here_given w x member
 
-part_given : (w : World) (i d j : ℕ) (p : Part) → IsGiven w (imported_part w i d j p)
+part_given : (w : World) (i d j : ℕ) (p : Part) → IsGiven w (imported_part_shape w i d j p)
 part_given w i d j Array = tt
 part_given w i d j Pointer = tt
 part_given w i d j (RecordPart k) = tt
 part_given w i d j Procedure = tt
 part_given w i d j (NamedPart start name) = that_given w i start (is_pointer_target w i d j) name
 
-map_given : {X : Type 0} (w : World) (f : X → TypeShape) (o : Option X) → ((x : X) → IsGiven w (f x)) → IsGiven w (known (option_map f o))
+map_given : {X : Type 0} (w : World) (f : X → TypeShape) (o : Option X) → ((x : X) → IsGiven w (f x)) → IsGiven w (shape_or_unknown (option_map f o))
 map_given w f None h = tt
 map_given w f (Some x) h = h x
 
@@ -134,7 +134,7 @@ shape_given : (w : World) (n : Node) → IsGiven w (shape w n)
 unfolding shape
 shape_given w (nodes.Own k) = map_given w (local_shape w k) (slice_get w.rows.parts k) (λ (p : TypePart). own_part_given w k p.declared_by p.number p.part)
 shape_given w (nodes.Name head member) = here_given w head member
-shape_given w (nodes.Other i d j) = map_given w (imported_part w i d j) (part_row_there w i d j) (part_given w i d j)
+shape_given w (nodes.Other i d j) = map_given w (imported_part_shape w i d j) (part_row_there w i d j) (part_given w i d j)
 shape_given w (nodes.OtherBase i r) = map_given w (imported_base_shape w i) (imported_base w i r) (λ (b : Base). that_given w i b.start false b.name)
 
 given : (w : World) (n : Node) (s : TypeShape) → shape w n ≡ s → IsGiven w s

@@ -3,7 +3,7 @@ use Rattle.std.specs.Prelude.{◌==◌, ◌&&◌, Bool, false}
 use Rattle.ob_types.specs.declared.nodes.Named.{Named}
 use Rattle.ob_types.specs.declared.nodes.Named.TheVariants as named
 
--- whether both are one declaration: they have the same token, or the same module and index
+-- whether the two are the same type declaration: of the module itself with the same token, or of a reached module with the same two indexes
 unfoldable pub same : Named → Named → Bool
 same (named.Own a) (named.Own b) = a == b
 same (named.Own a) (named.Other i d) = false

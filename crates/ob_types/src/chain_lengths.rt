@@ -1,37 +1,36 @@
-//! Finds the type declarations at which long chains of types arrive: the ends of their types are worth precomputing. This serves speed
-//! alone.
-ghost use Rattle.ob_types.specs.WorldOfParts.{IsBounded};
+//! Finds the type declarations at which long chains of types arrive. The ends of the types of these declarations are worth precomputing.
+//! The results affect only speed, so the functions have no contracts.
 
 use crate::indexed_module::{IndexedModule, is_type};
 use crate::listed::last_part;
 use crate::nodes::{Named, Node, Record};
-use crate::parts::Parts;
 use ob_interface::{Interface, Part};
+use ob_view::View;
 use std::alloc::{AllocError, Global};
 use std::hash::{DefaultHasher, Hasher};
 use type_graph::Shape;
 
-/// A chain of this many steps is long. A step is a name, a pointer or a base.
+/// A chain of types with at least this number of steps is long. A step leads from a type to the one that it names, points to or extends.
 const LONG_CHAIN: usize = 16;
 
-/// A type declaration with a next step: its type is a name, a pointer or a record with a base.
+/// A type declaration from which a chain of types goes on: its type is a name, a pointer or a record with a base.
 #[derive(Clone, Copy, Drop)]
 pub(crate) struct ChainLink {
-    /// The index of the declaration's module; `declaration` is the declaration's index in that module.
+    /// The index of the declaration's module; `declaration` is the declaration's index in the interface of that module.
     reached: u32,
     declaration: u32,
-    /// The record whose base is the next step.
+    /// The record whose base is the next type on the chain; `None` if the next type is named otherwise.
     record: Option<u32>,
-    /// The index of the next link on the chain, and the number of steps to it.
+    /// The index of the next link on the chain, `None` if there is none; `steps` is the number of steps to it.
     next: Option<usize>,
     steps: usize,
-    /// The length, up to `LONG_CHAIN`, of the longest chain that arrives here.
+    /// The length of the longest chain that arrives at this declaration; at most `LONG_CHAIN`.
     distance: usize,
 }
 
-/// Whether a declaration is a type declaration with a next step.
-fn has_link(module: &Interface, index: u32) -> bool {
-    let has_next = match module.part(index, 0) {
+/// Whether the declaration at this index is a type declaration whose type is a name, a pointer or a record with a base.
+fn is_chain_link(module: &Interface, index: u32) -> bool {
+    let has_next = match module.type_part(index, 0) {
         Some(Part::Record(record)) => module.base(record).is_some(),
         Some(Part::Pointer | Part::Named { .. }) => true,
         Some(Part::Array | Part::Procedure) | None => false,
@@ -39,7 +38,7 @@ fn has_link(module: &Interface, index: u32) -> bool {
     has_next && is_type_at(module, index)
 }
 
-/// Whether a declaration is a type declaration.
+/// Whether the declaration at this index is a type declaration.
 fn is_type_at(module: &Interface, index: u32) -> bool {
     match module.declaration_at(index) {
         Some(it) => is_type(it.decl_kind),
@@ -47,14 +46,14 @@ fn is_type_at(module: &Interface, index: u32) -> bool {
     }
 }
 
-/// Appends the type declarations of a module that have a next step.
+/// Appends a link for each type declaration of a module from which a chain of types goes on. The next links aren't set yet.
 fn append_links(
     module: &Interface,
     links: &mut Vec<ChainLink>,
     reached: u32,
 ) -> Result<(), AllocError> {
     for index in 0..module.declaration_count() {
-        if has_link(module, index as u32) {
+        if is_chain_link(module, index as u32) {
             links.push(ChainLink {
                 reached,
                 declaration: index as u32,
@@ -68,24 +67,24 @@ fn append_links(
     Ok(())
 }
 
-/// The type declarations of all modules that have a next step, sorted by the indexes of module and declaration.
-fn all_links(alloc: Global, parts: &Parts<'_>) -> Result<Vec<ChainLink>, AllocError>
-    requires { IsBounded parts.now }
-{
+/// Makes the links of all reached modules, one for each type declaration from which a chain of types goes on. They are sorted by the index
+/// of the module and then by that of the declaration.
+fn all_links(alloc: Global, view: &View<'_>) -> Result<Vec<ChainLink>, AllocError> {
     let mut links = Vec::new(alloc);
-    let modules = parts.reached;
+    view.invariants();
+    let modules = view.reached();
     for at in 0..modules.len() {
         append_links(&modules[at], &mut links, at as u32)?;
     }
     Ok(links)
 }
 
-/// Whether the link's declaration precedes this declaration in the order of the indexes of module and declaration.
+/// Whether the link `it` comes before the given declaration in the order by the index of the module and then by that of the declaration.
 fn is_before(it: &ChainLink, reached: u32, declaration: u32) -> bool {
     it.reached < reached || (it.reached == reached && it.declaration < declaration)
 }
 
-/// The index of a declaration in the list, by binary search.
+/// The index of the link of this declaration in the sorted list, by binary search; `None` if the list has none.
 fn find_link(links: &[ChainLink], reached: u32, declaration: u32) -> Option<usize> {
     let at = links.partition_point(|it| is_before(it, reached, declaration));
     let it = links.get(at)?;
@@ -96,8 +95,9 @@ fn find_link(links: &[ChainLink], reached: u32, declaration: u32) -> Option<usiz
     }
 }
 
-/// The node of the name in a component, or of the base of its record.
-fn named_by(reached: u32, declaration: u32, at: usize, part: Part<'_>) -> Option<Node> {
+/// The node of the name in a component of a declaration's type, or of the base's name if the component is a record. `None` for any other
+/// component.
+fn name_node(reached: u32, declaration: u32, at: usize, part: Part<'_>) -> Option<Node> {
     match part {
         Part::Named { .. } => Some(Node::Other {
             reached,
@@ -109,7 +109,7 @@ fn named_by(reached: u32, declaration: u32, at: usize, part: Part<'_>) -> Option
     }
 }
 
-/// The record, if the component is one.
+/// The RECORD keyword of a component that is a record; `None` for any other component.
 fn record_of(part: Part<'_>) -> Option<u32> {
     match part {
         Part::Record(record) => Some(record),
@@ -117,16 +117,17 @@ fn record_of(part: Part<'_>) -> Option<u32> {
     }
 }
 
-/// The link with its next step: the declaration that the last component of its type names, or that the base of its record names. `None` if
-/// no declaration is found.
+/// The link `it` with its next link: that of the declaration which the last component of its type names, or which is the base of its
+/// record.
+/// `None` if there is no such name, or if the name denotes no declaration of a reached module.
 fn link_with_next(
     indexed_module: &IndexedModule<'_>,
     links: &[ChainLink],
     it: ChainLink,
 ) -> Option<ChainLink> {
-    let module = indexed_module.parts.module(it.reached)?;
+    let module = indexed_module.view.interface(it.reached)?;
     let (at, part) = last_part(module, it.declaration)?;
-    let node = named_by(it.reached, it.declaration, at, part)?;
+    let node = name_node(it.reached, it.declaration, at, part)?;
     let Shape::Named(
         Named::Other {
             reached,
@@ -147,7 +148,7 @@ fn link_with_next(
     })
 }
 
-/// Finds the next step of the declaration with this index.
+/// Finds and stores the next link of the link at index `at`.
 fn find_next_step(indexed_module: &IndexedModule<'_>, links: &mut [ChainLink], at: usize) {
     if at < links.len()
         && let Some(it) = link_with_next(indexed_module, links, links[at])
@@ -156,14 +157,15 @@ fn find_next_step(indexed_module: &IndexedModule<'_>, links: &mut [ChainLink], a
     }
 }
 
-/// Finds the next step of each declaration. Each name is looked up once.
+/// Finds and stores the next link of each link. Each name is looked up once.
 fn find_next_steps(indexed_module: &IndexedModule<'_>, links: &mut [ChainLink]) {
     for at in 0..links.len() {
         find_next_step(indexed_module, links, at);
     }
 }
 
-/// Relaxes the step from this index. Returns whether it gives the next declaration a longer chain.
+/// Relaxes the edge from the link at index `at` to its next link (Bellman-Ford). If the chain through this edge is longer than the longest
+/// chain found so far to the next link, stores its length there and returns true.
 fn relax(links: &mut [ChainLink], at: usize) -> bool {
     let Some(it) = links.get(at).copied() else {
         return false;
@@ -184,7 +186,8 @@ fn relax(links: &mut [ChainLink], at: usize) -> bool {
     true
 }
 
-/// Relaxes all steps, from the last to the first, as most names come after the declarations that they mean.
+/// Relaxes the edges of all links, from the last link to the first. Most names come after the declarations that they mean, so this order
+/// needs few rounds. Returns whether a chain has become longer.
 fn relax_all(links: &mut [ChainLink]) -> bool {
     let mut changed = false;
     let count = links.len();
@@ -197,8 +200,8 @@ fn relax_all(links: &mut [ChainLink]) -> bool {
     changed
 }
 
-/// Computes the length of the longest chain to each declaration (Bellman-Ford). A chain that still grows after `LONG_CHAIN`
-/// rounds is long, since each round adds a step.
+/// Computes for each link the length of the longest chain that arrives there (Bellman-Ford), up to `LONG_CHAIN`. That number of rounds
+/// suffices, since each round adds a step to a chain that still grows.
 fn measure_chains(links: &mut [ChainLink]) {
     for _ in 0..LONG_CHAIN {
         if !relax_all(links) {
@@ -207,7 +210,7 @@ fn measure_chains(links: &mut [ChainLink]) {
     }
 }
 
-/// The declarations at which long chains arrive.
+/// The links of the declarations at which long chains arrive, in the order of the list.
 fn select_chain_ends(alloc: Global, links: &[ChainLink]) -> Result<Vec<ChainLink>, AllocError> {
     let mut chain_ends = Vec::new(alloc);
     for it in links {
@@ -218,22 +221,20 @@ fn select_chain_ends(alloc: Global, links: &[ChainLink]) -> Result<Vec<ChainLink
     Ok(chain_ends)
 }
 
-/// The type declarations of all modules that have a next step and at which long chains arrive, sorted by the indexes of module and
-/// declaration.
+/// The links of the type declarations at which a long chain arrives and from which it goes on, in all reached modules. They are sorted by
+/// the index of the module and then by that of the declaration.
 pub(crate) fn find_chain_ends(
     alloc: Global,
     indexed_module: &IndexedModule<'_>,
-) -> Result<Vec<ChainLink>, AllocError>
-    requires { IsBounded indexed_module.now.parts }
-{
-    let mut links = all_links(alloc, &indexed_module.parts)?;
+) -> Result<Vec<ChainLink>, AllocError> {
+    let mut links = all_links(alloc, &indexed_module.view)?;
     find_next_steps(indexed_module, &mut links);
     measure_chains(&mut links);
     select_chain_ends(alloc, links.as_slice())
 }
 
-/// A digest of these declarations (SipHash-1-3; Aumasson and Bernstein 2012) for the seeds of hash tables: declarations and records
-/// chosen to collide under one seed change the seed, whichever modules they are from.
+/// A digest of these links (SipHash-1-3; Aumasson and Bernstein 2012), which seeds hash tables. Whoever chooses declarations or records
+/// that collide under one seed changes the seed by this choice.
 pub(crate) fn digest_links(chain_ends: &[ChainLink]) -> u64 {
     let mut digest = DefaultHasher::new();
     for it in chain_ends {
@@ -244,7 +245,7 @@ pub(crate) fn digest_links(chain_ends: &[ChainLink]) -> u64 {
     digest.finish()
 }
 
-/// The declarations whose next step is a name or a pointer, by the indexes of module and declaration.
+/// The declarations whose type is a name or a pointer, each as the index of the module and the index of the declaration.
 pub(crate) fn chain_end_names(
     alloc: Global,
     chain_ends: &[ChainLink],
@@ -258,7 +259,7 @@ pub(crate) fn chain_end_names(
     Ok(chain_end_names)
 }
 
-/// The records among these declarations.
+/// The records with bases in the types of these declarations.
 pub(crate) fn chain_end_records(
     alloc: Global,
     chain_ends: &[ChainLink],

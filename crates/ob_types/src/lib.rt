@@ -1,21 +1,15 @@
-//! The types of a module and of the modules that it imports directly or indirectly, as one graph, with look-ups of names and
-//! declarations.
-//! Depends on `scopes` for the meanings of names, on `module_table` and `ob_interface` for the declarations of this module and of others,
-//! on `type_graph` for searches in the graph, and on `text_hash`.
-//! Main type: `Types`, a `TypeGraph`; each look-up returns exactly what the module's table and the interfaces contain. `precompute_types`
-//! precomputes long chains of types once for all modules of a tree; results are equal with and without it.
+//! The types of a module and of the modules that it imports directly or indirectly, as one graph. Depends on `ob_view` for the module, its
+//! names and declarations and those of the modules that it reaches, on `type_graph` for searches in the graph, and on `text_hash` and
+//! `indexmap` for the index of fields. It also depends on `ob_scan`, `module_table`, `scopes` and `ob_interface` for what a view is made
+//! of. Main type: `Types`, a `TypeGraph`; each look-up returns exactly what the module's table and the interfaces contain.
+//! `precompute_types` precomputes long chains of types once for all modules of a tree; results are equal with and without it.
 #![tactic(auto)]
 
 mod chain_lengths;
-mod external;
-mod hints;
+mod field_index;
 mod indexed_module;
-mod indexes;
 mod listed;
-mod module_numbers;
-mod names;
 mod nodes;
-mod parts;
 mod precompute;
 mod precomputed;
 mod shapes;

@@ -1,37 +1,33 @@
 //! Lists the records and fields of a module and of the modules that it reaches.
-ghost use Rattle.std.specs.Prelude.{IfOk, OnOk, map};
-ghost use Rattle.std.specs.Arc.{arc_value};
+ghost use Rattle.std.specs.Prelude.{IfOk, OnOk};
 ghost use Rattle.ob_interface.specs.Views.{declaration_value};
-ghost use Rattle.ob_scan.specs.Spelling.{AreInText};
 ghost use Rattle.type_graph.specs.ListedFields.{AreAllFields};
-ghost use Rattle.ob_types.specs.WorldOfParts.{world_of, IsBounded};
 ghost use Rattle.ob_types.specs.Shapes.{field_of};
 ghost use Rattle.ob_types.specs.FieldLists.{ListsDeclaration, ListsModule, ListsLocal, ListsReached, ListsRow};
 
-use crate::names::record_of;
+use crate::field_index::record_of;
 use crate::nodes::Record;
-use crate::parts::Parts;
 use module_table::Declared;
 use ob_interface::{Declaration, Interface, Part};
+use ob_view::View;
 use std::alloc::{AllocError, Global};
 use type_graph::RecordField;
 
-/// Appends an identifier that the module declares, if it is a field.
+/// Appends the identifier `row`, which the module declares, if it is a field. `index` is the index of the identifier.
 fn append_if_field<'a>(
-    parts: &Parts<'a>,
+    view: &View<'a>,
     fields: &mut Vec<RecordField<'a, Record>>,
     index: usize,
     row: Declared,
 ) -> Result<(), AllocError>
-    requires { AreInText parts.now.bytes.now parts.now.tokens.now }
-    ensures { OnOk result (ListsRow (world_of parts.now) row fields.old.items fields.new.items) }
+    ensures { OnOk result (ListsRow view.now row fields.old.items fields.new.items) }
 {
-    match record_of(parts, index, row.declared_by) {
+    match record_of(view, index, row.declared_by) {
         None => Ok(()),
         Some(record) => {
             fields.push(RecordField {
                 of_record: Record::Own(record),
-                name: parts.text(row.number),
+                name: view.text(row.number),
             })?;
             Ok(())
         }
@@ -40,15 +36,14 @@ fn append_if_field<'a>(
 
 /// Appends the fields that the module declares.
 fn append_local_fields<'a>(
-    parts: &Parts<'a>,
+    view: &View<'a>,
     fields: &mut Vec<RecordField<'a, Record>>,
 ) -> Result<(), AllocError>
-    requires { AreInText parts.now.bytes.now parts.now.tokens.now }
-    ensures { OnOk result (ListsLocal (world_of parts.now) fields.old.items fields.new.items) }
+    ensures { OnOk result (ListsLocal view.now fields.old.items fields.new.items) }
 {
-    let rows = parts.table.declared();
+    let rows = view.table().declared();
     for index in 0..rows.len() {
-        append_if_field(parts, fields, index, rows[index])?;
+        append_if_field(view, fields, index, rows[index])?;
     }
     Ok(())
 }
@@ -92,39 +87,38 @@ fn append_module_fields<'a>(
 
 /// Appends the fields that all reached modules export.
 fn append_reached_fields<'a>(
-    parts: &Parts<'a>,
+    view: &View<'a>,
     fields: &mut Vec<RecordField<'a, Record>>,
 ) -> Result<(), AllocError>
-    requires { IsBounded parts.now }
-    ensures { OnOk result (ListsReached (map arc_value parts.now.reached.now) fields.old.items fields.new.items) }
+    ensures { OnOk result (ListsReached view.now.reached fields.old.items fields.new.items) }
 {
-    let reached = parts.reached;
+    view.invariants();
+    let reached = view.reached();
     for at in 0..reached.len() {
         append_module_fields(&reached[at], fields, at as u32)?;
     }
     Ok(())
 }
 
-/// All fields that records declare themselves: those of the module, and the exported ones of the modules that it reaches.
+/// Lists the fields of all records: those that the module declares, and those that the reached modules export. Each field is listed with
+/// the record that declares it.
 pub(crate) fn list_fields<'a>(
     alloc: Global,
-    parts: &Parts<'a>,
+    view: &View<'a>,
 ) -> Result<Vec<RecordField<'a, Record>>, AllocError>
-    requires in_text { AreInText parts.now.bytes.now parts.now.tokens.now }
-    requires few { IsBounded parts.now }
-    ensures { IfOk result (λ fields. AreAllFields (field_of (world_of parts.now)) fields.items) }
+    ensures { IfOk result (λ fields. AreAllFields (field_of view.now) fields.items) }
 {
     let mut fields = Vec::new(alloc);
-    append_local_fields(parts, &mut fields)?;
-    append_reached_fields(parts, &mut fields)?;
+    append_local_fields(view, &mut fields)?;
+    append_reached_fields(view, &mut fields)?;
     Ok(fields)
 }
 
-/// An index after the last component of a declaration's type expression, at most twice its length, by doubling.
+/// An upper bound of the number of components of a declaration's type expression, found by doubling. `last_part` searches below it.
 fn part_bound(module: &Interface, index: u32) -> usize {
     let mut distance = 1_usize;
     for _ in 0..32 {
-        if module.part(index, distance).is_none() {
+        if module.type_part(index, distance).is_none() {
             return distance;
         }
         distance = distance.saturating_mul(2);
@@ -132,8 +126,8 @@ fn part_bound(module: &Interface, index: u32) -> usize {
     distance
 }
 
-/// The innermost component of a declaration's type expression with its index, by binary search, as type expressions may be long. It is
-/// the record, if the type has one.
+/// The last component of a declaration's type expression, which is the innermost one, with its index; `None` if there are no components.
+/// If the type has a record, this is it. Type expressions can be long, so this is a binary search.
 pub(crate) fn last_part<'a>(module: &'a Interface, index: u32) -> Option<(usize, Part<'a>)> {
     let mut low = 0_usize;
     let mut high = part_bound(module, index);
@@ -143,13 +137,13 @@ pub(crate) fn last_part<'a>(module: &'a Interface, index: u32) -> Option<(usize,
             break;
         }
         let middle = low.saturating_add(half);
-        if module.part(index, middle).is_none() {
+        if module.type_part(index, middle).is_none() {
             high = middle;
         } else {
             low = middle;
         }
     }
-    Some((low, module.part(index, low)?))
+    Some((low, module.type_part(index, low)?))
 }
 
 /// Appends the records of the declarations of a reached module.
@@ -167,27 +161,26 @@ fn append_records(
 }
 
 /// The records of the module itself.
-fn local_records(alloc: Global, parts: &Parts<'_>) -> Result<Vec<Record>, AllocError> {
+fn local_records(alloc: Global, view: &View<'_>) -> Result<Vec<Record>, AllocError> {
     let mut records = Vec::new(alloc);
-    for row in parts.table.records() {
+    for row in view.table().records() {
         records.push(Record::Own(row.number))?;
     }
     Ok(records)
 }
 
 /// The records of the module and of the modules that it reaches.
-pub(crate) fn list_records(alloc: Global, parts: &Parts<'_>) -> Result<Vec<Record>, AllocError>
-    requires { IsBounded parts.now }
-{
-    let mut records = local_records(alloc, parts)?;
-    let reached = parts.reached;
+pub(crate) fn list_records(alloc: Global, view: &View<'_>) -> Result<Vec<Record>, AllocError> {
+    let mut records = local_records(alloc, view)?;
+    view.invariants();
+    let reached = view.reached();
     for at in 0..reached.len() {
         append_records(&reached[at], &mut records, at as u32)?;
     }
     Ok(records)
 }
 
-/// An upper estimate of the number of declarations of a reached module: the smallest power of two that isn't below it.
+/// An estimate, by doubling, of the number of declarations of a reached module: the smallest power of two that isn't a declaration's index.
 fn estimate_declaration_count(module: &Interface) -> u64 {
     let mut many = 1_u32;
     for _ in 0..32 {
@@ -199,15 +192,15 @@ fn estimate_declaration_count(module: &Interface) -> u64 {
     u64::from(many)
 }
 
-/// An estimate of the number of declarations and records of the module and of the modules that it reaches.
-pub(crate) fn size_estimate(parts: &Parts<'_>) -> u64 {
-    let own = parts
-        .table
+/// An estimate of the number of declarations and records in the module and in the modules that it reaches. It affects only speed.
+pub(crate) fn size_estimate(view: &View<'_>) -> u64 {
+    let own = view
+        .table()
         .declared()
         .len()
-        .saturating_add(parts.table.records().len());
+        .saturating_add(view.table().records().len());
     let mut size = own as u64;
-    for module in parts.reached {
+    for module in view.reached() {
         size = size.saturating_add(estimate_declaration_count(module));
     }
     size

@@ -1,22 +1,22 @@
 //! The nodes of the graph of types.
 
-/// A type, by its location in the source.
+/// A node of the graph of types: a type, identified by its location in a source.
 #[derive(Clone, Copy, Drop)]
 pub enum Node {
-    /// The component with this index, among those of the module itself.
+    /// The component at this index of the module table, in a type expression of the module itself.
     Own(usize),
-    /// A type's name in the module, by its tokens: the base of a record, or a type guard.
+    /// The name of a type in the module itself, by its one or two tokens: the base of a record, or a type guard.
     Name {
         head: u32,
         member: Option<u32>,
     },
-    /// A component of a declaration of a reached module, by the three indexes.
+    /// A component of the type expression of a reached module's declaration, by the indexes of module, declaration and component.
     Other {
         reached: u32,
         declaration: u32,
         part: usize,
     },
-    /// The base of a record of a reached module, by the record's RECORD keyword.
+    /// The base of a record of a reached module, by the index of the module and the token number of the RECORD keyword.
     OtherBase {
         reached: u32,
         record: u32,
@@ -30,7 +30,7 @@ pub enum Named {
     Other { reached: u32, declaration: u32 },
 }
 
-/// A record type, by its RECORD keyword, in the module itself or in a reached one.
+/// A record type of the module itself or of a reached module, by the token number of its RECORD keyword.
 #[derive(Clone, Copy, PartialEq, Eq, Hash, Drop)]
 pub enum Record {
     Own(u32),

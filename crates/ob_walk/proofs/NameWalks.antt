@@ -15,7 +15,7 @@ use Rattle.ob_walk.proofs.Walks.{walks}
 pub qualident_items : (q : Qualident) → items_of (qualident_events q) ≡ items.Identifier roles.Uses q.head ∷ items_of (if_present (λ m. word kinds.Dot ++ completed m) q.member)
 qualident_items q = rw (qualident_out q) refl
 
-pub identdef_items : (i : Identdef) → items_of (identdef_events i) ≡ items.Identifier (roles.Declares i.starred) i.name ∷ items_of (if_true i.starred (word kinds.Star))
+pub identdef_items : (i : Identdef) → items_of (identdef_events i) ≡ items.Identifier (roles.Declares i.is_exported) i.name ∷ items_of (if_true i.is_exported (word kinds.Star))
 identdef_items i = rw (identdef_out i) refl
 
 pub ruleset name_items = (walks, qualident_items, identdef_items)

@@ -52,7 +52,7 @@ pub declared-items : (ms : Events) → filter_map declared_by (items_of ms) ≡ 
 declared-items [] = refl
 declared-items (Begins c n ∷ ms) = declared-items ms
 declared-items (Ends c ∷ ms) = declared-items ms
-declared-items (Identifier (Declares starred) n ∷ ms) = ap (λ (ns : List ℕ). n ∷ ns) (declared-items ms)
+declared-items (Identifier (Declares is_exported) n ∷ ms) = ap (λ (ns : List ℕ). n ∷ ns) (declared-items ms)
 declared-items (Identifier Aliases n ∷ ms) = ap (λ (ns : List ℕ). n ∷ ns) (declared-items ms)
 declared-items (Identifier Imports n ∷ ms) = declared-items ms
 declared-items (Identifier Uses n ∷ ms) = declared-items ms
@@ -67,7 +67,7 @@ pub used-items : (ms : Events) → filter_map used_by (items_of ms) ≡ used_in 
 used-items [] = refl
 used-items (Begins c n ∷ ms) = used-items ms
 used-items (Ends c ∷ ms) = used-items ms
-used-items (Identifier (Declares starred) n ∷ ms) = used-items ms
+used-items (Identifier (Declares is_exported) n ∷ ms) = used-items ms
 used-items (Identifier Aliases n ∷ ms) = used-items ms
 used-items (Identifier Imports n ∷ ms) = used-items ms
 used-items (Identifier Uses n ∷ ms) = ap (λ (ns : List ℕ). n ∷ ns) (used-items ms)

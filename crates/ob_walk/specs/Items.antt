@@ -14,7 +14,7 @@ items_of (Identifier r n ∷ ms) = items.Identifier r n ∷ items_of ms
 items_of (Value k n ∷ ms) = items.Value n ∷ items_of ms
 items_of (Word k ∷ ms) = items.Word ∷ items_of ms
 
--- the number of a token; a word has no number of its own, so its index is passed
+-- the token number of an item: the number that an identifier or literal has, or for a word the given index
 abbrev pub number_at : ℕ → Item → ℕ
 number_at at (items.Identifier r n) = n
 number_at at (items.Value n) = n
@@ -22,7 +22,7 @@ number_at at items.Word = at
 
 -- the number of the identifier, if the item declares it (`declared_by`), or if the scope rule looks it up (`used_by`)
 abbrev pub declared_by : Item → Option ℕ
-declared_by (items.Identifier (Declares starred) n) = Some n
+declared_by (items.Identifier (Declares is_exported) n) = Some n
 declared_by (items.Identifier Aliases n) = Some n
 declared_by (items.Identifier Imports n) = None
 declared_by (items.Identifier Uses n) = None
@@ -34,7 +34,7 @@ declared_by (items.Value n) = None
 declared_by items.Word = None
 
 abbrev pub used_by : Item → Option ℕ
-used_by (items.Identifier (Declares starred) n) = None
+used_by (items.Identifier (Declares is_exported) n) = None
 used_by (items.Identifier Aliases n) = None
 used_by (items.Identifier Imports n) = None
 used_by (items.Identifier Uses n) = Some n

@@ -1,4 +1,4 @@
-//! The sink of a walk.
+//! The buffer that receives the tokens of a walk.
 
 use crate::item::Item;
 use std::marker::Model;
@@ -24,8 +24,8 @@ impl Items {
     ghost use Rattle.std.specs.Prelude.{◌≡◌, [], ◌∷◌};
     ghost use Rattle.ob_walk.specs.Items.{with_items};
 
-    /// An empty sink over these slots.
-    pub(crate) fn over(slots: Vec<Item>) -> Items
+    /// A buffer that fills these slots; it has counted no item yet.
+    pub(crate) fn with_slots(slots: Vec<Item>) -> Items
         ensures { result ≡ (slots.items, 0) }
     {
         Items { slots, count: 0 }

@@ -19,15 +19,15 @@ use std::alloc::{AllocError, Global};
 fn items(alloc: Global, module: &Module) -> Result<Vec<Item>, AllocError>
     ensures { IfOk result (λ v. v.items ≡ items_of (module_events «module».now)) }
 {
-    let mut counted = Items::over(Vec::new(alloc));
+    let mut counted = Items::with_slots(Vec::new(alloc));
     walk_module(&mut counted, module);
-    let mut filled = Items::over(vec![in alloc; Item::Word; counted.count()]?);
+    let mut filled = Items::with_slots(vec![in alloc; Item::Word; counted.count()]?);
     walk_module(&mut filled, module);
     Ok(filled.slots())
 }
 
-/// The number of a token with this index.
-fn number_of(item: Item, position: u32) -> u32
+/// The token number of an item: that of an identifier or literal, or for a word its index `position` among all items.
+fn token_number(item: Item, position: u32) -> u32
     ensures { result ≡ number_at position item }
 {
     match item {
@@ -42,7 +42,7 @@ fn number_of(item: Item, position: u32) -> u32
 pub fn yield_of(alloc: Global, module: &Module) -> Result<Vec<u32>, AllocError>
     // Token numbers have 32 bits.
     requires { length (spelling «module».now) < 2 ^ 32 }
-    // The numbers are those of the tokens of the tree, in order.
+    // The result has the numbers of the tokens of the tree, in order.
     ensures exact { IfOk result (λ v. v.items ≡ yields «module».now) }
     // If the tree derives the tokens of a file, the numbers are 0, 1, 2 and so on to the last token.
     ensures complete { IfOk result (λ v. (kinds : List Kind) → Derives kinds «module».now → v.items ≡ range_with_len 0 (length kinds)) }
@@ -51,7 +51,7 @@ pub fn yield_of(alloc: Global, module: &Module) -> Result<Vec<u32>, AllocError>
     let mut numbers = Vec::new(alloc);
     for item in &items {
         let position = numbers.len() as u32;
-        numbers.push(number_of(*item, position))?;
+        numbers.push(token_number(*item, position))?;
     }
     Ok(numbers)
 }
@@ -66,7 +66,7 @@ pub fn declarations(alloc: Global, module: &Module) -> Result<Vec<u32>, AllocErr
     let mut numbers = Vec::new(alloc);
     for item in &items {
         match *item {
-            Item::Identifier(Role::Declares { starred: _ } | Role::Aliases, number) => {
+            Item::Identifier(Role::Declares { is_exported: _ } | Role::Aliases, number) => {
                 numbers.push(number)?;
             }
             Item::Identifier(_, _) | Item::Value(_) | Item::Word => {}

@@ -1,7 +1,7 @@
 //! The program: parses the command line, runs one engine on the files of the system and standard output, and returns an exit status.
 //! Depends on `oscip_job` for the command line, on `oscip_run` and `index_run` for the engines, the files and the ends of runs, and on
 //! `atomic_file` for replacing an index.
-//! It is proved to be safe. What it writes, and its status, is what the calls of these crates promise.
+//! The program is proved to be safe. What it writes, and its status, follow from the contracts of the functions that it calls.
 #![tactic(auto)]
 
 ghost use Rattle.std.specs.String.{string_bytes};
@@ -10,11 +10,12 @@ ghost use Rattle.oscip_job.specs.Jobs.{HasPackage, HasWorkers, IsPackage, IsWork
 
 use atomic_file::{ContentFault, ReplaceFault, StdFile, StdFiles, replace_file};
 use byte_sink::{Sink, ToWrite};
-use index_run::{OpenBoardGate, answer_index, run_unresolved};
+use index_run::{OpenBoardGate, run_unresolved, write_requested_index};
 use oscip_job::{IndexRequest, Job, JobFault, Output, job_of};
 use oscip_run::{
-    Reader, RunFault, Stream, SystemFiles, TreeRun, end_of, end_of_tree, end_without_job,
-    line_of_run, run_net, run_question, run_tree, style_of_job, tree_files,
+    Reader, RunFault, Stream, SystemFiles, TreeRun, finish_run, finish_tree_run,
+    finish_without_job, read_tree_files, run_fault_line, run_index_question, run_network_job,
+    run_tree_job, style_of_job,
 };
 use source_tree::{PartitionedFiles, Source};
 use std::alloc::Global;
@@ -27,7 +28,7 @@ use std::thread::Threads;
 use std::{env, fs, io};
 use texts::LocationStyle;
 
-/// The fault that the file of this path can't be written, or `Memory`.
+/// The fault `CannotWrite` with a copy of the path, or `Memory` if the copy fails.
 fn cannot_write(alloc: Global, path: &str) -> RunFault {
     match String::from_str(alloc, path) {
         Ok(path) => RunFault::CannotWrite { path },
@@ -35,38 +36,44 @@ fn cannot_write(alloc: Global, path: &str) -> RunFault {
     }
 }
 
-/// Writes an index to the file of this path, after creating or emptying the file. Fails with `CannotWrite` for the path if the file can't
-/// be opened or written.
+/// Makes an index and writes it to the file at this path, after creating or emptying the file. Fails with `CannotWrite` for the path if the
+/// file can't be opened or written.
 fn write_index_file<R: Files + AllocGlobal + Threads + Wait + Sync>(
     rt: &R,
     indexing: &IndexRequest,
     sources: &[Source],
     path: &str,
 ) -> Result<(), RunFault>
+    // The files are sorted by path, each path once.
     requires in_order { ArePathsInOrder sources.now }
+    // The package isn't `.` and doesn't begin with a space.
     requires package { IsPackage (string_bytes indexing.now.package) }
+    // The number of workers is 1 to 64.
     requires workers { IsWorkerCount indexing.now.workers }
 {
     let Ok(file) = fs::create(rt, path) else {
         return Err(cannot_write(rt.alloc(), path));
     };
     let mut sink = ToWrite::new(file);
-    match answer_index(rt, rt.alloc(), indexing, sources, &OpenBoardGate, &mut sink) {
+    match write_requested_index(rt, rt.alloc(), indexing, sources, &OpenBoardGate, &mut sink) {
         Err(RunFault::Device) => Err(cannot_write(rt.alloc(), path)),
         ended => ended,
     }
 }
 
-/// Replaces the content of the file of this path atomically by an index. Fails with `CannotWrite` for the path of the file, or of the
-/// partial file.
-fn replace_index<R: Files<File = File> + AllocGlobal + Threads + Wait + Sync>(
+/// Makes an index and replaces the content of the file at this path by it atomically. Fails with `CannotWrite` for the path of the file, or
+/// for that of the partial file, if either can't be written.
+fn replace_index_file<R: Files<File = File> + AllocGlobal + Threads + Wait + Sync>(
     rt: &R,
     indexing: &IndexRequest,
     sources: &[Source],
     path: &str,
 ) -> Result<(), RunFault>
+    // The files are sorted by path, each path once.
     requires in_order { ArePathsInOrder sources.now }
+    // The package isn't `.` and doesn't begin with a space.
     requires package { IsPackage (string_bytes indexing.now.package) }
+    // The number of workers is 1 to 64.
     requires workers { IsWorkerCount indexing.now.workers }
 {
     let alloc = rt.alloc();
@@ -75,7 +82,7 @@ fn replace_index<R: Files<File = File> + AllocGlobal + Threads + Wait + Sync>(
         requires package { IsPackage (string_bytes indexing.now.package) }
         requires workers { IsWorkerCount indexing.now.workers }
     {
-        match answer_index(rt, alloc, indexing, sources, &OpenBoardGate, file) {
+        match write_requested_index(rt, alloc, indexing, sources, &OpenBoardGate, file) {
             Ok(()) => Ok(()),
             Err(RunFault::Device) => Err(ContentFault::Device),
             Err(fault) => Err(ContentFault::Other(fault)),
@@ -90,38 +97,51 @@ fn replace_index<R: Files<File = File> + AllocGlobal + Threads + Wait + Sync>(
     }
 }
 
-/// Writes an index to the output of the job.
+/// Makes an index and writes it to the output of the request: to a file, or as hexadecimal digits to `sink`.
 fn write_index<R: Files<File = File> + AllocGlobal + Threads + Wait + Sync, S: Sink>(
     rt: &R,
     indexing: &IndexRequest,
     sources: &[Source],
     sink: &mut S,
 ) -> Result<(), RunFault>
+    // The files are sorted by path, each path once.
     requires in_order { ArePathsInOrder sources.now }
+    // The package isn't `.` and doesn't begin with a space.
     requires package { IsPackage (string_bytes indexing.now.package) }
+    // The number of workers is 1 to 64.
     requires workers { IsWorkerCount indexing.now.workers }
 {
     match &indexing.output {
         Output::File(path) if indexing.is_atomic => {
-            replace_index(rt, indexing, sources, path.as_str())
+            replace_index_file(rt, indexing, sources, path.as_str())
         }
         Output::File(path) => write_index_file(rt, indexing, sources, path.as_str()),
-        Output::Hex => answer_index(rt, rt.alloc(), indexing, sources, &OpenBoardGate, sink),
+        Output::Hex => write_requested_index(
+            rt,
+            rt.alloc(),
+            indexing,
+            sources,
+            &OpenBoardGate,
+            sink,
+        ),
     }
 }
 
-/// Makes an index, once all files of its folder have been read.
+/// Reads all files of the request's folder, then makes and writes the index. Returns the result of this, and the faults of the files that
+/// were left out.
 fn run_index<R: Files<File = File> + AllocGlobal + Threads + Wait + Sync, F: Reader, S: Sink>(
     rt: &R,
     reader: &F,
     indexing: &IndexRequest,
     sink: &mut S,
 ) -> Result<TreeRun, RunFault>
+    // The package isn't `.` and doesn't begin with a space.
     requires package { IsPackage (string_bytes indexing.now.package) }
+    // The number of workers is 1 to 64.
     requires workers { IsWorkerCount indexing.now.workers }
 {
     let tree = &indexing.tree;
-    let files = tree_files(rt, rt.alloc(), reader, tree, indexing.workers)?;
+    let files = read_tree_files(rt, rt.alloc(), reader, tree, indexing.workers)?;
     let PartitionedFiles { accepted, faults } = files;
     let ended = write_index(rt, indexing, accepted.as_slice(), sink);
     Ok(TreeRun {
@@ -130,31 +150,36 @@ fn run_index<R: Files<File = File> + AllocGlobal + Threads + Wait + Sync, F: Rea
     })
 }
 
-/// Runs the job on the files of the system and standard output.
+/// Runs the job with the files of the system and standard output. Reports the faults of files that were left out to `stderr`. A result of
+/// false means the exit status 5.
 fn run_job<
     R: Files<File = File> + AllocGlobal + Print + Threads + Wait + Sync + Clone + Drop,
     E: Sink,
 >(rt: &R, job: &Job, style: LocationStyle<'_>, stderr: &mut Stream<E>) -> Result<bool, RunFault>
+    // If the job has a number of workers, it is from 1 to 64.
     requires workers { HasWorkers job.now }
+    // If the job makes an index, the package isn't `.` and doesn't begin with a space.
     requires package { HasPackage job.now }
 {
     let alloc = rt.alloc();
     let reader = SystemFiles(rt);
     let mut sink = ToWrite::new(io::writer(rt));
     let run = match job {
-        Job::Tree { tree, question } => run_tree(rt, alloc, &reader, tree, question, &mut sink)?,
+        Job::Tree { tree, question } => run_tree_job(
+            rt, alloc, &reader, tree, question, &mut sink,
+        )?,
         Job::Unresolved(tree) => run_unresolved(rt, alloc, &reader, tree, &mut sink)?,
         Job::Index(indexing) => run_index(rt, &reader, indexing, &mut sink)?,
         Job::Network { network, question } => {
-            return run_net(rt, alloc, &reader, network.as_str(), question, &mut sink);
+            return run_network_job(rt, alloc, &reader, network.as_str(), question, &mut sink);
         }
         Job::Ask {
             index,
             question,
             ..
-        } => return run_question(alloc, &reader, index.as_str(), question, style, &mut sink),
+        } => return run_index_question(alloc, &reader, index.as_str(), question, style, &mut sink),
     };
-    end_of_tree(alloc, run, style, stderr)
+    finish_tree_run(alloc, run, style, stderr)
 }
 
 /// Runs the job, reports its fault, and returns the exit status.
@@ -162,25 +187,28 @@ fn run_and_report<
     R: Files<File = File> + AllocGlobal + Print + Threads + Wait + Sync + Clone + Drop,
     E: Sink,
 >(rt: &R, job: &Job, stderr: &mut Stream<E>) -> ExitCode
+    // If the job has a number of workers, it is from 1 to 64.
     requires workers { HasWorkers job.now }
+    // If the job makes an index, the package isn't `.` and doesn't begin with a space.
     requires package { HasPackage job.now }
 {
     let style = style_of_job(job);
     let ended = run_job(rt, job, style, stderr);
-    let line = line_of_run(rt.alloc(), style, &ended);
-    end_of(&ended, line, stderr)
+    let line = run_fault_line(rt.alloc(), style, &ended);
+    finish_run(&ended, line, stderr)
 }
 
-/// Reports why there is no job, or writes the help, and returns the exit status.
+/// Reports the error of the command line, or writes the requested help, and returns the exit status.
 fn report_no_job<R: AllocGlobal + Print, E: Sink>(
     rt: &R,
     fault: &JobFault,
     stderr: &mut Stream<E>,
 ) -> ExitCode {
     let mut stdout = Stream::new(ToWrite::new(io::writer(rt)));
-    end_without_job(fault, &mut stdout, stderr)
+    finish_without_job(fault, &mut stdout, stderr)
 }
 
+/// Parses the arguments into a job and runs it, or reports why there is no job. Returns the exit status.
 fn run<R: Files<File = File> + AllocGlobal + Print + Threads + Wait + Sync + Clone + Drop, E: Sink>(
     rt: &R,
     words: &[String],
@@ -192,7 +220,7 @@ fn run<R: Files<File = File> + AllocGlobal + Print + Threads + Wait + Sync + Clo
     }
 }
 
-/// The fault for a command line with an argument that isn't UTF-8.
+/// The fault for a command line with an argument that isn't UTF-8, or `Memory` if its text can't be allocated.
 fn non_utf8_fault(alloc: Global) -> JobFault {
     match String::from_str(alloc, "error: a word of the command line isn't UTF-8\n") {
         Ok(text) => JobFault::Line { text },
@@ -206,6 +234,8 @@ fn command_line_arguments<R: Env + AllocGlobal>(rt: &R) -> io::Result<Vec<String
     Ok(words.collect(rt.alloc())?)
 }
 
+/// Runs the program on the arguments of its command line, and returns its exit status. An argument that isn't UTF-8 is an error of the
+/// command line.
 fn main(rt: HostRuntime) -> ExitCode {
     let mut stderr = Stream::new(ToWrite::new(rt.stderr()));
     match command_line_arguments(&rt) {

@@ -1,8 +1,6 @@
 //! A benchmark of the program: runs one of six workloads on inputs that are generated from a seed, and prints the digest of the jobs'
-//! output.
-//! Depends on `oscip_run` and `index_run` for the jobs, and on `oscip_job`, `source_tree`, `ob_board`, `cut_solve` and `byte_sink` for their
-//! inputs.
-//! Nothing but safety is proved. Equal arguments give equal digests.
+//! output. Depends on `oscip_run` and `index_run` for the jobs, and on `oscip_job`, `source_tree`, `ob_board`, `cut_solve` and `byte_sink`
+//! for their inputs. Nothing but safety is proved. Equal arguments give equal digests.
 #![tactic(auto)]
 
 ghost use Rattle.std.specs.Prelude.{◌≤◌};

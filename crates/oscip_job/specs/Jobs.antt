@@ -38,11 +38,11 @@ use Rattle.oscip_job.specs.declared.job.TwoNames.{TwoNames}
 abbrev pub required_rule : Text → Rule
 required_rule id = record (new_rule id) { required = true }
 
--- the command with the arguments A B
+-- the command with the arguments A and B added
 abbrev pub with_modules : App → App
 with_modules app = with_rule (with_rule app (required_rule (codes "A"))) (required_rule (codes "B"))
 
--- --workers N, a number from 1 to 64, by default 4
+-- the option --workers N: a number from 1 to 64, by default 4
 abbrev pub workers_rule : Rule
 workers_rule = record (new_rule (codes "workers")) {
   long = Some (codes "workers");
@@ -55,7 +55,7 @@ workers_rule = record (new_rule (codes "workers")) {
 abbrev pub with_workers : App → App
 with_workers app = with_rule app workers_rule
 
--- --prices FILE
+-- the option --prices FILE
 abbrev pub prices_rule : Rule
 prices_rule = record (new_rule (codes "prices")) { long = Some (codes "prices"); value_names = 1 }
 
@@ -67,7 +67,7 @@ with_prices app = with_rule app prices_rule
 abbrev pub flag_rule : Text → Rule
 flag_rule id = record (new_rule id) { long = Some id; action = Some actions.SetTrue }
 
--- --exclude PATTERN, any number of times
+-- the option --exclude PATTERN, which may be given any number of times
 abbrev pub exclude_rule : Rule
 exclude_rule = record (new_rule (codes "exclude")) { long = Some (codes "exclude"); value_names = 1; action = Some actions.Append }
 
@@ -75,69 +75,69 @@ exclude_rule = record (new_rule (codes "exclude")) { long = Some (codes "exclude
 abbrev pub with_editor : App → App
 with_editor app = with_rule app (flag_rule (codes "editor"))
 
--- the command with [--exclude PATTERN].. [--editor]
+-- the command with the options [--exclude PATTERN].. [--editor] added
 abbrev pub with_walk_options : App → App
 with_walk_options app = with_editor (with_rule app exclude_rule)
 
--- the command with [--exclude PATTERN].. [--editor] [--skip-faults]
+-- the command with the options [--exclude PATTERN].. [--editor] [--skip-faults] added
 abbrev pub with_tree_options : App → App
 with_tree_options app = with_rule (with_walk_options app) (flag_rule (codes "skip-faults"))
 
 -- Below, a command on a folder has the options of with_tree_options as well; faults has those of with_walk_options.
 
--- cut [--workers N] [--prices FILE] DIR A B
+-- the command `cut [--workers N] [--prices FILE] DIR A B`, with the options of with_tree_options
 abbrev pub cut_app : App
 cut_app = with_tree_options (with_prices (with_workers (with_modules (with_rule (new_app (codes "cut")) (required_rule (codes "DIR"))))))
 
--- check [--prices FILE] DIR REPORT
+-- the command `check [--prices FILE] DIR REPORT`, with the options of with_tree_options
 abbrev pub check_app : App
 check_app = with_tree_options (with_prices (with_rule (with_rule (new_app (codes "check")) (required_rule (codes "DIR"))) (required_rule (codes "REPORT"))))
 
--- crossings DIR M N
+-- the command `crossings DIR M N`, with the options of with_tree_options
 abbrev pub crossings_app : App
 crossings_app = with_tree_options (with_rule (with_rule (with_rule (new_app (codes "crossings")) (required_rule (codes "DIR"))) (required_rule (codes "M"))) (required_rule (codes "N")))
 
--- net DIR
+-- the command `net DIR`, with the options of with_tree_options
 abbrev pub net_app : App
 net_app = with_tree_options (with_rule (new_app (codes "net")) (required_rule (codes "DIR")))
 
--- rules DIR FILE
+-- the command `rules DIR FILE`, with the options of with_tree_options
 abbrev pub rules_app : App
 rules_app = with_tree_options (with_rule (with_rule (new_app (codes "rules")) (required_rule (codes "DIR"))) (required_rule (codes "FILE")))
 
--- faults DIR
+-- the command `faults DIR`, with the options of with_walk_options
 abbrev pub faults_app : App
 faults_app = with_walk_options (with_rule (new_app (codes "faults")) (required_rule (codes "DIR")))
 
--- why DIR A B
+-- the command `why DIR A B`, with the options of with_tree_options
 abbrev pub why_app : App
 why_app = with_tree_options (with_modules (with_rule (new_app (codes "why")) (required_rule (codes "DIR"))))
 
--- the command with [--back] M
+-- the command with the flag and the argument [--back] M added
 abbrev pub with_reach_arguments : App → App
 with_reach_arguments app = with_rule (with_rule app (required_rule (codes "M"))) (flag_rule (codes "back"))
 
--- reach [--back] DIR M
+-- the command `reach [--back] DIR M`, with the options of with_tree_options
 abbrev pub reach_app : App
 reach_app = with_tree_options (with_reach_arguments (with_rule (new_app (codes "reach")) (required_rule (codes "DIR"))))
 
--- reach-net [--back] FILE M
+-- the command `reach-net [--back] FILE M`
 abbrev pub reach_net_app : App
 reach_net_app = with_reach_arguments (with_rule (new_app (codes "reach-net")) (required_rule (codes "FILE")))
 
--- modules DIR
+-- the command `modules DIR`, with the options of with_tree_options
 abbrev pub modules_app : App
 modules_app = with_tree_options (with_rule (new_app (codes "modules")) (required_rule (codes "DIR")))
 
--- cut-net [--workers N] [--prices FILE] FILE A B
+-- the command `cut-net [--workers N] [--prices FILE] FILE A B`
 abbrev pub cut_net_app : App
 cut_net_app = with_prices (with_workers (with_modules (with_rule (new_app (codes "cut-net")) (required_rule (codes "FILE")))))
 
--- check-net [--prices FILE] FILE REPORT
+-- the command `check-net [--prices FILE] FILE REPORT`
 abbrev pub check_net_app : App
 check_net_app = with_prices (with_rule (with_rule (new_app (codes "check-net")) (required_rule (codes "FILE"))) (required_rule (codes "REPORT")))
 
--- why-net FILE A B
+-- the command `why-net FILE A B`
 abbrev pub why_net_app : App
 why_net_app = with_modules (with_rule (new_app (codes "why-net")) (required_rule (codes "FILE")))
 
@@ -145,72 +145,72 @@ why_net_app = with_modules (with_rule (new_app (codes "why-net")) (required_rule
 abbrev pub with_flow : App → App
 with_flow app = with_rule app (flag_rule (codes "flow"))
 
--- dot [--flow] [--prices FILE] DIR REPORT
+-- the command `dot [--flow] [--prices FILE] DIR REPORT`, with the options of with_tree_options
 abbrev pub dot_app : App
 dot_app = with_tree_options (with_flow (with_prices (with_rule (with_rule (new_app (codes "dot")) (required_rule (codes "DIR"))) (required_rule (codes "REPORT")))))
 
--- dot-net [--flow] [--prices FILE] FILE REPORT
+-- the command `dot-net [--flow] [--prices FILE] FILE REPORT`
 abbrev pub dot_net_app : App
 dot_net_app = with_flow (with_prices (with_rule (with_rule (new_app (codes "dot-net")) (required_rule (codes "FILE"))) (required_rule (codes "REPORT"))))
 
--- a number from 0 to 2147483647, required or not
+-- an argument whose value is a number from 0 to 2147483647, required if the flag is true
 abbrev pub number_rule : Bool → Text → Rule
 number_rule required id = record (new_rule id) { required = required; parser = Some (parsers.Signed (pos 0) (pos 2147483647)) }
 
--- the command with PATH LINE COL, required or not
+-- the command with the arguments PATH LINE COL added, which are required if the flag is true
 abbrev pub with_position : Bool → App → App
 with_position required app =
     with_rule (with_rule (with_rule app (record (new_rule (codes "PATH")) { required = required })) (number_rule required (codes "LINE"))) (number_rule required (codes "COL"))
 
--- a command of this name with the argument INDEX
+-- the command of this name with the required argument INDEX
 abbrev pub index_question_app : Text → App
 index_question_app name = with_rule (new_app name) (required_rule (codes "INDEX"))
 
--- --symbol TEXT
+-- the option --symbol TEXT
 abbrev pub symbol_rule : Rule
 symbol_rule = record (new_rule (codes "symbol")) { long = Some (codes "symbol"); value_names = 1 }
 
--- a command of this name: [--symbol TEXT] [--editor] INDEX [PATH] [LINE] [COL]
+-- the command of this name with the arguments [--symbol TEXT] [--editor] INDEX [PATH] [LINE] [COL]
 abbrev pub asking_app : Text → App
 asking_app name = with_editor (with_rule (with_position false (index_question_app name)) symbol_rule)
 
--- def [--symbol TEXT] [--editor] INDEX [PATH] [LINE] [COL]
+-- the command `def [--symbol TEXT] [--editor] INDEX [PATH] [LINE] [COL]`
 abbrev pub def_app : App
 def_app = asking_app (codes "def")
 
--- refs [--symbol TEXT] [--editor] INDEX [PATH] [LINE] [COL]
+-- the command `refs [--symbol TEXT] [--editor] INDEX [PATH] [LINE] [COL]`
 abbrev pub refs_app : App
 refs_app = asking_app (codes "refs")
 
--- symbol [--editor] INDEX PATH LINE COL
+-- the command `symbol [--editor] INDEX PATH LINE COL`
 abbrev pub symbol_app : App
 symbol_app = with_editor (with_position true (index_question_app (codes "symbol")))
 
--- symbols [--editor] INDEX [PATH]
+-- the command `symbols [--editor] INDEX [PATH]`
 abbrev pub symbols_app : App
 symbols_app = with_editor (with_rule (index_question_app (codes "symbols")) (new_rule (codes "PATH")))
 
--- the command with [OUT] [--hex]
+-- the command with the argument and the flag [OUT] [--hex] added
 abbrev pub with_output : App → App
 with_output app = with_rule (with_rule app (new_rule (codes "OUT"))) (flag_rule (codes "hex"))
 
--- an option with a text, by default the empty one
+-- an option whose value is a text, by default the empty one
 abbrev pub text_rule : Text → Rule
 text_rule id = record (new_rule id) { long = Some id; value_names = 1; defaults = [] ∷ [] }
 
--- the command with [--package TEXT] [--root TEXT] [--workers N] [--atomic]
+-- the command with the options [--package TEXT] [--root TEXT] [--workers N] [--atomic] added
 abbrev pub with_index_options : App → App
 with_index_options app = with_rule (with_workers (with_rule (with_rule app (text_rule (codes "package"))) (text_rule (codes "root")))) (flag_rule (codes "atomic"))
 
--- index [--hex] [--package TEXT] [--root TEXT] [--workers N] [--atomic] DIR [OUT]
+-- the command `index [--hex] [--package TEXT] [--root TEXT] [--workers N] [--atomic] DIR [OUT]`, with the options of with_tree_options
 abbrev pub index_app : App
 index_app = with_tree_options (with_index_options (with_output (with_rule (new_app (codes "index")) (required_rule (codes "DIR")))))
 
--- unresolved DIR
+-- the command `unresolved DIR`, with the options of with_tree_options
 abbrev pub unresolved_app : App
 unresolved_app = with_tree_options (with_rule (new_app (codes "unresolved")) (required_rule (codes "DIR")))
 
--- the program, which has a version and requires a command
+-- the program without its commands; it has a version, and requires a command
 abbrev pub program_app : App
 program_app = record (new_app (codes "oscip")) { top = record (new_app (codes "oscip")).top { subcommand_required = true; has_version = true } }
 
@@ -250,15 +250,15 @@ with_index_commands app = with_subcommand (with_subcommand (with_subcommand app 
 abbrev pub oscip : App
 oscip = with_index_commands (with_symbol_commands (with_location_commands (with_picture_commands (with_list_commands (with_net_commands (with_import_commands (with_tree_commands program_app)))))))
 
--- clap found this text for the argument
+-- this text is the first value that clap found for the argument
 abbrev pub Finds : List Row → Text → Text → Type 0
 Finds rows id text = first_of id rows ≡ Some text
 
--- clap found this text for the argument, or the argument wasn't given and there is no text
+-- the text is the one that clap found for the argument; there is none if the argument wasn't given
 abbrev pub MayFind : List Row → Text → Option (String Global) → Type 0
 MayFind rows id text = first_of id rows ≡ option_map string_bytes text
 
--- clap found this number for the argument: decimal digits, with an optional plus before them
+-- this is the number that clap found for the argument: decimal digits, with an optional plus before them
 abbrev pub FindsNumber : List Row → Text → ℕ → Type 0
 FindsNumber rows id n =
     (text : Text) × (one_of id rows ≡ Some text) × IsNumeral 10 (without_leading_plus text) × (n ≡ digits_value 10 (without_leading_plus text))
@@ -267,19 +267,19 @@ FindsNumber rows id n =
 abbrev pub IsWorkerCount : ℕ → Type 0
 IsWorkerCount workers = (1 ≤ workers) × (workers ≤ 64)
 
--- each number below 2^32 that clap found for the argument is between these bounds
+-- if clap found a number below 2^32 for the argument, it is between these bounds
 abbrev pub NamesWithin : Text → ℕ → ℕ → List Row → Type 0
 NamesWithin id least most rows = (n : ℕ) → n < 2 ^ 32 → FindsNumber rows id n → (least ≤ n) × (n ≤ most)
 
--- the number of --workers is 1 to 64
+-- if clap found a number for --workers, it is from 1 to 64
 abbrev pub HasWorkersInRange : List Row → Type 0
 HasWorkersInRange rows = NamesWithin (codes "workers") 1 64 rows
 
--- the numbers of LINE and COL are 0 to 2147483647
+-- if clap found numbers for LINE and COL, they are from 0 to 2147483647
 abbrev pub NamesPosition : List Row → Type 0
 NamesPosition rows = NamesWithin (codes "LINE") 0 2147483647 rows × NamesWithin (codes "COL") 0 2147483647 rows
 
--- the numbers of --workers, LINE and COL are in range
+-- the numbers that clap found for --workers, LINE and COL are in range
 abbrev pub NamesNumbers : List Row → Type 0
 NamesNumbers rows = HasWorkersInRange rows × NamesPosition rows
 
@@ -300,7 +300,8 @@ FindsPosition rows at =
 abbrev pub LacksValue : List Row → Text → Type 0
 LacksValue rows id = first_of id rows ≡ None
 
--- the symbol has the values of its arguments: a position and no --symbol, or --symbol and neither LINE nor COL
+-- the symbol has the values of the arguments: a position if --symbol wasn't given, or the text of --symbol if neither LINE nor COL was
+-- given
 abbrev pub HasAskedSymbol : List Row → AskedSymbol → Type 0
 HasAskedSymbol rows (At position) = LacksValue rows (codes "symbol") × FindsPosition rows position
 HasAskedSymbol rows (Named symbol path) =
@@ -332,8 +333,8 @@ abbrev pub AsksForAtomic : List Row → Type 0
 AsksForAtomic rows = IsPresent rows (codes "atomic") ⊎ IsPresent rows (codes "skip-faults")
 
 -- the request for an index has the values of its arguments
-abbrev pub HasIndexing : List Row → IndexRequest → Type 0
-HasIndexing rows it =
+abbrev pub HasIndexRequest : List Row → IndexRequest → Type 0
+HasIndexRequest rows it =
     HasTree rows it.tree × HasOutput rows it.output × Finds rows (codes "package") (string_bytes it.package)
     × Finds rows (codes "root") (string_bytes it.root) × FindsNumber rows (codes "workers") it.workers × (it.is_atomic ≡ true ↔ AsksForAtomic rows)
 
@@ -342,18 +343,18 @@ abbrev pub HasTwoNames : List Row → Text → Text → TwoNames → Type 0
 HasTwoNames rows first second names = Finds rows first (string_bytes names.from) × Finds rows second (string_bytes names.to)
 
 -- the request for a cut has the values of its arguments
-abbrev pub HasCutting : List Row → CutRequest → Type 0
-HasCutting rows it =
+abbrev pub HasCutRequest : List Row → CutRequest → Type 0
+HasCutRequest rows it =
     Finds rows (codes "A") (string_bytes it.from) × Finds rows (codes "B") (string_bytes it.to)
     × FindsNumber rows (codes "workers") it.workers × MayFind rows (codes "prices") it.prices
 
 -- the report and its prices are the values of their arguments
-abbrev pub HasReported : List Row → ReportInput → Type 0
-HasReported rows it = Finds rows (codes "REPORT") (string_bytes it.report) × MayFind rows (codes "prices") it.prices
+abbrev pub HasReportInput : List Row → ReportInput → Type 0
+HasReportInput rows it = Finds rows (codes "REPORT") (string_bytes it.report) × MayFind rows (codes "prices") it.prices
 
 -- the request for a picture has the values of its arguments, and is by flow if and only if --flow was given
-abbrev pub HasDrawing : List Row → PictureRequest → Type 0
-HasDrawing rows it = HasReported rows it.reported × (it.by_flow ≡ true ↔ IsPresent rows (codes "flow"))
+abbrev pub HasPictureRequest : List Row → PictureRequest → Type 0
+HasPictureRequest rows it = HasReportInput rows it.reported × (it.by_flow ≡ true ↔ IsPresent rows (codes "flow"))
 
 -- the direction is against the imports if and only if --back was given
 abbrev pub HasDirection : List Row → Direction → Type 0
@@ -361,16 +362,16 @@ HasDirection rows Imported = IsPresent rows (codes "back") → ⊥
 HasDirection rows Importing = IsPresent rows (codes "back")
 
 -- the request for reached modules has the values of its arguments
-abbrev pub HasReaching : List Row → ReachRequest → Type 0
-HasReaching rows it = Finds rows (codes "M") (string_bytes it.module) × HasDirection rows it.direction
+abbrev pub HasReachRequest : List Row → ReachRequest → Type 0
+HasReachRequest rows it = Finds rows (codes "M") (string_bytes it.module) × HasDirection rows it.direction
 
 -- the question about a network has the values of its arguments
 abbrev pub HasNetQuestion : List Row → NetQuestion → Type 0
-HasNetQuestion rows (Cut cutting) = HasCutting rows cutting
-HasNetQuestion rows (Check reported) = HasReported rows reported
-HasNetQuestion rows (Dot drawing) = HasDrawing rows drawing
+HasNetQuestion rows (Cut cutting) = HasCutRequest rows cutting
+HasNetQuestion rows (Check reported) = HasReportInput rows reported
+HasNetQuestion rows (Dot drawing) = HasPictureRequest rows drawing
 HasNetQuestion rows (Why names) = HasTwoNames rows (codes "A") (codes "B") names
-HasNetQuestion rows (Reach reaching) = HasReaching rows reaching
+HasNetQuestion rows (Reach reaching) = HasReachRequest rows reaching
 
 -- the question about a tree has the values of its arguments
 abbrev pub HasTreeQuestion : List Row → TreeQuestion → Type 0
@@ -387,10 +388,10 @@ HasValues rows (Tree tree question) = HasTree rows tree × HasTreeQuestion rows 
 HasValues rows (Network network question) = Finds rows (codes "FILE") (string_bytes network) × HasNetQuestion rows question
 HasValues rows (Ask index question for_editor) =
     Finds rows (codes "INDEX") (string_bytes index) × HasIndexQuestion rows question × (for_editor ≡ true ↔ IsPresent rows (codes "editor"))
-HasValues rows (Index indexing) = HasIndexing rows indexing
+HasValues rows (Index indexing) = HasIndexRequest rows indexing
 HasValues rows (Unresolved tree) = HasTree rows tree
 
--- the name of the command on a tree for a question about a network
+-- the name of the command that asks this question about the network of a tree
 abbrev pub net_question_name : NetQuestion → Text
 net_question_name (Cut cutting) = codes "cut"
 net_question_name (Check reported) = codes "check"
@@ -398,7 +399,7 @@ net_question_name (Dot drawing) = codes "dot"
 net_question_name (Why names) = codes "why"
 net_question_name (Reach reaching) = codes "reach"
 
--- the name of the command for a question about a tree
+-- the name of the command that asks this question about a tree
 abbrev pub tree_question_name : TreeQuestion → Text
 tree_question_name (OfNet question) = net_question_name question
 tree_question_name (Crossings names) = codes "crossings"
@@ -407,12 +408,12 @@ tree_question_name (Rules rules) = codes "rules"
 tree_question_name Faults = codes "faults"
 tree_question_name Modules = codes "modules"
 
--- the name of the command that returns occurrences of this kind
+-- the name of the command that returns the occurrences of this kind
 abbrev pub asking_name : Places → Text
 asking_name Definitions = codes "def"
 asking_name References = codes "refs"
 
--- the name of the command for a question about an index
+-- the name of the command that asks this question about an index
 abbrev pub index_question_name : IndexQuestion → Text
 index_question_name (PlacesOf places symbol) = asking_name places
 index_question_name (SymbolAt position) = codes "symbol"
@@ -426,10 +427,10 @@ command_name (Ask index question for_editor) = index_question_name question
 command_name (Index indexing) = codes "index"
 command_name (Unresolved tree) = codes "unresolved"
 
--- the job's command and its values are those that clap found
-abbrev pub Holds : Option (Text × List Row) → Job → Type 0
-Holds None job = ⊥
-Holds (Some found) job = (found.0 ≡ command_name job) × HasValues found.1 job
+-- the job is that of the command that clap found, and has the values that clap found for the arguments
+abbrev pub HasCommandAndValues : Option (Text × List Row) → Job → Type 0
+HasCommandAndValues None job = ⊥
+HasCommandAndValues (Some found) job = (found.0 ≡ command_name job) × HasValues found.1 job
 
 -- a question about a network that has a number of workers has 1 to 64 of them
 abbrev pub HasNetWorkers : NetQuestion → Type 0
@@ -439,7 +440,7 @@ HasNetWorkers (Dot drawing) = Unit {0}
 HasNetWorkers (Why names) = Unit {0}
 HasNetWorkers (Reach reaching) = Unit {0}
 
--- a question about a tree that has a number of workers has 1 to 64 of them
+-- if the question about a tree has a number of workers, it is from 1 to 64
 abbrev pub HasTreeWorkers : TreeQuestion → Type 0
 HasTreeWorkers (OfNet question) = HasNetWorkers question
 HasTreeWorkers (Crossings names) = Unit {0}
@@ -448,7 +449,7 @@ HasTreeWorkers (Rules rules) = Unit {0}
 HasTreeWorkers Faults = Unit {0}
 HasTreeWorkers Modules = Unit {0}
 
--- a job that has a number of workers has 1 to 64 of them
+-- if the job has a number of workers, it is from 1 to 64
 abbrev pub HasWorkers : Job → Type 0
 HasWorkers (Tree tree question) = HasTreeWorkers question
 HasWorkers (Network network question) = HasNetWorkers question
@@ -479,7 +480,7 @@ HasPosition (Ask index question for_editor) = HasIndexPosition question
 HasPosition (Index indexing) = Unit {0}
 HasPosition (Unresolved tree) = Unit {0}
 
--- the text is that of a local symbol, which belongs to one document
+-- whether the text begins with `local `, and so is that of a symbol that belongs to one document
 abbrev pub is_local : Text → Bool
 is_local text = starts_with nat_eq text (codes "local ")
 
@@ -502,18 +503,18 @@ HasPath (Ask index question for_editor) = HasIndexPath question
 HasPath (Index indexing) = Unit {0}
 HasPath (Unresolved tree) = Unit {0}
 
--- the text of a symbol that is given by its text isn't empty
+-- a symbol that is given by its text has a text that isn't empty
 abbrev pub HasSymbolText : AskedSymbol → Type 0
 HasSymbolText (At position) = Unit {0}
 HasSymbolText (Named symbol path) = string_bytes symbol ≢ []
 
--- the text of a symbol that the question names isn't empty
+-- a symbol that the question gives by its text has a text that isn't empty
 abbrev pub HasIndexText : IndexQuestion → Type 0
 HasIndexText (PlacesOf places symbol) = HasSymbolText symbol
 HasIndexText (SymbolAt position) = Unit {0}
 HasIndexText (Symbols path) = Unit {0}
 
--- the text of a symbol that the job names isn't empty
+-- a symbol that the job gives by its text has a text that isn't empty
 abbrev pub HasText : Job → Type 0
 HasText (Tree tree question) = Unit {0}
 HasText (Network network question) = Unit {0}
@@ -525,7 +526,7 @@ HasText (Unresolved tree) = Unit {0}
 abbrev pub IsPackage : Text → Type 0
 IsPackage text = (text ≢ codes ".") × (slice_get text 0 ≢ Some 32)
 
--- the package of a job that makes an index is valid
+-- if the job makes an index, its package isn't `.` and doesn't begin with a space
 abbrev pub HasPackage : Job → Type 0
 HasPackage (Tree tree question) = Unit {0}
 HasPackage (Network network question) = Unit {0}
@@ -535,7 +536,7 @@ HasPackage (Unresolved tree) = Unit {0}
 
 -- the job has the command and the values that clap found, and its numbers, package, path and symbol are valid
 abbrev pub IsJobOf : Option (Text × List Row) → Job → Type 0
-IsJobOf found job = Holds found job × HasWorkers job × HasPosition job × HasPackage job × HasPath job × HasText job
+IsJobOf found job = HasCommandAndValues found job × HasWorkers job × HasPosition job × HasPackage job × HasPath job × HasText job
 
 -- ---- intermediate results
 

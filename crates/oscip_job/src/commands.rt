@@ -1,10 +1,11 @@
-//! The commands of the program and their arguments, as `clap` parses them.
+//! The commands of the program and their arguments, as `clap` parses them. The contract of a function that adds arguments to `command`: if
+//! `command` parses the arguments of `app`, then with `Ok` the result parses these and the added ones.
 ghost use Rattle.std.specs.Prelude.{◌≡◌, IfOk, codes, false};
 ghost use Rattle.clap.specs.Words.{app_of, new_app, new_rule, rule_of, with_rule, with_subcommand, App};
 ghost use Rattle.oscip_job.specs.Jobs.{asking_app, crossings_app, exclude_rule, faults_app, flag_rule, index_app, index_question_app, modules_app, net_app, number_rule, oscip, program_app, reach_app, reach_net_app, required_rule, rules_app, symbol_app, symbol_rule, symbols_app, text_rule, unresolved_app, with_editor, with_flow, with_import_commands, with_index_commands, with_location_commands, with_list_commands, with_modules, with_net_commands, with_index_options, with_output, with_picture_commands, with_position, with_prices, with_reach_arguments, with_symbol_commands, with_tree_options, with_tree_commands, with_walk_options, with_workers};
-ghost use Rattle.oscip_job.specs.Making.{Reads};
+ghost use Rattle.oscip_job.specs.Making.{ParsesArguments};
 
-use crate::helps::{
+use crate::help_texts::{
     ATOMIC_HELP, CHECK_END, CHECK_NET_END, CROSSINGS_END, CUT_END, CUT_NET_END, DEF_END, DEF_USAGE,
     DOT_END, DOT_NET_END, EDITOR_HELP, EXCLUDE_HELP, FAULTS_END, FOLDER_HELP, INDEX_END,
     INDEX_SKIP_FAULTS_HELP, INDEX_USAGE, MODULES_END, NET_END, NETWORK_HELP, OUT_HELP, PATH_HELP,
@@ -15,55 +16,56 @@ use crate::helps::{
 use clap::{Arg, ArgAction, Command, value_parser};
 use std::alloc::{AllocError, Global};
 
-/// A command under construction, or the failed allocation that stopped it, which each later step returns.
-/// The command is boxed, so that the contract of the next step refers to it by one name.
+/// A command under construction, or the error of the first failed allocation, which all later functions return unchanged.
+/// The command is boxed, so that the contract of the next function refers to it by one name.
 type CommandResult<'a> = Result<Box<Command<'a>>, AllocError>;
 
-fn boxed<'a>(alloc: Global, command: Command<'a>) -> CommandResult<'a>
+/// The command in a box. Fails if the allocation fails.
+fn box_command<'a>(alloc: Global, command: Command<'a>) -> CommandResult<'a>
     ensures { IfOk result (λ c. c.value ≡ command.entry) }
 {
     Ok(Box::new(alloc, command)?)
 }
 
 /// A command with this name, the text `about` in its help, and the text `end` after its help.
-fn named<'a>(alloc: Global, name: &'a str, about: &'a str, end: &'a str) -> CommandResult<'a>
-    ensures { IfOk result (λ c. Reads (new_app name.entry.now) c.value) }
+fn new_command<'a>(alloc: Global, name: &'a str, about: &'a str, end: &'a str) -> CommandResult<'a>
+    ensures { IfOk result (λ c. ParsesArguments (new_app name.entry.now) c.value) }
 {
     let command = Command::new(alloc, name).about(about).after_help(end);
-    boxed(alloc, command)
+    box_command(alloc, command)
 }
 
 /// Adds an argument to a command. The argument isn't global: it belongs to this command alone.
 fn with_arg<'a>(alloc: Global, command: Box<Command<'a>>, arg: Arg<'a>) -> CommandResult<'a>
     requires { arg.global ≡ false }
-    ensures { (app : App) → Reads app command.entry.value → IfOk result (λ c. Reads (with_rule app (rule_of arg.entry)) c.value) }
+    ensures { (app : App) → ParsesArguments app command.entry.value → IfOk result (λ c. ParsesArguments (with_rule app (rule_of arg.entry)) c.value) }
 {
     let command = Box::into_inner(command).arg(arg)?;
-    boxed(alloc, command)
+    box_command(alloc, command)
 }
 
-/// Adds a required argument.
+/// Adds an argument that has to be given, with this help text.
 fn with_required_argument<'a>(
     alloc: Global,
     command: CommandResult<'a>,
     id: &'a str,
     help: &'a str,
 ) -> CommandResult<'a>
-    ensures { (app : App) → IfOk command.entry (λ c. Reads app c.value) → IfOk result (λ c. Reads (with_rule app (required_rule id.entry.now)) c.value) }
+    ensures { (app : App) → IfOk command.entry (λ c. ParsesArguments app c.value) → IfOk result (λ c. ParsesArguments (with_rule app (required_rule id.entry.now)) c.value) }
 {
     let command = command?;
     let required = Arg::new(alloc, id).required(true).help(help);
     with_arg(alloc, command, required)
 }
 
-/// Adds an optional argument.
+/// Adds an argument that may be left out, with this help text.
 fn with_optional_argument<'a>(
     alloc: Global,
     command: CommandResult<'a>,
     id: &'a str,
     help: &'a str,
 ) -> CommandResult<'a>
-    ensures { (app : App) → IfOk command.entry (λ c. Reads app c.value) → IfOk result (λ c. Reads (with_rule app (new_rule id.entry.now)) c.value) }
+    ensures { (app : App) → IfOk command.entry (λ c. ParsesArguments app c.value) → IfOk result (λ c. ParsesArguments (with_rule app (new_rule id.entry.now)) c.value) }
 {
     let command = command?;
     let value = Arg::new(alloc, id).help(help);
@@ -72,20 +74,20 @@ fn with_optional_argument<'a>(
 
 /// Sets the usage line of a command. The default doesn't show which arguments go together.
 fn with_usage<'a>(alloc: Global, command: CommandResult<'a>, usage: &'a str) -> CommandResult<'a>
-    ensures { (app : App) → IfOk command.entry (λ c. Reads app c.value) → IfOk result (λ c. Reads app c.value) }
+    ensures { (app : App) → IfOk command.entry (λ c. ParsesArguments app c.value) → IfOk result (λ c. ParsesArguments app c.value) }
 {
     let command = command?;
-    boxed(alloc, Box::into_inner(command).override_usage(usage))
+    box_command(alloc, Box::into_inner(command).override_usage(usage))
 }
 
-/// Adds the names of two modules, A and B, with these help texts.
+/// Adds the arguments A and B, the names of two modules, with these help texts.
 fn with_modules<'a>(
     alloc: Global,
     command: CommandResult<'a>,
     first_help: &'a str,
     second_help: &'a str,
 ) -> CommandResult<'a>
-    ensures { (app : App) → IfOk command.entry (λ c. Reads app c.value) → IfOk result (λ c. Reads (with_modules app) c.value) }
+    ensures { (app : App) → IfOk command.entry (λ c. ParsesArguments app c.value) → IfOk result (λ c. ParsesArguments (with_modules app) c.value) }
 {
     let command = with_required_argument(alloc, command, "A", first_help);
     with_required_argument(alloc, command, "B", second_help)
@@ -93,7 +95,7 @@ fn with_modules<'a>(
 
 /// Adds the option `--workers`: the number of threads, from 1 to 64.
 fn with_workers<'a>(alloc: Global, command: CommandResult<'a>) -> CommandResult<'a>
-    ensures { (app : App) → IfOk command.entry (λ c. Reads app c.value) → IfOk result (λ c. Reads (with_workers app) c.value) }
+    ensures { (app : App) → IfOk command.entry (λ c. ParsesArguments app c.value) → IfOk result (λ c. ParsesArguments (with_workers app) c.value) }
 {
     let command = command?;
     let workers = Arg::new(alloc, "workers")
@@ -107,7 +109,7 @@ fn with_workers<'a>(alloc: Global, command: CommandResult<'a>) -> CommandResult<
 
 /// Adds the option `--prices`: the file of prices.
 fn with_prices<'a>(alloc: Global, command: CommandResult<'a>) -> CommandResult<'a>
-    ensures { (app : App) → IfOk command.entry (λ c. Reads app c.value) → IfOk result (λ c. Reads (with_prices app) c.value) }
+    ensures { (app : App) → IfOk command.entry (λ c. ParsesArguments app c.value) → IfOk result (λ c. ParsesArguments (with_prices app) c.value) }
 {
     let command = command?;
     let prices = Arg::new(alloc, "prices")
@@ -117,24 +119,25 @@ fn with_prices<'a>(alloc: Global, command: CommandResult<'a>) -> CommandResult<'
     with_arg(alloc, command, prices)
 }
 
-/// Adds the options of a command that cuts.
+/// Adds the options of a command that searches for a cut: `--workers` and `--prices`.
 fn with_cut_options<'a>(alloc: Global, command: CommandResult<'a>) -> CommandResult<'a>
-    ensures { (app : App) → IfOk command.entry (λ c. Reads app c.value) → IfOk result (λ c. Reads (with_prices (with_workers app)) c.value) }
+    ensures { (app : App) → IfOk command.entry (λ c. ParsesArguments app c.value) → IfOk result (λ c. ParsesArguments (with_prices (with_workers app)) c.value) }
 {
     let command = with_workers(alloc, command);
     with_prices(alloc, command)
 }
 
-/// Adds a report, and the option of the prices that the report was made with.
+/// Adds the argument REPORT, and the option `--prices` for the prices that the report was made with.
 fn with_report<'a>(alloc: Global, command: CommandResult<'a>, help: &'a str) -> CommandResult<'a>
-    ensures { (app : App) → IfOk command.entry (λ c. Reads app c.value) → IfOk result (λ c. Reads (with_prices (with_rule app (required_rule (codes "REPORT")))) c.value) }
+    ensures { (app : App) → IfOk command.entry (λ c. ParsesArguments app c.value) → IfOk result (λ c. ParsesArguments (with_prices (with_rule app (required_rule (codes "REPORT")))) c.value) }
 {
     let command = with_required_argument(alloc, command, "REPORT", help);
     with_prices(alloc, command)
 }
 
-/// A command that cuts: the argument `id` is what it cuts, followed by the names of two modules and the options of a cut.
-fn cutting<'a>(
+/// The command `cut` or `cut-net`. Its arguments are the input, which is named `id`, and the names of two modules; its options are
+/// `--workers` and `--prices`.
+fn new_cut_command<'a>(
     alloc: Global,
     name: &'a str,
     about: &'a str,
@@ -142,9 +145,9 @@ fn cutting<'a>(
     id: &'a str,
     help: &'a str,
 ) -> CommandResult<'a>
-    ensures { IfOk result (λ c. Reads (with_prices (with_workers (with_modules (with_rule (new_app name.entry.now) (required_rule id.entry.now))))) c.value) }
+    ensures { IfOk result (λ c. ParsesArguments (with_prices (with_workers (with_modules (with_rule (new_app name.entry.now) (required_rule id.entry.now))))) c.value) }
 {
-    let command = named(alloc, name, about, end);
+    let command = new_command(alloc, name, about, end);
     let command = with_required_argument(alloc, command, id, help);
     let command = with_modules(
         alloc,
@@ -155,7 +158,8 @@ fn cutting<'a>(
     with_cut_options(alloc, command)
 }
 
-/// A command that checks or draws: the argument `id` is what was cut, followed by the report and the option of its prices.
+/// A command that checks or draws a report. Its arguments are the input that was cut, which is named `id`, and the report; its option is
+/// `--prices`.
 fn new_report_command<'a>(
     alloc: Global,
     name: &'a str,
@@ -165,9 +169,9 @@ fn new_report_command<'a>(
     help: &'a str,
     report_help: &'a str,
 ) -> CommandResult<'a>
-    ensures { IfOk result (λ c. Reads (with_prices (with_rule (with_rule (new_app name.entry.now) (required_rule id.entry.now)) (required_rule (codes "REPORT")))) c.value) }
+    ensures { IfOk result (λ c. ParsesArguments (with_prices (with_rule (with_rule (new_app name.entry.now) (required_rule id.entry.now)) (required_rule (codes "REPORT")))) c.value) }
 {
-    let command = named(alloc, name, about, end);
+    let command = new_command(alloc, name, about, end);
     let command = with_required_argument(alloc, command, id, help);
     with_report(alloc, command, report_help)
 }
@@ -179,7 +183,7 @@ fn with_flag<'a>(
     id: &'a str,
     help: &'a str,
 ) -> CommandResult<'a>
-    ensures { (app : App) → IfOk command.entry (λ c. Reads app c.value) → IfOk result (λ c. Reads (with_rule app (flag_rule id.entry.now)) c.value) }
+    ensures { (app : App) → IfOk command.entry (λ c. ParsesArguments app c.value) → IfOk result (λ c. ParsesArguments (with_rule app (flag_rule id.entry.now)) c.value) }
 {
     let command = command?;
     let flag = Arg::new(alloc, id)
@@ -189,9 +193,9 @@ fn with_flag<'a>(
     with_arg(alloc, command, flag)
 }
 
-/// Adds the option `--exclude`: patterns of files to leave out.
+/// Adds the option `--exclude`, whose values are patterns of files and folders to leave out.
 fn with_exclude<'a>(alloc: Global, command: CommandResult<'a>) -> CommandResult<'a>
-    ensures { (app : App) → IfOk command.entry (λ c. Reads app c.value) → IfOk result (λ c. Reads (with_rule app exclude_rule) c.value) }
+    ensures { (app : App) → IfOk command.entry (λ c. ParsesArguments app c.value) → IfOk result (λ c. ParsesArguments (with_rule app exclude_rule) c.value) }
 {
     let command = command?;
     let exclude = Arg::new(alloc, "exclude")
@@ -202,36 +206,36 @@ fn with_exclude<'a>(alloc: Global, command: CommandResult<'a>) -> CommandResult<
     with_arg(alloc, command, exclude)
 }
 
-/// Adds the flag `--editor`: locations for editors.
+/// Adds the flag `--editor`, by which locations are written and counted as editors do.
 fn with_editor<'a>(alloc: Global, command: CommandResult<'a>, help: &'a str) -> CommandResult<'a>
-    ensures { (app : App) → IfOk command.entry (λ c. Reads app c.value) → IfOk result (λ c. Reads (with_editor app) c.value) }
+    ensures { (app : App) → IfOk command.entry (λ c. ParsesArguments app c.value) → IfOk result (λ c. ParsesArguments (with_editor app) c.value) }
 {
     with_flag(alloc, command, "editor", help)
 }
 
-/// Adds the options of a folder whose files are read.
+/// Adds the options of a command that reads the files below a folder: `--exclude` and `--editor`.
 fn with_walk_options<'a>(alloc: Global, command: CommandResult<'a>) -> CommandResult<'a>
-    ensures { (app : App) → IfOk command.entry (λ c. Reads app c.value) → IfOk result (λ c. Reads (with_walk_options app) c.value) }
+    ensures { (app : App) → IfOk command.entry (λ c. ParsesArguments app c.value) → IfOk result (λ c. ParsesArguments (with_walk_options app) c.value) }
 {
     let command = with_exclude(alloc, command);
     with_editor(alloc, command, TREE_EDITOR_HELP)
 }
 
-/// Adds the options of a folder whose modules are read, with `--skip-faults`.
+/// Adds the options of a command that reads the modules below a folder: `--exclude`, `--editor` and `--skip-faults`.
 fn with_tree_options<'a>(
     alloc: Global,
     command: CommandResult<'a>,
     skip_help: &'a str,
 ) -> CommandResult<'a>
-    ensures { (app : App) → IfOk command.entry (λ c. Reads app c.value) → IfOk result (λ c. Reads (with_tree_options app) c.value) }
+    ensures { (app : App) → IfOk command.entry (λ c. ParsesArguments app c.value) → IfOk result (λ c. ParsesArguments (with_tree_options app) c.value) }
 {
     let command = with_walk_options(alloc, command);
     with_flag(alloc, command, "skip-faults", skip_help)
 }
 
-/// Adds the flag `--flow`: the picture by flow.
+/// Adds the flag `--flow`, which selects the picture by flow.
 fn with_flow<'a>(alloc: Global, command: CommandResult<'a>) -> CommandResult<'a>
-    ensures { (app : App) → IfOk command.entry (λ c. Reads app c.value) → IfOk result (λ c. Reads (with_flow app) c.value) }
+    ensures { (app : App) → IfOk command.entry (λ c. ParsesArguments app c.value) → IfOk result (λ c. ParsesArguments (with_flow app) c.value) }
 {
     with_flag(
         alloc,
@@ -241,9 +245,9 @@ fn with_flow<'a>(alloc: Global, command: CommandResult<'a>) -> CommandResult<'a>
     )
 }
 
-/// Adds the names of two modules, M and N.
+/// Adds the arguments M and N, the names of two modules.
 fn with_two_modules<'a>(alloc: Global, command: CommandResult<'a>) -> CommandResult<'a>
-    ensures { (app : App) → IfOk command.entry (λ c. Reads app c.value) → IfOk result (λ c. Reads (with_rule (with_rule app (required_rule (codes "M"))) (required_rule (codes "N"))) c.value) }
+    ensures { (app : App) → IfOk command.entry (λ c. ParsesArguments app c.value) → IfOk result (λ c. ParsesArguments (with_rule (with_rule app (required_rule (codes "M"))) (required_rule (codes "N"))) c.value) }
 {
     let command = with_required_argument(alloc, command, "M", "The name of the module that uses N");
     with_required_argument(
@@ -255,9 +259,9 @@ fn with_two_modules<'a>(alloc: Global, command: CommandResult<'a>) -> CommandRes
 }
 
 fn crossings_command<'a>(alloc: Global) -> CommandResult<'a>
-    ensures { IfOk result (λ c. Reads crossings_app c.value) }
+    ensures { IfOk result (λ c. ParsesArguments crossings_app c.value) }
 {
-    let command = named(
+    let command = new_command(
         alloc,
         "crossings",
         "Print where an Oberon-07 module uses another: what to rewrite to remove that import",
@@ -269,9 +273,9 @@ fn crossings_command<'a>(alloc: Global) -> CommandResult<'a>
 }
 
 fn net_command<'a>(alloc: Global) -> CommandResult<'a>
-    ensures { IfOk result (λ c. Reads net_app c.value) }
+    ensures { IfOk result (λ c. ParsesArguments net_app c.value) }
 {
-    let command = named(
+    let command = new_command(
         alloc,
         "net",
         "Print which Oberon-07 module imports which, and by how many uses, as a network",
@@ -282,9 +286,9 @@ fn net_command<'a>(alloc: Global) -> CommandResult<'a>
 }
 
 fn rules_command<'a>(alloc: Global) -> CommandResult<'a>
-    ensures { IfOk result (λ c. Reads rules_app c.value) }
+    ensures { IfOk result (λ c. ParsesArguments rules_app c.value) }
 {
-    let command = named(
+    let command = new_command(
         alloc,
         "rules",
         "Check Oberon-07 modules against rules that say which may not import which",
@@ -295,7 +299,7 @@ fn rules_command<'a>(alloc: Global) -> CommandResult<'a>
     with_tree_options(alloc, command, SKIP_FAULTS_HELP)
 }
 
-/// A command that searches for a path of imports: the argument `id` is what it searches, followed by the names of two modules.
+/// The command `why` or `why-net`. Its arguments are the input, which is named `id`, and the names of two modules.
 fn new_path_command<'a>(
     alloc: Global,
     name: &'a str,
@@ -304,9 +308,9 @@ fn new_path_command<'a>(
     id: &'a str,
     help: &'a str,
 ) -> CommandResult<'a>
-    ensures { IfOk result (λ c. Reads (with_modules (with_rule (new_app name.entry.now) (required_rule id.entry.now))) c.value) }
+    ensures { IfOk result (λ c. ParsesArguments (with_modules (with_rule (new_app name.entry.now) (required_rule id.entry.now))) c.value) }
 {
-    let command = named(alloc, name, about, end);
+    let command = new_command(alloc, name, about, end);
     let command = with_required_argument(alloc, command, id, help);
     with_modules(
         alloc,
@@ -316,18 +320,18 @@ fn new_path_command<'a>(
     )
 }
 
-/// Adds the name of a module, and the flag `--back` for the direction against the imports.
+/// Adds the argument M, the name of a module, and the flag `--back` for the direction against the imports.
 fn with_reach_arguments<'a>(alloc: Global, command: CommandResult<'a>) -> CommandResult<'a>
-    ensures { (app : App) → IfOk command.entry (λ c. Reads app c.value) → IfOk result (λ c. Reads (with_reach_arguments app) c.value) }
+    ensures { (app : App) → IfOk command.entry (λ c. ParsesArguments app c.value) → IfOk result (λ c. ParsesArguments (with_reach_arguments app) c.value) }
 {
     let command = with_required_argument(alloc, command, "M", "The name of the module");
     with_flag(alloc, command, "back", "List the modules that reach M")
 }
 
 fn reach_command<'a>(alloc: Global) -> CommandResult<'a>
-    ensures { IfOk result (λ c. Reads reach_app c.value) }
+    ensures { IfOk result (λ c. ParsesArguments reach_app c.value) }
 {
-    let command = named(
+    let command = new_command(
         alloc,
         "reach",
         "List the Oberon-07 modules that a module reaches by one or more imports",
@@ -339,9 +343,9 @@ fn reach_command<'a>(alloc: Global) -> CommandResult<'a>
 }
 
 fn reach_net_command<'a>(alloc: Global) -> CommandResult<'a>
-    ensures { IfOk result (λ c. Reads reach_net_app c.value) }
+    ensures { IfOk result (λ c. ParsesArguments reach_net_app c.value) }
 {
-    let command = named(
+    let command = new_command(
         alloc,
         "reach-net",
         "List the modules of a network that a module reaches by one or more imports",
@@ -352,9 +356,9 @@ fn reach_net_command<'a>(alloc: Global) -> CommandResult<'a>
 }
 
 fn modules_command<'a>(alloc: Global) -> CommandResult<'a>
-    ensures { IfOk result (λ c. Reads modules_app c.value) }
+    ensures { IfOk result (λ c. ParsesArguments modules_app c.value) }
 {
-    let command = named(
+    let command = new_command(
         alloc,
         "modules",
         "List Oberon-07 modules and the imported ones without a file",
@@ -364,7 +368,7 @@ fn modules_command<'a>(alloc: Global) -> CommandResult<'a>
     with_tree_options(alloc, command, SKIP_FAULTS_HELP)
 }
 
-/// Adds a number from 0 to 2,147,483,647.
+/// Adds an argument whose value is a number from 0 to 2,147,483,647.
 fn with_number_argument<'a>(
     alloc: Global,
     command: CommandResult<'a>,
@@ -372,7 +376,7 @@ fn with_number_argument<'a>(
     id: &'a str,
     help: &'a str,
 ) -> CommandResult<'a>
-    ensures { (app : App) → IfOk command.entry (λ c. Reads app c.value) → IfOk result (λ c. Reads (with_rule app (number_rule required id.entry.now)) c.value) }
+    ensures { (app : App) → IfOk command.entry (λ c. ParsesArguments app c.value) → IfOk result (λ c. ParsesArguments (with_rule app (number_rule required id.entry.now)) c.value) }
 {
     let command = command?;
     let number = Arg::new(alloc, id)
@@ -382,9 +386,9 @@ fn with_number_argument<'a>(
     with_arg(alloc, command, number)
 }
 
-/// Adds the path of a document, a line and a column.
+/// Adds the arguments PATH, LINE and COL: the path of a document, and a line and a column in it.
 fn with_position<'a>(alloc: Global, command: CommandResult<'a>, required: bool) -> CommandResult<'a>
-    ensures { (app : App) → IfOk command.entry (λ c. Reads app c.value) → IfOk result (λ c. Reads (with_position required app) c.value) }
+    ensures { (app : App) → IfOk command.entry (λ c. ParsesArguments app c.value) → IfOk result (λ c. ParsesArguments (with_position required app) c.value) }
 {
     let command = command?;
     let path = Arg::new(alloc, "PATH").required(required).help(PATH_HELP);
@@ -405,16 +409,16 @@ fn with_position<'a>(alloc: Global, command: CommandResult<'a>, required: bool) 
     )
 }
 
-/// A command with the index that it queries.
+/// A command of this name whose first argument is INDEX, the file of the index that it queries.
 fn new_index_query<'a>(
     alloc: Global,
     name: &'a str,
     about: &'a str,
     end: &'a str,
 ) -> CommandResult<'a>
-    ensures { IfOk result (λ c. Reads (index_question_app name.entry.now) c.value) }
+    ensures { IfOk result (λ c. ParsesArguments (index_question_app name.entry.now) c.value) }
 {
-    let command = named(alloc, name, about, end);
+    let command = new_command(alloc, name, about, end);
     with_required_argument(
         alloc,
         command,
@@ -423,9 +427,9 @@ fn new_index_query<'a>(
     )
 }
 
-/// Adds the option `--symbol`: the text of a symbol.
+/// Adds the option `--symbol`, whose value is the text of a symbol.
 fn with_symbol<'a>(alloc: Global, command: CommandResult<'a>) -> CommandResult<'a>
-    ensures { (app : App) → IfOk command.entry (λ c. Reads app c.value) → IfOk result (λ c. Reads (with_rule app symbol_rule) c.value) }
+    ensures { (app : App) → IfOk command.entry (λ c. ParsesArguments app c.value) → IfOk result (λ c. ParsesArguments (with_rule app symbol_rule) c.value) }
 {
     let command = command?;
     let symbol = Arg::new(alloc, "symbol")
@@ -435,15 +439,15 @@ fn with_symbol<'a>(alloc: Global, command: CommandResult<'a>) -> CommandResult<'
     with_arg(alloc, command, symbol)
 }
 
-/// A command that queries an index for locations: the index, and a position in a document or the text of a symbol.
-fn asking<'a>(
+/// The command `def` or `refs`. Its arguments are the index, and either a position in a document or the text of a symbol.
+fn new_location_query<'a>(
     alloc: Global,
     name: &'a str,
     about: &'a str,
     end: &'a str,
     usage: &'a str,
 ) -> CommandResult<'a>
-    ensures { IfOk result (λ c. Reads (asking_app name.entry.now) c.value) }
+    ensures { IfOk result (λ c. ParsesArguments (asking_app name.entry.now) c.value) }
 {
     let command = new_index_query(alloc, name, about, end);
     let command = with_position(alloc, command, false);
@@ -453,7 +457,7 @@ fn asking<'a>(
 }
 
 fn symbol_command<'a>(alloc: Global) -> CommandResult<'a>
-    ensures { IfOk result (λ c. Reads symbol_app c.value) }
+    ensures { IfOk result (λ c. ParsesArguments symbol_app c.value) }
 {
     let command = new_index_query(
         alloc,
@@ -466,7 +470,7 @@ fn symbol_command<'a>(alloc: Global) -> CommandResult<'a>
 }
 
 fn symbols_command<'a>(alloc: Global) -> CommandResult<'a>
-    ensures { IfOk result (λ c. Reads symbols_app c.value) }
+    ensures { IfOk result (λ c. ParsesArguments symbols_app c.value) }
 {
     let command = new_index_query(
         alloc,
@@ -483,9 +487,9 @@ fn symbols_command<'a>(alloc: Global) -> CommandResult<'a>
     with_editor(alloc, command, EDITOR_HELP)
 }
 
-/// Adds the output of an index: the path of a file, or `--hex`.
+/// Adds the two outputs of an index: the argument OUT, the path of a file, and the flag `--hex`.
 fn with_output<'a>(alloc: Global, command: CommandResult<'a>) -> CommandResult<'a>
-    ensures { (app : App) → IfOk command.entry (λ c. Reads app c.value) → IfOk result (λ c. Reads (with_output app) c.value) }
+    ensures { (app : App) → IfOk command.entry (λ c. ParsesArguments app c.value) → IfOk result (λ c. ParsesArguments (with_output app) c.value) }
 {
     let command = with_optional_argument(alloc, command, "OUT", OUT_HELP);
     with_flag(
@@ -496,14 +500,14 @@ fn with_output<'a>(alloc: Global, command: CommandResult<'a>) -> CommandResult<'
     )
 }
 
-/// Adds an option with a text, which is empty by default.
+/// Adds an option whose value is a text. By default the text is empty.
 fn with_text_option<'a>(
     alloc: Global,
     command: CommandResult<'a>,
     id: &'a str,
     help: &'a str,
 ) -> CommandResult<'a>
-    ensures { (app : App) → IfOk command.entry (λ c. Reads app c.value) → IfOk result (λ c. Reads (with_rule app (text_rule id.entry.now)) c.value) }
+    ensures { (app : App) → IfOk command.entry (λ c. ParsesArguments app c.value) → IfOk result (λ c. ParsesArguments (with_rule app (text_rule id.entry.now)) c.value) }
 {
     let command = command?;
     let text = Arg::new(alloc, id)
@@ -514,9 +518,9 @@ fn with_text_option<'a>(
     with_arg(alloc, command, text)
 }
 
-/// Adds the options of a command that makes an index.
+/// Adds the options of the command `index`: `--package`, `--root`, `--workers` and `--atomic`.
 fn with_index_options<'a>(alloc: Global, command: CommandResult<'a>) -> CommandResult<'a>
-    ensures { (app : App) → IfOk command.entry (λ c. Reads app c.value) → IfOk result (λ c. Reads (with_index_options app) c.value) }
+    ensures { (app : App) → IfOk command.entry (λ c. ParsesArguments app c.value) → IfOk result (λ c. ParsesArguments (with_index_options app) c.value) }
 {
     let command = with_text_option(
         alloc,
@@ -535,9 +539,9 @@ fn with_index_options<'a>(alloc: Global, command: CommandResult<'a>) -> CommandR
 }
 
 fn index_command<'a>(alloc: Global) -> CommandResult<'a>
-    ensures { IfOk result (λ c. Reads index_app c.value) }
+    ensures { IfOk result (λ c. ParsesArguments index_app c.value) }
 {
-    let command = named(
+    let command = new_command(
         alloc,
         "index",
         "Write an index of Oberon-07 modules in the SCIP format, for code browsers",
@@ -551,9 +555,9 @@ fn index_command<'a>(alloc: Global) -> CommandResult<'a>
 }
 
 fn unresolved_command<'a>(alloc: Global) -> CommandResult<'a>
-    ensures { IfOk result (λ c. Reads unresolved_app c.value) }
+    ensures { IfOk result (λ c. ParsesArguments unresolved_app c.value) }
 {
-    let command = named(
+    let command = new_command(
         alloc,
         "unresolved",
         "List identifiers of Oberon-07 modules that are not declared, imported or predeclared",
@@ -564,9 +568,9 @@ fn unresolved_command<'a>(alloc: Global) -> CommandResult<'a>
 }
 
 fn faults_command<'a>(alloc: Global) -> CommandResult<'a>
-    ensures { IfOk result (λ c. Reads faults_app c.value) }
+    ensures { IfOk result (λ c. ParsesArguments faults_app c.value) }
 {
-    let command = named(
+    let command = new_command(
         alloc,
         "faults",
         "List files of a folder that have faults, each with its first one",
@@ -582,20 +586,21 @@ fn add_command<'a>(
     program: CommandResult<'a>,
     command: CommandResult<'a>,
 ) -> CommandResult<'a>
-    ensures { (first : App) → (second : App) → IfOk program.entry (λ c. app_of c.value ≡ first) → IfOk command.entry (λ c. Reads second c.value) →
+    // If `program` has the commands of `first`, then with `Ok` the result also has the added command, with its arguments.
+    ensures { (first : App) → (second : App) → IfOk program.entry (λ c. app_of c.value ≡ first) → IfOk command.entry (λ c. ParsesArguments second c.value) →
         IfOk result (λ c. app_of c.value ≡ with_subcommand first second.top) }
 {
     let program = program?;
     let command = command?;
     let program = Box::into_inner(program).subcommand(Box::into_inner(command))?;
-    boxed(alloc, program)
+    box_command(alloc, program)
 }
 
 /// Adds the commands `cut`, `check` and `crossings`.
 fn with_tree_commands<'a>(alloc: Global, program: CommandResult<'a>) -> CommandResult<'a>
     ensures { (app : App) → IfOk program.entry (λ c. app_of c.value ≡ app) → IfOk result (λ c. app_of c.value ≡ with_tree_commands app) }
 {
-    let cut = cutting(
+    let cut = new_cut_command(
         alloc,
         "cut",
         "Find the cheapest imports of Oberon-07 modules to remove so that A no longer reaches B",
@@ -644,7 +649,7 @@ fn with_import_commands<'a>(alloc: Global, program: CommandResult<'a>) -> Comman
 fn with_net_commands<'a>(alloc: Global, program: CommandResult<'a>) -> CommandResult<'a>
     ensures { (app : App) → IfOk program.entry (λ c. app_of c.value ≡ app) → IfOk result (λ c. app_of c.value ≡ with_net_commands app) }
 {
-    let cut = cutting(
+    let cut = new_cut_command(
         alloc,
         "cut-net",
         "Find the cheapest imports of a network to remove so that A no longer reaches B",
@@ -719,7 +724,7 @@ fn with_picture_commands<'a>(alloc: Global, program: CommandResult<'a>) -> Comma
 fn with_location_commands<'a>(alloc: Global, program: CommandResult<'a>) -> CommandResult<'a>
     ensures { (app : App) → IfOk program.entry (λ c. app_of c.value ≡ app) → IfOk result (λ c. app_of c.value ≡ with_location_commands app) }
 {
-    let def = asking(
+    let def = new_location_query(
         alloc,
         "def",
         "Print where the symbol at a position is defined, by an index in the SCIP format",
@@ -727,7 +732,7 @@ fn with_location_commands<'a>(alloc: Global, program: CommandResult<'a>) -> Comm
         DEF_USAGE,
     );
     let program = add_command(alloc, program, def);
-    let refs = asking(
+    let refs = new_location_query(
         alloc,
         "refs",
         "Print where the symbol at a position is used and not defined, by such an index",
@@ -759,8 +764,8 @@ fn with_index_commands<'a>(alloc: Global, program: CommandResult<'a>) -> Command
     add_command(alloc, program, faults)
 }
 
-/// The program without commands.
-fn bare<'a>(alloc: Global) -> CommandResult<'a>
+/// The program `oscip` without its commands, with its version, its description and the text after its help.
+fn new_program<'a>(alloc: Global) -> CommandResult<'a>
     ensures { IfOk result (λ c. app_of c.value ≡ program_app) }
 {
     let program = Command::new(alloc, "oscip")
@@ -770,14 +775,14 @@ fn bare<'a>(alloc: Global) -> CommandResult<'a>
         .version(VERSION)
         .after_help(PROGRAM_END)
         .subcommand_required(true);
-    boxed(alloc, program)
+    box_command(alloc, program)
 }
 
 /// The program with all its commands.
 pub(crate) fn command<'a>(alloc: Global) -> CommandResult<'a>
     ensures { IfOk result (λ c. app_of c.value ≡ oscip) }
 {
-    let program = bare(alloc);
+    let program = new_program(alloc);
     let program = with_tree_commands(alloc, program);
     let program = with_import_commands(alloc, program);
     let program = with_net_commands(alloc, program);

@@ -3,7 +3,7 @@
 use std::alloc::AllocError;
 use thiserror::Error;
 
-/// The kind of occurrence of a symbol that a query returns.
+/// Which occurrences of a symbol a query returns.
 #[derive(Clone, Copy)]
 pub enum Places {
     /// The occurrences that define the symbol.
@@ -39,7 +39,7 @@ pub enum AskedSymbol {
 /// A question about an index.
 #[derive(Drop)]
 pub enum IndexQuestion {
-    /// Where are the occurrences of this kind of the symbol?
+    /// Where are the occurrences of the symbol, of the kind `places`?
     PlacesOf { places: Places, symbol: AskedSymbol },
     /// What is the text of the symbol at this position?
     SymbolAt(Position),
@@ -64,7 +64,7 @@ pub struct SourceTree {
 /// The output of an index.
 #[derive(Drop)]
 pub enum Output {
-    /// The file of this path.
+    /// The file at this path.
     File(String),
     /// Standard output, as a line of hexadecimal digits.
     Hex,
@@ -87,7 +87,7 @@ pub struct IndexRequest {
     pub is_atomic: bool,
 }
 
-/// The names of two modules: the start and the end of a path, or the module that uses and the one that is used.
+/// The names of two modules: of the start and the end of a path, or of a module and one that it uses.
 #[derive(Drop)]
 pub struct TwoNames {
     pub from: String,
@@ -105,7 +105,7 @@ pub struct CutRequest {
     pub prices: Option<String>,
 }
 
-/// A report, and the prices that it was made with.
+/// The files of a report and of the prices that it was made with.
 #[derive(Drop)]
 pub struct ReportInput {
     /// The path of the report's file.
@@ -123,7 +123,7 @@ pub struct PictureRequest {
     pub by_flow: bool,
 }
 
-/// The direction in which imports are followed.
+/// The direction in which a search follows imports.
 #[derive(Clone, Copy)]
 pub enum Direction {
     /// From the importing module to the imported one.
@@ -132,7 +132,7 @@ pub enum Direction {
     Importing,
 }
 
-/// A request for the modules that are reached from a module in a direction.
+/// A request for the modules that are reached from the module of this name by imports in this direction.
 #[derive(Drop)]
 pub struct ReachRequest {
     pub module: String,
@@ -146,7 +146,7 @@ pub enum NetQuestion {
     Cut(CutRequest),
     /// Is a report on the network correct?
     Check(ReportInput),
-    /// A picture of a report on the network. The report isn't verified.
+    /// What is the picture of a report on the network? The report isn't verified.
     Dot(PictureRequest),
     /// What is the shortest path of imports from the first module to the second?
     Why(TwoNames),
@@ -163,7 +163,7 @@ pub enum TreeQuestion {
     Crossings(TwoNames),
     /// What is the network of the modules, as text?
     Net,
-    /// Do the modules keep the rules in the file of this path?
+    /// Do the imports of the modules keep the rules in the file at this path?
     Rules(String),
     /// Which files have faults?
     Faults,

@@ -5,13 +5,13 @@
 #![tactic(auto)]
 
 mod commands;
-mod finding;
-mod helps;
+mod help_texts;
 mod job;
+mod job_conversion;
 
-pub use finding::job_of;
 pub use job::{
     AskedSymbol, CutRequest, Direction, IndexQuestion, IndexRequest, Job, JobFault, NetQuestion,
     Output, PictureRequest, Places, Position, ReachRequest, ReportInput, SourceTree, TreeQuestion,
     TwoNames,
 };
+pub use job_conversion::job_of;

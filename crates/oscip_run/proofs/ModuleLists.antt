@@ -9,7 +9,7 @@ use Rattle.std.proofs.lemmas.Option.{get_or_from_slice_get, slice_get-get_or, sl
 use Rattle.cut_net.specs.Network.{Network, index_of, name_of}
 use Rattle.cut_net.proofs.Noting.{names_apart}
 use Rattle.cut_net.proofs.Places.{index_again}
-use Rattle.cut_solve.specs.Solving.{IsModuleOr}
+use Rattle.cut_solve.specs.Solving.{IsModuleLookup}
 use Rattle.cut_solve.specs.declared.fault.SolveFault.{SolveFault}
 use Rattle.cut_solve.specs.declared.fault.SolveFault.TheVariants as solve
 use Rattle.oscip_job.specs.declared.job.Direction.{Direction}
@@ -25,18 +25,18 @@ use Rattle.source_tree.specs.Files.{AreAllOf}
 use Rattle.source_tree.specs.Located.{AreModulesOf, IsModuleOf}
 use Rattle.source_tree.specs.Trees.{IsNetOfTree, ModuleFile}
 use Rattle.source_tree.specs.declared.source.Source.{Source}
-use Rattle.texts.specs.Places.{raw_style, Style}
+use Rattle.texts.specs.Places.{plain_style, Style}
 
 -- ---- what a module reaches
 
-pub unknown_name : (name : List ℕ) (direction : Direction) (known : Option (List ℕ)) (n : Network) (fault : SolveFault) → IsModuleOr n name (Err fault) →
+pub unknown_name : (name : List ℕ) (direction : Direction) (known : Option (List ℕ)) (n : Network) (fault : SolveFault) → IsModuleLookup n name (Err fault) →
     IsReachRun (IsThis n) IsNeverRejected name direction known known (Err (of_solve fault))
 unknown_name name direction known n solve.SameModule h = absurd h
 unknown_name name direction known n (solve.NoSuchModule own) h = ((n, refl, h), Keeps-same known)
 unknown_name name direction known n solve.Memory h = inl (Keeps-same known)
 
 pub reach_text : (name : List ℕ) (direction : Direction) (n : Network) (start : ℕ) (reached : List ℕ) → index_of n name ≡ Some start → AllPairs (λ i j. i < j) reached →
-    ((m : ℕ) → Contains reached m ↔ IsReached n direction start m) → IsReachText (IsThis n) name direction (entry_lines raw_style (map (named_entry n) reached))
+    ((m : ℕ) → Contains reached m ↔ IsReached n direction start m) → IsReachText (IsThis n) name direction (entry_lines plain_style (map (named_entry n) reached))
 reach_text name direction n start reached is ascending exact = record {
   net = n;
   reads = refl;

@@ -29,25 +29,26 @@ pub record IsUsesText (style : Style) (sources : List Source) (m n text : List �
   pub uses : AreUses sources m n path spans
   pub lines : text ≡ location_lines style (map (location_in_file path) spans)
 
--- the sink took the whole text
+-- the sink took all lines of the locations where module m uses module n
 abbrev pub WritesUses : Style → List Source → List ℕ → List ℕ → Option (List ℕ) → Option (List ℕ) → Type 0
 WritesUses style sources m n old new = (text : List ℕ) × IsUsesText style sources m n text × Appends old new text
 
--- the sink took a prefix of the text
+-- the sink took a prefix of the lines of the locations where module m uses module n
 abbrev pub WritesUsesPrefix : Style → List Source → List ℕ → List ℕ → Option (List ℕ) → Option (List ℕ) → Type 0
 WritesUsesPrefix style sources m n old new = (text : List ℕ) × IsUsesText style sources m n text × AppendsPrefix old new text
 
--- the name is the first unknown one of the two: m has to be a module with a file, n any module of the network
+-- the name is the first unknown name of m and n: m is unknown if no module with a file has this name, n if no module of the network has it
 abbrev pub IsFirstUnknown : List Source → List ℕ → List ℕ → List ℕ → Type 0
 IsFirstUnknown sources m n name = ((name ≡ m) × IsNoModule sources m) ⊎ ((name ≡ n) × IsNoNode sources m n)
 
--- the fault states the first unknown one of the two names
+-- the fault is NoSuchModule with the first unknown name of m and n
 abbrev pub IsUnknown : List Source → List ℕ → List ℕ → SolveFault → Type 0
 IsUnknown sources m n solve.SameModule = ⊥
 IsUnknown sources m n (solve.NoSuchModule name) = IsFirstUnknown sources m n (string_bytes name)
 IsUnknown sources m n solve.Memory = ⊥
 
--- a run of the engine: a rejected tree or name leaves the sink unchanged; Device or Memory leave it with at most a prefix of the text
+-- a run that lists where module m uses module n. A rejected tree or name leaves the sink unchanged; Device or Memory leave it with at most
+-- a prefix of the text
 abbrev pub IsCrossingsRun : Style → List Source → List ℕ → List ℕ → Option (List ℕ) → Option (List ℕ) → Result (Unit {0}) RunFault → Type 0
 IsCrossingsRun style sources m n old new (Ok _) = WritesUses style sources m n old new
 IsCrossingsRun style sources m n old new (Err (CannotRead path)) = ⊥

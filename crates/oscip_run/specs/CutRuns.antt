@@ -41,12 +41,13 @@ pub record IsPrintedChain (net : Network) (a b : ℕ) (chain : List ℕ) : Type 
   -- no set of imports without a pinned one is a cut
   pub no_cut : (x : Priced → Bool) → IsCutWithPins net a b x → ⊥
 
--- the claim about the modules a and b holds: it is such a cut, or such a path of pinned imports
+-- the claim about the modules a and b holds: its cut is as IsPrintedCut states, or its path of pinned imports as IsPrintedChain states
 abbrev pub IsPrinted : Network → ℕ → ℕ → AnswerClaim → Type 0
 IsPrinted net a b (CutOf total printed flow) = IsPrintedCut net a b total printed flow
 IsPrinted net a b (BlockedBy chain) = IsPrintedChain net a b chain
 
--- the text is the report, in its only form, of a claim about the modules of two names, and the claim holds
+-- the text is the report, in its only form, of a claim about the modules named first and second in a network for which IsOf holds; IsSaid
+-- holds for the claim
 pub record IsTextOf (IsOf : Network → Type 0) (IsSaid : Network → ℕ → ℕ → AnswerClaim → Type 0) (first second text : List ℕ) : Type 0 where
   pub net : Network
   pub reads : IsOf net
@@ -69,23 +70,24 @@ pub record IsTextOf (IsOf : Network → Type 0) (IsSaid : Network → ℕ → �
 -- weight is the printed one, and every set of imports whose removal leaves none weighs at least as much; the printed flow
 -- has that value.
 -- With prices, only sets without pinned imports count.
--- If a path of pinned imports leads from the first module to the second, it is printed instead of a cut, and no such set is a cut.
+-- If a path of pinned imports leads from the first module to the second, the path is printed: then each cut has a pinned import.
 abbrev pub IsCutText : (Network → Type 0) → List ℕ → List ℕ → List ℕ → Type 0
 IsCutText IsOf = IsTextOf IsOf IsPrinted
 
--- the sink took the whole report
+-- the sink took a whole report of a cheapest cut, or of a path of pinned imports
 abbrev pub WritesCut : (Network → Type 0) → List ℕ → List ℕ → Option (List ℕ) → Option (List ℕ) → Type 0
 WritesCut IsOf first second old new = (text : List ℕ) × IsCutText IsOf first second text × Appends old new text
 
--- the sink took a prefix of the report
+-- the sink took a prefix of a report of a cheapest cut, or of a path of pinned imports
 abbrev pub WritesCutPrefix : (Network → Type 0) → List ℕ → List ℕ → Option (List ℕ) → Option (List ℕ) → Type 0
 WritesCutPrefix IsOf first second old new = (text : List ℕ) × IsCutText IsOf first second text × AppendsPrefix old new text
 
--- the input is accepted, and the names are rejected with this fault
+-- the input is accepted, and the names are rejected with this fault, for example since one of them is unknown
 abbrev pub IsRejectedNames : (Network → Type 0) → List ℕ → List ℕ → SolveFault → Type 0
 IsRejectedNames IsOf first second fault = (net : Network) × IsOf net × (refusal : SolveError) × IsErrorOf fault refusal × IsSolveOutcome net first second (Err refusal)
 
--- a run of the engine: rejected input or names leave the sink unchanged; Device or Memory leave it with at most a prefix of the report
+-- a run that searches for a cheapest cut. Rejected input or names leave the sink unchanged; Device or Memory leave it with at most a prefix
+-- of a report
 abbrev pub IsCutRun : (Network → Type 0) → (RunFault → Type 0) → List ℕ → List ℕ → Option (List ℕ) → Option (List ℕ) → Result (Unit {0}) RunFault → Type 0
 IsCutRun IsOf IsRefused first second old new (Ok _) = WritesCut IsOf first second old new
 IsCutRun IsOf IsRefused first second old new (Err (CannotRead path)) = ⊥
@@ -117,7 +119,7 @@ pub record IsUnpinnedCut (net : Network) (a b total : ℕ) (printed flow : List 
   -- of all cheapest cuts, the printed one is the canonical minimum cut
   pub are_printed : AreReported net a b (removed_by printed)
 
--- the claim about the modules a and b is such a cut, and not a path of pinned imports
+-- the claim about the modules a and b is a cut as IsUnpinnedCut states, and not a path of pinned imports
 abbrev pub IsUnpinnedCutClaim : Network → ℕ → ℕ → AnswerClaim → Type 0
 IsUnpinnedCutClaim net a b (CutOf total printed flow) = IsUnpinnedCut net a b total printed flow
 IsUnpinnedCutClaim net a b (BlockedBy chain) = ⊥

@@ -22,9 +22,9 @@ abbrev pub IsAskedPicture : Bool → Network → ℕ → ℕ → AnswerClaim →
 IsAskedPicture true net a b claim text = IsPictureByFlow net a b claim text
 IsAskedPicture false net a b claim text = IsPictureOf net a b claim text
 
--- Below, Shows states that a text is such a picture of a claim about two modules.
+-- Below, Shows net a b claim text states that the text is the requested picture of a claim about the modules a and b.
 
--- the report is one on the input's network, and the text is the picture of its claim, right or wrong
+-- the report is a valid one on the input's network, and the text is the picture of its claim, whether the claim holds or not
 pub record IsDrawn (Shows : Network → ℕ → ℕ → AnswerClaim → List ℕ → Type 0) (IsOf : Network → Type 0) (report text : List ℕ) : Type 0 where
   pub net : Network
   pub reads : IsOf net
@@ -40,8 +40,8 @@ WritesPicture Shows IsOf report old new = (text : List ℕ) × IsDrawn Shows IsO
 abbrev pub WritesPicturePrefix : (Network → ℕ → ℕ → AnswerClaim → List ℕ → Type 0) → (Network → Type 0) → List ℕ → Option (List ℕ) → Option (List ℕ) → Type 0
 WritesPicturePrefix Shows IsOf report old new = (text : List ℕ) × IsDrawn Shows IsOf report text × AppendsPrefix old new text
 
--- a run of the engine: rejected input or a rejected report leaves the sink unchanged; Device or Memory leave it with at most a prefix of
--- the picture
+-- a run that draws a report. Rejected input or a rejected report leaves the sink unchanged; Device or Memory leave it with at most a prefix
+-- of the picture
 abbrev pub IsDotRun : (Network → ℕ → ℕ → AnswerClaim → List ℕ → Type 0) → (Network → Type 0) → (RunFault → Type 0) → List ℕ → Option (List ℕ) → Option (List ℕ) → Result (Unit {0}) RunFault → Type 0
 IsDotRun Shows IsOf IsRefused report old new (Ok _) = WritesPicture Shows IsOf report old new
 IsDotRun Shows IsOf IsRefused report old new (Err (CannotRead path)) = ⊥

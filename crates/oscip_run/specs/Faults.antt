@@ -25,7 +25,7 @@ use Rattle.texts.specs.Places.{Style}
 use Rattle.source_tree.specs.declared.tree_fault.TreeFault.{TreeFault}
 use Rattle.source_tree.specs.TreeFaults.{after_space, tree_fault_text, is_out_of_memory}
 
--- the fault of a run for a fault of a tree, with one Memory for each failed allocation
+-- the fault of a run for a fault of a tree: Memory for each fault that states a failed allocation
 abbrev pub of_tree : TreeFault → RunFault
 of_tree fault = if is_out_of_memory fault then Memory else Tree fault
 
@@ -110,7 +110,7 @@ rules_fault_text (rules.EmptySet line text) = decimal line ++ (codes ": EmptySet
 rules_fault_text (rules.TooMany line) = decimal line ++ codes ": TooMany"
 rules_fault_text rules.Memory = codes "Memory"
 
--- the name, path or pattern at the end of the text of a fault of rules
+-- the name, path or pattern at the end of the text of a fault of rules; empty if the text has none there
 abbrev pub last_rules_name : RulesFault → List ℕ
 last_rules_name (rules.BadLine line) = []
 last_rules_name (rules.SetIsModule line name) = string_bytes name
@@ -149,7 +149,7 @@ fault_text style (Query fault) = query_fault_text fault
 fault_text style Device = codes "cannot write"
 fault_text style Memory = codes "Memory"
 
--- the name at the end of the text of a fault, if that may have as many bytes as the input
+-- the name at the end of the text of a fault, if that name may have as many bytes as the input; otherwise empty
 abbrev pub last_name : RunFault → List ℕ
 last_name (CannotRead path) = []
 last_name (CannotWrite path) = []
@@ -223,7 +223,7 @@ status_number (Query fault) = query_status fault
 status_number Device = 3
 status_number Memory = 4
 
--- the fault is that of a device
+-- whether the fault is Device, that of a failed sink
 abbrev pub is_device : RunFault → Bool
 is_device (CannotRead path) = false
 is_device (CannotWrite path) = false
@@ -237,7 +237,7 @@ is_device (Query fault) = false
 is_device Device = true
 is_device Memory = false
 
--- a file or a folder can't be read, or memory ran out
+-- the fault states that a file or a folder can't be read, or that memory ran out
 abbrev pub IsReadFault : RunFault → Type 0
 IsReadFault (CannotRead path) = Unit {0}
 IsReadFault (CannotWrite path) = ⊥

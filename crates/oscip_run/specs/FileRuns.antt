@@ -7,7 +7,7 @@ use Rattle.oscip_run.specs.AskedRuns.{IsAskedRun}
 use Rattle.oscip_run.specs.Faults.{IsReadFault}
 use Rattle.oscip_run.specs.JobRuns.{without_boolean, IsJobRun}
 use Rattle.oscip_run.specs.PricedInputs.{IsNetOfPricedText, IsNetOfPricedTree, IsRejectedPricedText, IsRejectedPricedTree}
-use Rattle.oscip_run.specs.Readings.{bytes_or_none, question_paths, AreReturned, AreUnreadable, FileOf, IsNetUnreadable, Reading, Refused}
+use Rattle.oscip_run.specs.Readings.{bytes_or_empty, question_paths, AreReturned, AreUnreadable, FileOf, IsNetUnreadable, Reading, Refused}
 use Rattle.oscip_run.specs.declared.fault.RunFault.{RunFault}
 use Rattle.source_tree.specs.declared.source.Source.{Source}
 use Rattle.texts.specs.Places.{Style}
@@ -25,7 +25,7 @@ pub record IsRunOnNet (Answers : Reading → Type 0) (path : List ℕ) (question
   pub prices : Option (List ℕ)
   pub network_returned : Answers (FileOf path network)
   pub given : AreReturned Answers (question_paths question) report prices
-  pub run : IsJobRun (IsNetOfPricedText network) (IsRejectedPricedText network) question (bytes_or_none report) prices old new result
+  pub run : IsJobRun (IsNetOfPricedText network) (IsRejectedPricedText network) question (bytes_or_empty report) prices old new result
 
 -- the engine of the question ran on the network of these modules, and on the report and prices that the reader returned for the question's
 -- own paths
@@ -33,19 +33,19 @@ pub record IsRunOnTree (Answers : Reading → Type 0) (sources : List Source) (q
   pub report : Option (List ℕ)
   pub prices : Option (List ℕ)
   pub given : AreReturned Answers (question_paths question) report prices
-  pub run : IsJobRun (IsNetOfPricedTree sources) (IsRejectedPricedTree sources) question (bytes_or_none report) prices old new result
+  pub run : IsJobRun (IsNetOfPricedTree sources) (IsRejectedPricedTree sources) question (bytes_or_empty report) prices old new result
 
--- a run of a question about the network in the file of this path: a file can't be read, or the engine ran
+-- a run of a question about the network in the file of this path: a file can't be read, or the question was answered from what was read
 abbrev pub IsNetRun : (Reading → Type 0) → List ℕ → NetQuestion → Option (List ℕ) → Option (List ℕ) → Result Bool RunFault → Type 0
 IsNetRun Answers path question old new result =
     IsUnread (IsNetUnreadable Answers path (question_paths question)) old new result ⊎ IsRunOnNet Answers path question old new result
 
--- a run of a question about the network of these modules: a file can't be read, or the engine ran
+-- a run of a question about the network of these modules: a file can't be read, or the question was answered from what was read
 abbrev pub IsTreeNetRun : (Reading → Type 0) → List Source → NetQuestion → Option (List ℕ) → Option (List ℕ) → Result Bool RunFault → Type 0
 IsTreeNetRun Answers sources question old new result =
     IsUnread (AreUnreadable Answers (question_paths question)) old new result ⊎ IsRunOnTree Answers sources question old new result
 
--- the file of this path, the only one that the run reads, can't be read
+-- the reader returned this fault for the path of the run's only file
 abbrev pub IsInputUnreadable : (Reading → Type 0) → List ℕ → RunFault → Type 0
 IsInputUnreadable Answers path fault = Answers (Refused path fault)
 

@@ -36,7 +36,7 @@ IsWritingRun IsText IsRefused old new (Err Memory) = Keeps old new ⊎ WritesOut
 
 -- Below, IsOf net states that net is the network of the input, a text or a tree.
 
--- the text is the one that spells the input's network, and parsed again it states exactly that network
+-- the text is the written form of the input's network, and is read again as exactly this network
 pub record IsNetText (IsOf : Network → Type 0) (text : List ℕ) : Type 0 where
   pub net : Network
   pub reads : IsOf net
@@ -47,13 +47,13 @@ pub record IsNetText (IsOf : Network → Type 0) (text : List ℕ) : Type 0 wher
 abbrev pub IsNetTextRun : (Network → Type 0) → (RunFault → Type 0) → Option (List ℕ) → Option (List ℕ) → Result (Unit {0}) RunFault → Type 0
 IsNetTextRun IsOf = IsWritingRun (IsNetText IsOf)
 
--- the text has a line for each import of the shortest path from a to b, of several the lexicographically smallest; without a path it is
--- empty
+-- with true the text has a line for each import of the shortest path from a to b, of several the lexicographically smallest; with false
+-- there is no path, and the text is empty
 abbrev pub IsPathText : Network → ℕ → ℕ → Bool → List ℕ → Type 0
 IsPathText net a b true text = (path : List ℕ) × IsLeastChain (Imports net.imports Any) a b path × (text ≡ chain_text net path) × (text ≢ [])
 IsPathText net a b false text = (Chain net.imports Any a b → ⊥) × (text ≡ [])
 
--- the text is that of the path between the two modules of the input's network that have these names
+-- the text is that of the shortest path between the modules with these two names in the input's network; found is whether there is a path
 pub record IsWhyText (IsOf : Network → Type 0) (first second : List ℕ) (found : Bool) (text : List ℕ) : Type 0 where
   pub net : Network
   pub reads : IsOf net

@@ -13,7 +13,7 @@ use Rattle.oscip_job.specs.declared.job.Direction.{Direction}
 use Rattle.oscip_job.specs.declared.job.NetQuestion.{NetQuestion}
 use Rattle.oscip_job.specs.declared.job.NetQuestion.TheVariants.{Cut, Check, Dot, Why, Reach}
 
--- the result, without its Boolean
+-- the result with its Boolean replaced by the unit value
 abbrev pub without_boolean : Result Bool RunFault → Result (Unit {0}) RunFault
 without_boolean (Ok agrees) = Ok tt
 without_boolean (Err fault) = Err fault
@@ -35,8 +35,8 @@ IsReachJobRun IsOf IsRefused name direction old new result =
 
 -- Below, IsOf prices net states that net is the network of the input with these prices, if they are given.
 
--- a run of the engine of a question about a network, with the question's own names or the report; paths and reached modules don't depend on
--- prices
+-- a run of the engine of this question about a network, with the names in the question and with this report; paths and reached modules
+-- don't depend on prices
 abbrev pub IsJobRun : (Option (List ℕ) → Network → Type 0) → (Option (List ℕ) → RunFault → Type 0) → NetQuestion → List ℕ → Option (List ℕ) → Option (List ℕ) → Option (List ℕ) → Result Bool RunFault → Type 0
 IsJobRun IsOf IsRefused (Cut cutting) report prices old new result = IsCutJobRun (IsOf prices) (IsRefused prices) (string_bytes cutting.from) (string_bytes cutting.to) old new result
 IsJobRun IsOf IsRefused (Check reported) report prices old new result = IsCheckRun (IsOf prices) (IsRefused prices) report old new result

@@ -21,7 +21,7 @@ abbrev pub path_suffix : Style → Option (List ℕ) → List ℕ
 path_suffix style (Some path) = codes " " ++ path_text style path
 path_suffix style None = codes ""
 
--- the line of an entry: its name, and its path if it has one
+-- the line of an entry: its name, then a space and its path if it has one, and an LF
 abbrev pub entry_line : Style → ModuleEntry → List ℕ
 entry_line style entry = entry.name ++ path_suffix style entry.path ++ codes "\n"
 
@@ -33,7 +33,7 @@ entry_lines style entries = flat_map (entry_line style) entries
 abbrev pub IsDeclaredIn : List ModuleFile → List ℕ → List ℕ → Type 0
 IsDeclaredIn files name path = (file : ModuleFile) × Contains files file × (names file 1 ≡ name) × (file.path ≡ path)
 
--- the path is that of the file that declares the module; without a path no file declares it
+-- the path is that of a file that declares the module of this name; without a path no file declares the module
 abbrev pub IsPathOf : List ModuleFile → List ℕ → Option (List ℕ) → Type 0
 IsPathOf files name (Some path) = IsDeclaredIn files name path
 IsPathOf files name None = (path : List ℕ) → IsDeclaredIn files name path → ⊥
@@ -55,12 +55,12 @@ IsModulesRun style sources = IsWritingRun (IsModulesText style sources) (IsRejec
 
 -- ---- how entries are made
 
--- the entry of a listed module
+-- a listed module as an entry
 abbrev pub entry_of : ListedModule → ModuleEntry
 entry_of listed = record { name = listed.name.now; path = option_map (λ path. path.now) listed.path }
 
--- among the first count files, whose modules have these numbers: the path is that of a file of module m, and without a path no file is one
--- of m
+-- modules has the number of each file's module. The path is that of one of the first count files, whose module is m; without a path none of
+-- these files has the module m
 abbrev pub IsPathAt : List Source → List ℕ → ℕ → ℕ → Option (List ℕ) → Type 0
 IsPathAt sources modules count m (Some path) =
     (i : ℕ) × (i < count) × (slice_index modules i ≡ m) × (source : Source) × (slice_get sources i ≡ Some source) × (path ≡ string_bytes source.path)

@@ -9,7 +9,7 @@ use Rattle.oscip_run.specs.declared.fault.RunFault.TheVariants.{CannotRead, Cann
 use Rattle.source_tree.specs.Trees.{IsNetOfTree}
 use Rattle.source_tree.specs.declared.source.Source.{Source}
 
--- this text of prices makes the network from that of the input
+-- the network is that of the input with the prices in this text applied
 abbrev pub IsPricedBy : (Network → Type 0) → List ℕ → Network → Type 0
 IsPricedBy IsOf text net = (before : Network) × IsOf before × IsPriceOutcome before text (Ok net)
 

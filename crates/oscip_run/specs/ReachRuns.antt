@@ -12,14 +12,14 @@ use Rattle.oscip_run.specs.ImportRuns.{IsWritingRun}
 use Rattle.oscip_run.specs.ModuleRuns.{entry_lines, ModuleEntry}
 use Rattle.oscip_run.specs.declared.fault.RunFault.{RunFault}
 use Rattle.oscip_run.specs.declared.fault.RunFault.TheVariants.{CannotRead, CannotWrite, Tree, Net, Price, Rules, Report, Solve, Query, Device, Memory}
-use Rattle.texts.specs.Places.{raw_style}
+use Rattle.texts.specs.Places.{plain_style}
 
--- a path of one or more imports leads from the first module to the second, or from the second to the first, by the direction
+-- a path of one or more imports leads from module m to module n if the direction is Imported, and from n to m if it is Importing
 abbrev pub IsReached : Network → Direction → ℕ → ℕ → Type 0
 IsReached net Imported m n = Reaches (Imports net.imports Any) m n
 IsReached net Importing m n = Reaches (Imports net.imports Any) n m
 
--- the entry of a module, without a path
+-- the entry of the module of this number: its name, and no path
 abbrev pub named_entry : Network → ℕ → ModuleEntry
 named_entry net m = record { name = name_of net m; path = None }
 
@@ -32,7 +32,7 @@ pub record IsReachText (IsOf : Network → Type 0) (name : List ℕ) (direction 
   pub reached : List ℕ
   pub ascending : AllPairs (λ m n. m < n) reached
   pub exact : (n : ℕ) → Contains reached n ↔ IsReached net direction start n
-  pub lines : text ≡ entry_lines raw_style (map (named_entry net) reached)
+  pub lines : text ≡ entry_lines plain_style (map (named_entry net) reached)
 
 -- the fault states that no module of the network has this name
 abbrev pub IsUnknownName : Network → List ℕ → SolveFault → Type 0

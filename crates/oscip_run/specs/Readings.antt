@@ -10,20 +10,21 @@ use Rattle.oscip_run.specs.Files.{AreModulePrefixes, IsFile}
 use Rattle.oscip_run.specs.declared.fault.RunFault.{RunFault}
 use Rattle.source_tree.specs.declared.source.Source.{Source}
 
--- a reading of a path: the bytes of the file, the modules below the folder that no pattern excludes, or the fault of a path that can't be
--- read
+-- what a reader returns for a path: the bytes of the file, the modules below the folder that no pattern excludes, or the fault of a path
+-- that can't be read
 pub data Reading : Type 0 where
   FileOf : List ℕ → List ℕ → Reading
   FolderOf : List ℕ → List (List ℕ) → List Source → Reading
   Refused : List ℕ → RunFault → Reading
 
--- what is known of a reading of the system: how many bytes are read, that excluded files are left out, and which faults there are
+-- what is proved of what SystemFiles returns: how long a file is at most, that no file is excluded, and that a fault is CannotRead or
+-- Memory
 abbrev pub IsOfSystem : Reading → Type 0
 IsOfSystem (FileOf path bytes) = IsFile bytes
 IsOfSystem (FolderOf path patterns sources) = AreModulePrefixes sources × AreIncluded patterns sources
 IsOfSystem (Refused path fault) = IsReadFault fault
 
--- the paths that a question names besides its network: of its report and its prices, if it has them
+-- the paths that a question names besides its network: that of its report and that of its prices, if it has them
 pub record QuestionPaths : Type 0 where
   pub report : Option (List ℕ)
   pub prices : Option (List ℕ)
@@ -38,7 +39,7 @@ question_paths (Reach reaching) = record { report = None; prices = None }
 
 -- Below, Answers holds for the readings that a reader may return.
 
--- the bytes are those that the reader returned for the path; without a path there are none
+-- the bytes are those that the reader returned for the path; without a path there are no bytes
 abbrev pub IsReturned : (Reading → Type 0) → Option (List ℕ) → Option (List ℕ) → Type 0
 IsReturned Answers None given = given ≡ None
 IsReturned Answers (Some path) given = (bytes : List ℕ) × (given ≡ Some bytes) × Answers (FileOf path bytes)
@@ -58,18 +59,18 @@ abbrev pub AreUnreadable : (Reading → Type 0) → QuestionPaths → RunFault �
 AreUnreadable Answers paths fault =
     IsUnreadable Answers paths.report fault ⊎ (((report : Option (List ℕ)) × IsReturned Answers paths.report report) × IsUnreadable Answers paths.prices fault)
 
--- the reader returned the fault for the network, or it returned the network and the fault for one of the files that follow
+-- the reader returned the fault for the network, or it returned the network, and the fault for the report or the prices
 abbrev pub IsNetUnreadable : (Reading → Type 0) → List ℕ → QuestionPaths → RunFault → Type 0
 IsNetUnreadable Answers path beside fault =
     Answers (Refused path fault) ⊎ (((network : List ℕ) × Answers (FileOf path network)) × AreUnreadable Answers beside fault)
 
 -- ---- intermediate results
 
--- the bytes, if any were read
+-- the bytes in a vector, or none if no file was read
 abbrev pub returned_bytes : Option (Vec ℕ) → Option (List ℕ)
 returned_bytes given = option_map (λ (bytes : Vec ℕ). bytes.items) given
 
--- the bytes, or no bytes if none were read
-abbrev pub bytes_or_none : Option (List ℕ) → List ℕ
-bytes_or_none None = []
-bytes_or_none (Some bytes) = bytes
+-- the bytes of a file, or the empty list if no file was read
+abbrev pub bytes_or_empty : Option (List ℕ) → List ℕ
+bytes_or_empty None = []
+bytes_or_empty (Some bytes) = bytes

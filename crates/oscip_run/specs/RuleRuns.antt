@@ -19,11 +19,11 @@ use Rattle.source_tree.specs.Trees.{IsNetOfTree}
 use Rattle.source_tree.specs.declared.import_sites.ImportSite.{ImportSite}
 use Rattle.source_tree.specs.declared.source.Source.{Source}
 
--- the site has the path of the import's file and its position there
+-- the site is the location of the import: the path of its file, and its line and column in the file
 abbrev pub IsSiteIn : List Source → ImportSite → Site → Type 0
 IsSiteIn sources i site = (source : Source) × (slice_get sources i.file ≡ Some source) × (site.path.now ≡ string_bytes source.path) × (site.line ≡ i.position.line) × (site.column ≡ i.position.column)
 
--- the sites are those of all imports, in the order of the imports
+-- there is a site for each import, in the order of the imports: its location
 pub record AreSitesIn (sources : List Source) (imports : List ImportSite) (sites : List Site) : Type 0 where
   pub as_many : length sites ≡ length imports
   pub each : (k : ℕ) (i : ImportSite) (site : Site) → slice_get imports k ≡ Some i → slice_get sites k ≡ Some site → IsSiteIn sources i site
@@ -37,7 +37,7 @@ pub record IsRuledTree (sources : List Source) (net : Network) (files : List Fil
   pub are_imports : AreSitesOf sources net imports
   pub are_sites : AreSitesIn sources imports sites
 
--- the second network, files and sites are the first
+-- the network other, the files others and the sites their equal net, files and sites
 abbrev pub AreThese : Network → List File → List Site → Network → List File → List Site → Type 0
 AreThese net files sites other others their = (other ≡ net) × (others ≡ files) × (their ≡ sites)
 
@@ -48,8 +48,8 @@ abbrev pub IsFaultless : Network → List File → List ℕ → Type 0
 IsFaultless net files rules = (fault : RulesFault) → IsRefusal net files (pieces_of rules) fault → ⊥
 
 module _ (IsOf : Network → List File → List Site → Type 0) (style : Style) (rules : List ℕ) where
-  -- the text has a line for each import that breaks a rule and for each stale line, or is yes if there is none; `clean` is whether there is
-  -- none
+  -- the text has a line for each import that breaks a rule and for each stale `allow` line, or is yes if there is neither. `clean` is
+  -- whether there is neither
   pub record IsRulesText (text : List ℕ) (clean : Bool) : Type 0 where
     pub net : Network
     pub files : List File
@@ -63,11 +63,11 @@ module _ (IsOf : Network → List File → List Site → Type 0) (style : Style)
     pub text_is : text ≡ verdict_text style net sites violations stale
     pub clean_is : clean ≡ is_clean violations stale
 
-  -- the sink took the whole text
+  -- the sink took the whole verdict on the rules
   abbrev pub WritesRules : Option (List ℕ) → Option (List ℕ) → Bool → Type 0
   WritesRules old new clean = (text : List ℕ) × IsRulesText text clean × Appends old new text
 
-  -- the sink took a prefix of the text
+  -- the sink took a prefix of the verdict on the rules
   pub record WritesRulesPrefix (old new : Option (List ℕ)) : Type 0 where
     pub net : Network
     pub files : List File
@@ -77,12 +77,12 @@ module _ (IsOf : Network → List File → List Site → Type 0) (style : Style)
     pub prefix : (violations : List Violation) (stale : List Stale) → AreViolations net files (pieces_of rules) violations → AreStaleLines net (pieces_of rules) stale
         → AppendsPrefix old new (verdict_text style net sites violations stale)
 
-  -- the input is accepted, and the rules are rejected with this fault
+  -- the input is accepted, and the rules are rejected with this fault, their first one
   abbrev pub IsRejectedRules : RulesFault → Type 0
   IsRejectedRules fault = (net : Network) × (files : List File) × (sites : List Site) × IsOf net files sites × IsRefusal net files (pieces_of rules) fault
 
--- a run of the engine: rejected input or rejected rules leave the sink unchanged; Device or Memory leave it with at most a prefix of the
--- text
+-- a run that checks rules. Rejected input or rejected rules leave the sink unchanged; Device or Memory leave it with at most a prefix of
+-- the verdict
 abbrev pub IsRulesRun : (Network → List File → List Site → Type 0) → (RunFault → Type 0) → Style → List ℕ → Option (List ℕ) → Option (List ℕ) → Result Bool RunFault → Type 0
 IsRulesRun IsOf IsRefused style rules old new (Ok clean) = WritesRules IsOf style rules old new clean
 IsRulesRun IsOf IsRefused style rules old new (Err (CannotRead path)) = ⊥

@@ -49,15 +49,15 @@ IsRejectedTree sources (Query fault) = ⊥
 IsRejectedTree sources Device = ⊥
 IsRejectedTree sources Memory = ⊥
 
--- the second network is the first
+-- the network other is the given network net
 abbrev pub IsThis : Network → Network → Type 0
 IsThis net other = other ≡ net
 
--- no input is rejected
+-- for an input that is never rejected: no fault is one for which it is rejected
 abbrev pub IsNeverRejected : RunFault → Type 0
 IsNeverRejected fault = ⊥
 
--- the line of a verdict
+-- the line that a check writes for a verdict
 abbrev pub verdict_text : Network → Verdict → List ℕ
 verdict_text net Yes = codes "yes\n"
 verdict_text net (NoSuchImport from to) = codes "no NoSuchImport " ++ name_of net from ++ codes " " ++ name_of net to ++ codes "\n"
@@ -68,7 +68,7 @@ verdict_text net (NotKept m) = codes "no NotKept " ++ name_of net m ++ codes "\n
 verdict_text net WrongValue = codes "no WrongValue\n"
 verdict_text net (NotPinned from to) = codes "no NotPinned " ++ name_of net from ++ codes " " ++ name_of net to ++ codes "\n"
 
--- the verdict is yes
+-- whether the verdict is yes
 abbrev pub is_yes : Verdict → Bool
 is_yes Yes = true
 is_yes (NoSuchImport from to) = false
@@ -81,8 +81,8 @@ is_yes (NotPinned from to) = false
 
 -- Below, IsOf net states that net is the network of the input, a text or a tree, with its prices.
 
--- the line is that of the verdict on the report for the input's network; if it is yes, the report states a cheapest cut, or rightly that
--- none exists
+-- the line is that of the verdict on the report, for the input's network; agrees is whether the verdict is yes. With yes the report claims
+-- a cheapest cut, or claims correctly that no cut exists
 pub record IsChecked (IsOf : Network → Type 0) (report line : List ℕ) (agrees : Bool) : Type 0 where
   pub net : Network
   pub reads : IsOf net
@@ -106,8 +106,8 @@ WritesCheckPrefix IsOf report old new = (line : List ℕ) × (agrees : Bool) × 
 abbrev pub IsRejectedReport : (Network → Type 0) → List ℕ → ReportFault → Type 0
 IsRejectedReport IsOf report fault = (net : Network) × IsOf net × IsReportOutcome net report (Err fault)
 
--- a run of the engine: rejected input or a rejected report leaves the sink unchanged; Device or Memory leave it with at most a prefix of
--- the line
+-- a run that checks a report. Rejected input or a rejected report leaves the sink unchanged; Device or Memory leave it with at most a
+-- prefix of the line
 abbrev pub IsCheckRun : (Network → Type 0) → (RunFault → Type 0) → List ℕ → Option (List ℕ) → Option (List ℕ) → Result Bool RunFault → Type 0
 IsCheckRun IsOf IsRefused report old new (Ok agrees) = WritesCheck IsOf report old new agrees
 IsCheckRun IsOf IsRefused report old new (Err (CannotRead path)) = ⊥

@@ -21,7 +21,8 @@ use Rattle.texts.specs.Places.{Style}
 abbrev pub IsNeverFalse : Result Bool RunFault → Type 0
 IsNeverFalse result = IfOk result (λ agrees. agrees ≡ true)
 
--- the file of the rules can't be read, or its rules are checked
+-- a run on the rules in the file of this path: the file can't be read, or the modules are checked against the rules that the reader
+-- returned
 abbrev pub IsRulesFileRun : (Reading → Type 0) → Style → List Source → List ℕ → Option (List ℕ) → Option (List ℕ) → Result Bool RunFault → Type 0
 IsRulesFileRun Answers style sources path old new result =
     IsUnread (λ fault. Answers (Refused path fault)) old new result

@@ -16,13 +16,14 @@ use Rattle.source_tree.specs.FileFaults.{ArePartitionedFiles}
 use Rattle.source_tree.specs.declared.source.Source.{Source}
 use Rattle.source_tree.specs.declared.tree_fault.TreeFault.{TreeFault}
 
--- the files that a run uses and the faults of the others: files with faults of their own are left out if the first argument is true, none
--- otherwise
+-- the files that a run uses, and the faults of the files that it leaves out. With true it leaves out the files with faults of their own,
+-- with false no file
 abbrev pub AreUsed : Bool → List Source → List Source → List TreeFault → Type 0
 AreUsed true sources used faults = ArePartitionedFiles sources used faults
 AreUsed false sources used faults = (used ≡ sources) × (faults ≡ [])
 
--- the reader returned files for the tree's folder and patterns; the run uses these of them, and the faults are those of the others
+-- of the files that the reader returned for the tree's folder and patterns, the run uses the files `used`, and the faults are those of the
+-- files that it leaves out
 abbrev pub AreTreeFiles : (Reading → Type 0) → SourceTree → List Source → List TreeFault → Type 0
 AreTreeFiles Answers tree used faults =
     (sources : List Source) × Answers (FolderOf (string_bytes tree.folder) (texts tree.excluded.items) sources) × AreUsed tree.skips_faults sources used faults
@@ -31,7 +32,8 @@ AreTreeFiles Answers tree used faults =
 abbrev pub IsTreeUnread : (Reading → Type 0) → SourceTree → RunFault → Type 0
 IsTreeUnread Answers tree fault = (IsReadFault fault × Answers (Refused (string_bytes tree.folder) fault)) ⊎ (fault ≡ Memory)
 
--- a run on a tree, whose effect on the files that it uses is Runs; with an error it wrote nothing
+-- a run on a tree: with Ok, Runs holds for the files that it uses and for its result; with an error there is no such run, and the sink is
+-- unchanged
 abbrev pub IsTreeRun : (Reading → Type 0) → SourceTree → (List Source → Result Bool RunFault → Type 0) → Option (List ℕ) → Option (List ℕ) → Result TreeRun RunFault → Type 0
 IsTreeRun Answers tree Runs old new (Ok run) = (used : List Source) × AreTreeFiles Answers tree used run.faults.items × Runs used run.ended
 IsTreeRun Answers tree Runs old new (Err fault) = IsTreeUnread Answers tree fault × Keeps old new

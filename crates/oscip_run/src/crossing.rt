@@ -1,4 +1,4 @@
-//! The engine of `crossings`, which prints where a module uses another one, over any sink.
+//! The engine of the command `crossings`: it writes to any sink the locations where one module uses another one.
 ghost use Rattle.std.specs.Prelude.{◌≡◌, ℕ, IfOk, List, map};
 ghost use Rattle.byte_sink.specs.Sinks.{failures_by};
 ghost use Rattle.texts.specs.Places.{style_of};
@@ -19,7 +19,7 @@ use std::alloc::{AllocError, Global};
 use std::thread::Threads;
 use texts::LocationStyle;
 
-/// A location in the file of this path.
+/// The location of this span in the file at this path, in the type that `index_store` uses for locations.
 fn location_in_file<'a>(path: &'a str, span: &Span) -> Place<'a>
     ensures { location_model result ≡ location_in_file path.now span.now }
 {
@@ -36,12 +36,13 @@ fn location_in_file<'a>(path: &'a str, span: &Span) -> Place<'a>
     }
 }
 
-/// The locations in the file of this path, in the same order.
+/// The locations of these spans in the file at this path, in the order of `spans`.
 fn locations_of_spans<'a>(
     alloc: Global,
     path: &'a str,
     spans: &[Span],
 ) -> Result<Vec<Place<'a>>, AllocError>
+    // With `Ok` there is a location for each span, in the order of the spans.
     ensures { IfOk result (λ places. map location_model places.items ≡ map (location_in_file path.now) spans.now) }
 {
     let mut places = Vec::new(alloc);
@@ -51,7 +52,7 @@ fn locations_of_spans<'a>(
     Ok(places)
 }
 
-/// Writes the lines of the locations in the file of this path, in this style.
+/// Writes a line for each of these spans of the file at this path, with locations in this style.
 fn write_locations<S: Sink>(
     alloc: Global,
     style: LocationStyle<'_>,
@@ -59,7 +60,9 @@ fn write_locations<S: Sink>(
     spans: &[Span],
     sink: &mut S,
 ) -> Result<(), RunFault>
+    // If a module m uses a module n at exactly these spans of the file at this path, this is a run that lists where m uses n.
     ensures run { (sources : List Source) (m n : List ℕ) → AreUses sources m n path.now spans.now → IsCrossingsRun (style_of style.entry) sources m n (S.taken sink.old) (S.taken sink.new) result }
+    // The sink counts a failure if and only if the result is `Device`.
     ensures failures { S.failures sink.new ≡ failures_by is_device result (S.failures sink.old) }
 {
     let places = locations_of_spans(alloc, path, spans)?;
@@ -67,8 +70,9 @@ fn write_locations<S: Sink>(
     Ok(())
 }
 
-/// The fault that no module has this name, or `Memory`.
+/// The fault `NoSuchModule` with a copy of this name, or `Memory` if the copy fails.
 fn unknown_module(alloc: Global, name: &str) -> RunFault
+    // The fault is `NoSuchModule` with this name, or `Memory`.
     ensures { IsNoName name.now result }
 {
     match String::from_str(alloc, name) {
@@ -79,10 +83,10 @@ fn unknown_module(alloc: Global, name: &str) -> RunFault
 
 /// Reads the files of a tree, and writes a line `PATH:LINE:COL-LINE:COL` for each qualified name by which module `from` uses module `to`.
 /// A location begins at the first byte of the alias and ends after the name that follows the dot; columns count bytes.
-/// The lines are in this style and in the order of the file, with the control characters of the path escaped. There are as many as the
-/// import weighs, none without an import.
+/// The lines are in this style and in the order of the file, with the control characters of the path escaped. Their number is the weight of
+/// the import, and there are none if `from` doesn't import `to`.
 /// Fails with `Tree` if the tree is rejected, then with `Solve` for the first unknown name, and with `Device` or `Memory`. The name `from`
-/// has to be that of a module with a file.
+/// is unknown unless a module with a file has it.
 pub fn list_tree_crossings<R: Threads + Sync, S: Sink>(
     rt: &R,
     alloc: Global,
@@ -94,8 +98,8 @@ pub fn list_tree_crossings<R: Threads + Sync, S: Sink>(
 ) -> Result<(), RunFault>
     // The files are sorted by path, each path once.
     requires { ArePathsInOrder sources.now }
-    // With `Ok` the sink took exactly the lines of these locations. After `Device` or `Memory` it has at most a prefix of them, after
-    // another error none.
+    // With `Ok` the sink took exactly the lines of the locations where module `from` uses module `to`. After `Device` or `Memory` it has at
+    // most a prefix of the lines, after another error nothing.
     ensures run { IsCrossingsRun (style_of style.entry) sources.now from.now to.now (S.taken sink.old) (S.taken sink.new) result }
     // The sink counts a failure if and only if the result is `Device`.
     ensures failures { S.failures sink.new ≡ failures_by is_device result (S.failures sink.old) }

@@ -1,4 +1,4 @@
-//! The engines of `dot` and `dot-net`, which draw a report, over any sink.
+//! The engines of the commands `dot` and `dot-net`: they write the picture of a report to any sink.
 ghost use Rattle.std.specs.Prelude.{◌≡◌, ◌<◌, length, option_copied};
 ghost use Rattle.byte_sink.specs.Sinks.{failures_after, failures_by};
 ghost use Rattle.cut_dot.specs.Drawing.{IsDrawingOf};
@@ -13,7 +13,7 @@ ghost use Rattle.source_tree.specs.Sources.{ArePathsInOrder};
 
 use crate::RunFault;
 use crate::engine::READERS;
-use crate::priced::{net_of_text, net_of_tree};
+use crate::priced_network::{net_of_text, net_of_tree};
 use byte_sink::{Sink, SinkFault};
 use cut_dot::{draw, draw_flow};
 use cut_net::Net;
@@ -22,7 +22,8 @@ use source_tree::Source;
 use std::alloc::Global;
 use std::thread::Threads;
 
-/// Writes the picture of a report: by flow, or of all imports between its two modules.
+/// Writes the picture of a report on the network. With `by_flow` it shows only the imports of the report's cut, flow or blocked path.
+/// Otherwise it shows all imports on paths between the report's two modules.
 fn write_picture<S: Sink>(
     alloc: Global,
     net: &Net,
@@ -30,11 +31,15 @@ fn write_picture<S: Sink>(
     by_flow: bool,
     sink: &mut S,
 ) -> Result<(), SinkFault>
+    // The report's two modules are modules of the network.
     requires from { report.now.from < length net.now.names }
     requires to { report.now.to < length net.now.names }
+    // The removed imports of the report, and those with flow, are sorted.
     requires removed { IsAscending (answer_removed report.now.answer) }
     requires flow { IsAscending (answer_flow report.now.answer) }
+    // With `Ok` the sink took the whole picture that `by_flow` selects, with an error at most a prefix of it.
     ensures run { IsDrawingOf (IsAskedPicture by_flow net.now report.now.from report.now.to (answer_claim report.now.answer)) (S.taken sink.old) (S.taken sink.new) result }
+    // The sink counts a failure if and only if the result is `Device`.
     ensures failures { S.failures sink.new ≡ failures_after result (S.failures sink.old) }
 {
     if by_flow {
@@ -44,7 +49,7 @@ fn write_picture<S: Sink>(
     }
 }
 
-/// Reads a report on a network, and writes its picture.
+/// Reads a report on this network, and writes the picture of the report.
 fn draw_report<S: Sink>(
     alloc: Global,
     net: &Net,
@@ -52,7 +57,9 @@ fn draw_report<S: Sink>(
     by_flow: bool,
     sink: &mut S,
 ) -> Result<(), RunFault>
+    // This is the run of `draw_net_bytes` for a network that is already read, so no network or prices are rejected.
     ensures run { IsDotRun (IsAskedPicture by_flow) (IsThis net.now) IsNeverRejected report.now (S.taken sink.old) (S.taken sink.new) result }
+    // The sink counts a failure if and only if the result is `Device`.
     ensures failures { S.failures sink.new ≡ failures_by is_device result (S.failures sink.old) }
 {
     let report = cut_report::read(alloc, report, net)?;
@@ -62,8 +69,8 @@ fn draw_report<S: Sink>(
 
 /// Reads a network, its prices if they are given, and then a report on it. Writes the picture of the report as a graph in DOT, without
 /// verifying the report.
-/// By flow, the picture has only the imports that the report removes or gives flow, or those of its blocked path, and the modules at their
-/// ends. See `draw` and `draw_flow` of `cut_dot`.
+/// With `by_flow`, the picture has only the imports that the report removes or gives flow, or those of its blocked path, with their
+/// modules. See `draw` and `draw_flow` of `cut_dot`.
 /// Fails with `Net`, `Price`, `Report`, `Device` or `Memory`.
 pub fn draw_net_bytes<S: Sink>(
     alloc: Global,

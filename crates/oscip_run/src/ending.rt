@@ -2,7 +2,7 @@
 ghost use Rattle.std.specs.Prelude.{◌≡◌, IfOk};
 ghost use Rattle.std.specs.Process.{exit_status};
 ghost use Rattle.std.specs.String.{string_bytes};
-ghost use Rattle.oscip_run.specs.Endings.{fault_line, run_line, run_status, job_fault_status, EndsByFault, EndsRun, AreReported, EndsTree, EndsWords, IsReported, MayReport};
+ghost use Rattle.oscip_run.specs.Endings.{fault_line, run_line, run_status, job_fault_status, EndsByFault, EndsRun, AreReported, EndsTree, EndsWithoutJob, IsReported, MayReport};
 ghost use Rattle.oscip_run.specs.Faults.{of_tree};
 ghost use Rattle.oscip_run.specs.declared.fault.RunFault.TheVariants.{Memory};
 ghost use Rattle.texts.specs.Places.{style_of, Style};
@@ -17,7 +17,7 @@ use texts::LocationStyle;
 
 /// The exit status of a run: 0 if it returns true, 5 if it returns false, for example for a `no`, and otherwise the status of its fault.
 pub fn status_of_run(ended: &Result<bool, RunFault>) -> u8
-    // The status of the result, exactly.
+    // The result is 0 for true, 5 for false, and otherwise the status of the fault.
     ensures { result ≡ run_status ended.now }
 {
     match ended {
@@ -29,7 +29,7 @@ pub fn status_of_run(ended: &Result<bool, RunFault>) -> u8
 
 /// The exit status of a command line that gives no job: 2 if it is invalid, 0 for help, 4 if memory ran out.
 pub fn status_without_job(fault: &JobFault) -> u8
-    // The status of the fault, exactly.
+    // The result is 2 for an invalid command line, 0 for help, and 4 if memory ran out.
     ensures { result ≡ job_fault_status fault.now }
 {
     match fault {
@@ -39,14 +39,13 @@ pub fn status_without_job(fault: &JobFault) -> u8
     }
 }
 
-/// The line that reports the fault of a run, as `fault_line` makes it, or an empty text if the run has no fault. Fails if an allocation
-/// fails.
-pub fn line_of_run(
+/// The result of `fault_line` for the fault of a run, or an empty text if the run has no fault. Fails if an allocation fails.
+pub fn run_fault_line(
     alloc: Global,
     style: LocationStyle<'_>,
     ended: &Result<bool, RunFault>,
 ) -> Result<String, AllocError>
-    // The line of the fault in this style, or an empty text.
+    // With `Ok` the result is the line of the fault in this style, or empty without a fault.
     ensures { IfOk result (λ text. string_bytes text ≡ run_line (style_of style.entry) ended.now) }
 {
     match ended {
@@ -55,13 +54,14 @@ pub fn line_of_run(
     }
 }
 
-/// Writes the line of a fault to standard error. Returns false if memory for the line ran out; nothing is written then.
+/// Writes the line of a fault to standard error. Returns false, and writes nothing, if memory for the line ran out.
 fn report_fault<E: Sink>(
     alloc: Global,
     fault: &RunFault,
     style: LocationStyle<'_>,
     stderr: &mut Stream<E>,
 ) -> bool
+    // With true the line of the fault is written, as far as standard error takes it. With false standard error is unchanged.
     ensures { IsReported E.taken (style_of style.entry) fault.now result stderr.old stderr.new }
 {
     let Ok(line) = fault_line(alloc, style, fault) else {
@@ -71,13 +71,15 @@ fn report_fault<E: Sink>(
     true
 }
 
-/// Writes the line of a left-out file's fault to standard error. Returns false if memory for the line ran out.
-fn report_left_out<E: Sink>(
+/// Writes the line of a fault to standard error. The fault is that of a file that the run left out. Returns false, and writes nothing, if
+/// memory for the line ran out.
+fn report_skipped_file<E: Sink>(
     alloc: Global,
     fault: TreeFault,
     style: LocationStyle<'_>,
     stderr: &mut Stream<E>,
 ) -> bool
+    // With true the line of the fault is written, as far as standard error takes it. With false standard error is unchanged.
     ensures { IsReported E.taken (style_of style.entry) (of_tree fault) result stderr.old stderr.new }
 {
     let fault = RunFault::from(fault);
@@ -91,22 +93,26 @@ fn report_faults<E: Sink>(
     style: LocationStyle<'_>,
     stderr: &mut Stream<E>,
 ) -> bool
+    // The lines of the faults are written in the order of the faults, each as far as standard error takes it. With false at least one line
+    // is missing, since memory for it ran out.
     ensures { AreReported E.taken (style_of style.entry) stderr.old faults.items result stderr.new }
 {
     let mut all = true;
     for fault in faults {
-        all &= report_left_out(alloc, fault, style, stderr);
+        all &= report_skipped_file(alloc, fault, style, stderr);
     }
     all
 }
 
 /// Writes the line of a run's fault to standard error, unless the fault is `Memory` or memory for the line runs out.
-fn report_end<E: Sink>(
+fn report_run_fault<E: Sink>(
     alloc: Global,
     ended: &Result<bool, RunFault>,
     style: LocationStyle<'_>,
     stderr: &mut Stream<E>,
 )
+    // Without a fault standard error is unchanged. With one its line is written, as far as standard error takes it, or memory for the line
+    // ran out and standard error is unchanged.
     ensures { MayReport E.taken (style_of style.entry) ended.now stderr.old stderr.new }
 {
     match ended {
@@ -117,18 +123,18 @@ fn report_end<E: Sink>(
     }
 }
 
-/// Reports the faults of the files that a run on a tree left out.
-/// It does so after the run on the other files: no line gets into a file that was opened in place of a closed standard error.
-/// Returns the result of that run, or false if it succeeded and files were left out.
-/// If memory for a line runs out, a fault of that run is still reported, and the result is `Memory`.
-pub fn end_of_tree<E: Sink>(
+/// Reports on standard error the faults of the files that a run on a tree left out. The run on the other files has ended.
+/// Returns the result of the run, or false if it succeeded and files were left out.
+/// If memory for a line runs out, the run's own fault is still reported, and the result is `Memory`.
+/// No line is written during the run: a file that the run opens may have the descriptor of a standard error that is closed.
+pub fn finish_tree_run<E: Sink>(
     alloc: Global,
     run: TreeRun,
     style: LocationStyle<'_>,
     stderr: &mut Stream<E>,
 ) -> Result<bool, RunFault>
-    // The lines of the faults are written in the order of the files. The result is that of the run, false if files were left out, or
-    // `Memory` if memory for a line ran out.
+    // The lines of the faults are written in the order of the files, apart from those for which memory ran out. The result is that of the
+    // run, false if the run succeeded and files were left out, or `Memory` if memory for a line ran out.
     ensures { EndsTree E.taken (style_of style.entry) run.faults.items run.ended stderr.old stderr.new result }
 {
     let TreeRun { faults, ended } = run;
@@ -136,12 +142,14 @@ pub fn end_of_tree<E: Sink>(
     if report_faults(alloc, faults, style, stderr) {
         return Ok(ended? && is_whole);
     }
-    report_end(alloc, &ended, style, stderr);
+    report_run_fault(alloc, &ended, style, stderr);
     Err(RunFault::Memory)
 }
 
-/// Writes the line of a fault to standard error. Returns the status of the fault, also if standard error fails.
-fn end_by_fault<E: Sink>(fault: &RunFault, line: &str, stderr: &mut Stream<E>) -> u8
+/// Writes the line of a fault to standard error. Returns the status of the fault, even if standard error fails.
+fn finish_with_fault<E: Sink>(fault: &RunFault, line: &str, stderr: &mut Stream<E>) -> u8
+    // If `line` is the line of this fault in some style, it is written, as far as standard error takes it, and the result is the status of
+    // this fault.
     ensures { (style : Style) → line.now ≡ fault_line style fault.now → EndsByFault E.taken style fault.now stderr.old stderr.new result }
 {
     let _ = stderr.write(line);
@@ -149,15 +157,16 @@ fn end_by_fault<E: Sink>(fault: &RunFault, line: &str, stderr: &mut Stream<E>) -
 }
 
 /// Writes the line of `Memory` to standard error, without an allocation. Returns its status.
-fn end_by_memory<E: Sink>(stderr: &mut Stream<E>) -> u8
+fn finish_out_of_memory<E: Sink>(stderr: &mut Stream<E>) -> u8
+    // The line of `Memory` is written, as far as standard error takes it, and the result is the status of `Memory`.
     ensures { (style : Style) → EndsByFault E.taken style Memory stderr.old stderr.new result }
 {
-    end_by_fault(&RunFault::Memory, "oscip: Memory\n", stderr)
+    finish_with_fault(&RunFault::Memory, "oscip: Memory\n", stderr)
 }
 
-/// Reports the fault of a run, if it has one, on standard error. The line is the result of `line_of_run`, in any style.
+/// Reports the fault of a run, if it has one, on standard error. The caller passes the result of `run_fault_line` as `line`, in any style.
 /// Returns the status of `status_of_run`, or 4 if memory for the line of a fault ran out.
-pub fn end_of<E: Sink>(
+pub fn finish_run<E: Sink>(
     ended: &Result<bool, RunFault>,
     line: Result<String, AllocError>,
     stderr: &mut Stream<E>,
@@ -169,22 +178,23 @@ pub fn end_of<E: Sink>(
     match ended {
         Ok(_) => ExitCode::from(status_of_run(ended)),
         Err(fault) => match line {
-            Ok(line) => ExitCode::from(end_by_fault(fault, line.as_str(), stderr)),
-            Err(_) => ExitCode::from(end_by_memory(stderr)),
+            Ok(line) => ExitCode::from(finish_with_fault(fault, line.as_str(), stderr)),
+            Err(_) => ExitCode::from(finish_out_of_memory(stderr)),
         },
     }
 }
 
 /// Writes the error of a command line to standard error, or the requested help to standard output.
-/// Returns the status of `status_without_job`. If not all of the help was written, reports `Device` and returns its status.
-pub fn end_without_job<O: Sink, E: Sink>(
+/// Returns the status of `status_without_job`. If not all of the help was written, reports `Device` on standard error and returns the
+/// status of `Device`.
+pub fn finish_without_job<O: Sink, E: Sink>(
     fault: &JobFault,
     stdout: &mut Stream<O>,
     stderr: &mut Stream<E>,
 ) -> ExitCode
-    // The text is written to the stream of its kind, and the status is that of the fault, or of `Device` if only a prefix of the help is
-    // written.
-    ensures { EndsWords O.taken E.taken fault.now (stdout.old, stdout.new) (stderr.old, stderr.new) (exit_status result) }
+    // An error is written to standard error, and help to standard output. The status is that of `fault`, or of `Device` if only a prefix of
+    // the help is written.
+    ensures { EndsWithoutJob O.taken E.taken fault.now (stdout.old, stdout.new) (stderr.old, stderr.new) (exit_status result) }
 {
     match fault {
         JobFault::Line { text } => {
@@ -194,10 +204,10 @@ pub fn end_without_job<O: Sink, E: Sink>(
         JobFault::Help { text } => match stdout.write(text.as_str()) {
             Ok(()) => ExitCode::from(status_without_job(fault)),
             Err(_) => {
-                let status = end_by_fault(&RunFault::Device, "oscip: cannot write\n", stderr);
+                let status = finish_with_fault(&RunFault::Device, "oscip: cannot write\n", stderr);
                 ExitCode::from(status)
             }
         },
-        JobFault::Memory => ExitCode::from(end_by_memory(stderr)),
+        JobFault::Memory => ExitCode::from(finish_out_of_memory(stderr)),
     }
 }

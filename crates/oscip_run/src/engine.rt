@@ -1,4 +1,4 @@
-//! The engines of `cut`, `check`, `cut-net` and `check-net`, over any sink.
+//! The engines of the commands `cut`, `check`, `cut-net` and `check-net`, which write to any sink.
 ghost use Rattle.std.specs.Prelude.{◌≡◌, ◌++◌, ◌≤◌, All, IfOk, IsSome, codes, option_copied};
 ghost use Rattle.std.specs.String.{string_bytes};
 ghost use Rattle.cut_dot.specs.Pictures.{answer_flow};
@@ -14,7 +14,7 @@ ghost use Rattle.oscip_run.specs.Runs.{is_yes, verdict_text, IsCheckRun, IsNever
 ghost use Rattle.source_tree.specs.Sources.{ArePathsInOrder};
 
 use crate::RunFault;
-use crate::priced::{net_of_text, net_of_tree};
+use crate::priced_network::{net_of_text, net_of_tree};
 use byte_sink::{Sink, write_fully};
 use cut_check::{Verdict, check};
 use cut_net::{Answer, Net, Priced};
@@ -25,7 +25,7 @@ use std::alloc::{AllocError, Global};
 use std::sync::Wait;
 use std::thread::Threads;
 
-/// The number of threads, at most, that read the files of a tree for a command without `--workers`.
+/// The maximum number of threads that read the files of a tree for a command without `--workers`.
 pub const READERS: u32 = 4;
 
 /// The name of a module, or an empty text if the network has no module of this number.
@@ -39,7 +39,7 @@ fn name_or_empty(net: &Net, node: u32) -> &str
     }
 }
 
-/// The line of a verdict about an import.
+/// The line `no WORD M N`, in which M and N are the names of the modules `from` and `to`: a verdict about the import of `to` by `from`.
 fn import_verdict_line(
     alloc: Global,
     net: &Net,
@@ -54,6 +54,7 @@ fn import_verdict_line(
     format!(in alloc; "no {word} {from} {to}\n")
 }
 
+/// The line that a check writes for this verdict, with the names of the modules in it.
 fn verdict_line(alloc: Global, net: &Net, verdict: Verdict) -> Result<String, AllocError>
     ensures { IfOk result (λ t. string_bytes t ≡ verdict_text net.now verdict) }
 {
@@ -78,6 +79,7 @@ fn verdict_line(alloc: Global, net: &Net, verdict: Verdict) -> Result<String, Al
     }
 }
 
+/// Whether the verdict is `yes`.
 fn is_yes(verdict: Verdict) -> bool
     ensures { result ≡ is_yes verdict }
 {
@@ -91,7 +93,9 @@ fn check_report<S: Sink>(
     report: &[u8],
     sink: &mut S,
 ) -> Result<bool, RunFault>
+    // This is the run of `check_net_bytes` for a network that is already read, so no network or prices are rejected.
     ensures run { IsCheckRun (IsThis net.now) IsNeverRejected report.now (S.taken sink.old) (S.taken sink.new) result }
+    // The sink counts a failure if and only if the result is `Device`.
     ensures failures { S.failures sink.new ≡ failures_by is_device result (S.failures sink.old) }
 {
     let report = cut_report::read(alloc, report, net)?;
@@ -102,8 +106,8 @@ fn check_report<S: Sink>(
 }
 
 /// Reads a network, its prices if they are given, and then a report on it. Writes the line of the verdict, and returns whether it is `yes`.
-/// With `yes`, the imports of a report of a cut are a cheapest cut between its two modules, among the sets without pinned imports; the
-/// modules of a blocked report are a path of pinned imports, and no such set is a cut. Otherwise nothing is promised of the report.
+/// With `yes`, a report of a cut has a cheapest cut between its two modules, among the sets without pinned imports. With `yes`, a blocked
+/// report has a path of pinned imports, so no set without pinned imports is a cut. Otherwise nothing is promised of the report.
 /// Fails with `Net`, `Price`, `Report`, `Device` or `Memory`.
 pub fn check_net_bytes<S: Sink>(
     alloc: Global,
@@ -123,7 +127,7 @@ pub fn check_net_bytes<S: Sink>(
 }
 
 /// Reads the files of a tree, its prices if they are given, and then a report on its network. Writes the line of the verdict, and returns
-/// whether it is `yes`, which promises what it does for `check_net_bytes`.
+/// whether it is `yes`. With `yes`, the report has the properties that `check_net_bytes` describes.
 /// Fails with `Tree`, `Price`, `Report`, `Device` or `Memory`.
 pub fn check_tree<R: Threads + Sync, S: Sink>(
     rt: &R,
@@ -145,16 +149,18 @@ pub fn check_tree<R: Threads + Sync, S: Sink>(
     check_report(alloc, &net, report, sink)
 }
 
-/// The number of the module of this name.
+/// The number of the module of this name. The caller knows that the network has such a module.
 fn module_number(net: &Net, name: &str) -> u32
+    // The network has a module of this name.
     requires { IsSome (index_of net.now name.now) }
     ensures { Some result ≡ index_of net.now name.now }
 {
     net.index_of(name).unwrap()
 }
 
-/// The largest amount of the lines, 0 without lines. It shows the prover that each amount fits 64 bits.
+/// The largest amount in the list, 0 if it is empty. The program doesn't use it: it shows the prover that each amount fits 64 bits.
 fn largest_amount(lines: &[Priced]) -> u64
+    // No amount in the list is larger than the result.
     ensures { All (λ line. line.amount ≤ result) lines.now }
 {
     let mut most = 0;
@@ -166,7 +172,7 @@ fn largest_amount(lines: &[Priced]) -> u64
     most
 }
 
-/// The flow of an answer, which is empty if no cut exists.
+/// The imports with flow of an answer; empty for a blocked path, since there is no cut then.
 fn flow_of(answer: &Answer) -> &[Priced]
     ensures { result.now ≡ answer_flow answer.now }
 {
@@ -176,7 +182,7 @@ fn flow_of(answer: &Answer) -> &[Priced]
     }
 }
 
-/// Writes the report of the answer for the modules of two names.
+/// Writes the report of an answer to the question for a cut between the modules named `a` and `b`.
 fn write_cut<S: Sink>(
     alloc: Global,
     net: &Net,
@@ -185,8 +191,11 @@ fn write_cut<S: Sink>(
     answer: &Answer,
     sink: &mut S,
 ) -> Result<(), RunFault>
+    // The answer is a correct result of `solve` for these two names.
     requires { IsSolved net.now a.now b.now (answer_claim answer.now) }
+    // This is the run of `cut_net_bytes` for a network that is already read, so no network or prices are rejected.
     ensures run { IsCutRun (IsThis net.now) IsNeverRejected a.now b.now (S.taken sink.old) (S.taken sink.new) result }
+    // The sink counts a failure if and only if the result is `Device`.
     ensures failures { S.failures sink.new ≡ failures_by is_device result (S.failures sink.old) }
 {
     net.invariants();
@@ -197,7 +206,7 @@ fn write_cut<S: Sink>(
     Ok(())
 }
 
-/// Writes the report of a cheapest cut of a network between the modules of two names, or of a path of pinned imports if no cut exists.
+/// Writes the report of a cheapest cut of a network between the modules named `a` and `b`, or of a path of pinned imports if no cut exists.
 fn solve_and_write<R: Threads + Wait + Sync, G: Gate + Sync, S: Sink>(
     rt: &R,
     alloc: Global,
@@ -208,8 +217,11 @@ fn solve_and_write<R: Threads + Wait + Sync, G: Gate + Sync, S: Sink>(
     gate: &G,
     sink: &mut S,
 ) -> Result<(), RunFault>
+    // The number of workers is 1 to 64.
     requires { IsWorkerCount workers }
+    // This is the run of `cut_net_bytes` for a network that is already read, so no network or prices are rejected.
     ensures run { IsCutRun (IsThis net.now) IsNeverRejected a.now b.now (S.taken sink.old) (S.taken sink.new) result }
+    // The sink counts a failure if and only if the result is `Device`.
     ensures failures { S.failures sink.new ≡ failures_by is_device result (S.failures sink.old) }
 {
     let answer = solve(rt, alloc, net, a, b, workers, gate)?;
@@ -230,8 +242,8 @@ fn solve_and_write<R: Threads + Wait + Sync, G: Gate + Sync, S: Sink>(
 /// holds, for every number of workers, every gate and every interleaving.
 ///
 /// If prices are given, they replace the weights of their imports, and only sets without pinned imports count.
-/// If a path of pinned imports leads from `a` to `b`, no such set is a cut. The report then has the shortest such path, of several the
-/// lexicographically smallest.
+/// If a path of pinned imports leads from `a` to `b`, each cut has a pinned import. The report then has the shortest path of pinned
+/// imports, of several the lexicographically smallest.
 ///
 /// Fails with `Net` if the network is rejected, and then with `Price` if the prices are.
 /// Then fails with `Solve` for the first unknown name, or if both names are the same; and with `Device` or `Memory`.

@@ -17,8 +17,8 @@ use texts::laws::escaped_is_one_line;
 use texts::{EscapingWriter, LocationStyle};
 use thiserror::Error;
 
-/// Why a run fails. The conversions from faults of other crates map a failed allocation to `Memory` and a failed sink to `Device`, so no
-/// other variant that they return holds either.
+/// Why a run fails. The conversions from faults of other crates map each failed allocation to `Memory` and each failed sink to `Device`. So
+/// the fault inside another variant that they return is neither a failed allocation nor a failed sink.
 #[derive(Debug, Drop, Error)]
 pub enum RunFault {
     /// A file or a folder can't be read. For example it doesn't exist, isn't a regular file, has more than 2^30 bytes or a name that isn't
@@ -43,10 +43,10 @@ pub enum RunFault {
     /// The report is rejected.
     #[error(transparent)]
     Report(ReportFault),
-    /// The names in a question are rejected.
+    /// The names of modules in a question are rejected: one is unknown, or both are the same.
     #[error(transparent)]
     Solve(SolveFault),
-    /// The index is rejected, or it has no document of the path.
+    /// The index is rejected, or no document of it has the path that the question names.
     #[error(transparent)]
     Query(QueryFault),
     /// The sink failed.
@@ -183,6 +183,7 @@ impl From<SinkFault> for RunFault {
     }
 }
 
+/// The text of a fault of a network, as it follows `oscip: ` in a line.
 fn net_fault_text(alloc: Global, fault: &NetFault) -> Result<String, AllocError>
     ensures { IfOk result (λ t. string_bytes t ≡ net_fault_text fault.now) }
 {
@@ -199,6 +200,7 @@ fn net_fault_text(alloc: Global, fault: &NetFault) -> Result<String, AllocError>
     }
 }
 
+/// The text of a fault of prices, as it follows `oscip: ` in a line.
 fn price_fault_text(alloc: Global, fault: &PriceFault) -> Result<String, AllocError>
     ensures { IfOk result (λ t. string_bytes t ≡ price_fault_text fault.now) }
 {
@@ -211,8 +213,9 @@ fn price_fault_text(alloc: Global, fault: &PriceFault) -> Result<String, AllocEr
     }
 }
 
-/// The text of a fault of rules, up to its last name.
-fn rules_fault_start(alloc: Global, fault: &RulesFault) -> Result<String, AllocError>
+/// The text of a fault of rules up to the name, path or pattern at its end. `last_rules_name` returns what follows.
+fn rules_fault_text_start(alloc: Global, fault: &RulesFault) -> Result<String, AllocError>
+    // With `Ok` the result followed by `last_rules_name` of the fault is the text of the fault.
     ensures { IfOk result (λ t. string_bytes t ++ last_rules_name fault.now ≡ rules_fault_text fault.now) }
 {
     match fault {
@@ -228,7 +231,7 @@ fn rules_fault_start(alloc: Global, fault: &RulesFault) -> Result<String, AllocE
     }
 }
 
-/// The name, path or pattern at the end of the text of a fault of rules.
+/// The name, path or pattern at the end of the text of a fault of rules; empty if there is none.
 fn last_rules_name(fault: &RulesFault) -> &str
     ensures { result.now ≡ last_rules_name fault.now }
 {
@@ -242,6 +245,7 @@ fn last_rules_name(fault: &RulesFault) -> &str
     }
 }
 
+/// The text of a fault of a report, as it follows `oscip: ` in a line.
 fn report_fault_text(alloc: Global, fault: &ReportFault) -> Result<String, AllocError>
     ensures { IfOk result (λ t. string_bytes t ≡ report_fault_text fault.now) }
 {
@@ -255,6 +259,7 @@ fn report_fault_text(alloc: Global, fault: &ReportFault) -> Result<String, Alloc
     }
 }
 
+/// The text of a fault of the solver, as it follows `oscip: ` in a line.
 fn solve_fault_text(alloc: Global, fault: &SolveFault) -> Result<String, AllocError>
     ensures { IfOk result (λ t. string_bytes t ≡ solve_fault_text fault.now) }
 {
@@ -265,13 +270,14 @@ fn solve_fault_text(alloc: Global, fault: &SolveFault) -> Result<String, AllocEr
     }
 }
 
-/// The text of a fault without the name at its end, if that name may have as many bytes as the input. So the name is copied only into the
-/// line.
+/// The text of a fault up to the name at its end, which `last_name` returns. That name may have as many bytes as the input, so only
+/// `fault_line` copies it, once.
 fn fault_text_start(
     alloc: Global,
     style: LocationStyle<'_>,
     fault: &RunFault,
 ) -> Result<String, AllocError>
+    // With `Ok` the result followed by `last_name` of the fault is the text of the fault.
     ensures { IfOk result (λ t. string_bytes t ++ last_name fault.now ≡ fault_text (style_of style.entry) fault.now) }
 {
     match fault {
@@ -280,7 +286,7 @@ fn fault_text_start(
         RunFault::Tree(fault) => tree_fault_text(alloc, style, fault),
         RunFault::Net(fault) => net_fault_text(alloc, fault),
         RunFault::Price(fault) => price_fault_text(alloc, fault),
-        RunFault::Rules(fault) => rules_fault_start(alloc, fault),
+        RunFault::Rules(fault) => rules_fault_text_start(alloc, fault),
         RunFault::Report(fault) => report_fault_text(alloc, fault),
         RunFault::Solve(fault) => solve_fault_text(alloc, fault),
         RunFault::Query(fault) => query_fault_text(alloc, fault),
@@ -289,7 +295,7 @@ fn fault_text_start(
     }
 }
 
-/// The name at the end of the text of a fault that may have as many bytes as the input.
+/// The name at the end of the text of a fault of rules, which may have as many bytes as the input; empty for every other fault.
 fn last_name(fault: &RunFault) -> &str
     ensures { result.now ≡ last_name fault.now }
 {
@@ -315,9 +321,9 @@ pub fn fault_line(
     style: LocationStyle<'_>,
     fault: &RunFault,
 ) -> Result<String, AllocError>
-    // The whole line.
+    // The line is `oscip: `, the escaped text of the fault, and an LF.
     ensures text { IfOk result (λ t. string_bytes t ≡ codes "oscip: " ++ escaped (fault_text (style_of style.entry) fault.now) ++ codes "\n") }
-    // It ends with its LF, and has no other control character.
+    // The line ends with an LF, and has no other control character.
     ensures one_line { IfOk result (λ t. IsOneLine (string_bytes t)) }
 {
     escaped_is_one_line();
@@ -330,6 +336,7 @@ pub fn fault_line(
     Ok(line)
 }
 
+/// The exit status of a fault of a network: 1 for rejected input, 4 if an allocation failed.
 fn net_status(fault: &NetFault) -> u8
     ensures { result ≡ net_status fault.now }
 {
@@ -343,6 +350,7 @@ fn net_status(fault: &NetFault) -> u8
     }
 }
 
+/// The exit status of a fault of prices: 1 for rejected input, 4 if an allocation failed.
 fn price_status(fault: &PriceFault) -> u8
     ensures { result ≡ price_status fault.now }
 {
@@ -355,6 +363,7 @@ fn price_status(fault: &PriceFault) -> u8
     }
 }
 
+/// The exit status of a fault of rules: 1 for rejected input, 4 if an allocation failed.
 fn rules_status(fault: &RulesFault) -> u8
     ensures { result ≡ rules_status fault.now }
 {
@@ -369,6 +378,7 @@ fn rules_status(fault: &RulesFault) -> u8
     }
 }
 
+/// The exit status of a fault of a report: 1 for rejected input, 3 if the sink failed, 4 if an allocation failed.
 fn report_status(fault: &ReportFault) -> u8
     ensures { result ≡ report_status fault.now }
 {
@@ -382,6 +392,7 @@ fn report_status(fault: &ReportFault) -> u8
     }
 }
 
+/// The exit status of a fault of the solver: 1 for rejected names, 4 if an allocation failed.
 fn solve_status(fault: &SolveFault) -> u8
     ensures { result ≡ solve_status fault.now }
 {
@@ -391,6 +402,7 @@ fn solve_status(fault: &SolveFault) -> u8
     }
 }
 
+/// The exit status of a fault of a tree: 1 for rejected input, 4 if an allocation failed.
 fn tree_status(fault: &TreeFault) -> u8
     ensures { result ≡ tree_status fault.now }
 {
@@ -399,7 +411,7 @@ fn tree_status(fault: &TreeFault) -> u8
 
 /// The exit status of a fault: 1 for rejected input, 3 for a file or device that failed, 4 for memory.
 pub fn status_of(fault: &RunFault) -> u8
-    // The status of the fault, exactly.
+    // The result is exactly the exit status of the fault.
     ensures { result ≡ status_number fault.now }
 {
     match fault {

@@ -1,4 +1,4 @@
-//! The engine of `faults`, which lists the faults of a tree's files, over any sink.
+//! The engine of the command `faults`: it writes the faults of a tree's files to any sink.
 ghost use Rattle.std.specs.Prelude.{◌≡◌, ◌++◌, IfErr, IfOk, OnOk};
 ghost use Rattle.std.specs.String.{string_bytes};
 ghost use Rattle.byte_sink.specs.Sinks.{failures_after, failures_by, AppendsPrefix, Writes};
@@ -17,13 +17,14 @@ use std::alloc::{AllocError, Global};
 use std::thread::Threads;
 use texts::{LocationStyle, escaped};
 
-/// Appends the line of a fault to the text.
+/// Appends the line of a fault to the text: the fault with its control characters escaped, and an LF.
 fn append_line(
     alloc: Global,
     style: LocationStyle<'_>,
     text: &mut String,
     fault: &TreeFault,
 ) -> Result<(), AllocError>
+    // With `Ok` the text has grown by exactly this line.
     ensures { IfOk result (λ _. string_bytes text.new ≡ string_bytes text.old ++ escaped_line (tree_fault_text (style_of style.entry) fault.now)) }
 {
     let told = tree_fault_text(alloc, style, fault)?;
@@ -31,7 +32,7 @@ fn append_line(
     writeln!(text, "{shown}")
 }
 
-/// Appends the line of a fault to the text, and writes the text if it is long.
+/// Appends the line of a fault to the text. If the text is then long, writes it to the sink and empties it.
 fn write_line<S: Sink>(
     alloc: Global,
     style: LocationStyle<'_>,
@@ -39,24 +40,29 @@ fn write_line<S: Sink>(
     fault: &TreeFault,
     sink: &mut S,
 ) -> Result<(), SinkFault>
+    // With `Ok` the sink took the old text and the line, without what the new text still holds.
     ensures gathered { OnOk result (WritesAllBut (S.taken sink.old) (S.taken sink.new)
         (string_bytes text.old ++ escaped_line (tree_fault_text (style_of style.entry) fault.now)) (string_bytes text.new)) }
+    // After an error the sink took a prefix of the old text and the line.
     ensures error_prefix { IfErr result (λ _. AppendsPrefix (S.taken sink.old) (S.taken sink.new)
         (string_bytes text.old ++ escaped_line (tree_fault_text (style_of style.entry) fault.now))) }
+    // The sink counts a failure if and only if the result is `Device`.
     ensures failures { S.failures sink.new ≡ failures_after result (S.failures sink.old) }
 {
     append_line(alloc, style, text, fault).map_err(|_| SinkFault::Memory)?;
     flush_if_full(text, sink)
 }
 
-/// Writes the lines of faults, in their order. After an error the sink has a prefix of the lines.
+/// Writes a line for each fault, in the order of `faults`. After an error the sink took a prefix of the lines.
 fn write_lines<S: Sink>(
     alloc: Global,
     style: LocationStyle<'_>,
     faults: &[TreeFault],
     sink: &mut S,
 ) -> Result<(), SinkFault>
+    // With `Ok` the sink took all lines, otherwise a prefix of them.
     ensures writes { Writes (S.taken sink.old) (S.taken sink.new) result (fault_lines (style_of style.entry) faults.now) }
+    // The sink counts a failure if and only if the result is `Device`.
     ensures failures { S.failures sink.new ≡ failures_after result (S.failures sink.old) }
 {
     let mut text = String::new(alloc);
@@ -69,7 +75,7 @@ fn write_lines<S: Sink>(
 /// Reads the files of a tree, and writes a line for each file that has a fault of its own, in the order of the files.
 /// If no file has one, writes the line of the tree's fault, for example of a cycle of imports; if the tree is accepted, writes `yes`.
 /// Returns whether the tree is accepted.
-/// A line is what `fault_line` makes of the fault in this style, without the program's name. Fails with `Device` or `Memory`.
+/// The line of a fault is that of `fault_line` in this style, without `oscip: ` at its start. Fails with `Device` or `Memory`.
 pub fn list_tree_faults<R: Threads + Sync, S: Sink>(
     rt: &R,
     alloc: Global,
@@ -79,8 +85,8 @@ pub fn list_tree_faults<R: Threads + Sync, S: Sink>(
 ) -> Result<bool, RunFault>
     // The files are sorted by path, each path once.
     requires { ArePathsInOrder sources.now }
-    // With `Ok` the sink took exactly these lines, and the result is whether the tree is accepted. After an error it has at most a prefix
-    // of them.
+    // With `Ok` the sink took exactly the lines of the tree's faults, or `yes`, and the result is whether the tree is accepted. After an
+    // error it has at most a prefix of the lines.
     ensures run { IsFaultsRun (style_of style.entry) sources.now (S.taken sink.old) (S.taken sink.new) result }
     // The sink counts a failure if and only if the result is `Device`.
     ensures failures { S.failures sink.new ≡ failures_by is_device result (S.failures sink.old) }

@@ -12,7 +12,7 @@ use std::{fs, io};
 /// The largest number of bytes of a network, a report, a prices file, a rules file or an index.
 const FILE_LIMIT: u64 = 1 << 30;
 
-/// Why a file or a folder isn't read.
+/// Why reading a file or a folder failed.
 #[derive(Drop)]
 pub(crate) enum ReadFault {
     /// The file or folder of this path can't be read.
@@ -46,7 +46,7 @@ impl From<ReadFault> for RunFault {
     }
 }
 
-/// The fault that the path can't be read, or `Memory`.
+/// The fault `CannotRead` with a copy of the path, or `Memory` if the copy fails.
 pub(crate) fn cannot_read(alloc: Global, path: &str) -> ReadFault {
     match String::from_str(alloc, path) {
         Ok(path) => ReadFault::CannotRead { path },
@@ -54,7 +54,7 @@ pub(crate) fn cannot_read(alloc: Global, path: &str) -> ReadFault {
     }
 }
 
-/// The fault of a path for which the system returned an error.
+/// The fault for an error that the system returned for a path: `Memory` if it ran out of memory, otherwise `CannotRead`.
 pub(crate) fn file_fault(alloc: Global, path: &str, error: &io::Error) -> ReadFault {
     if error.kind() == ErrorKind::OutOfMemory {
         ReadFault::Memory
@@ -63,12 +63,13 @@ pub(crate) fn file_fault(alloc: Global, path: &str, error: &io::Error) -> ReadFa
     }
 }
 
-/// The first bytes of a file, at most `most`.
+/// The first `most` bytes of the file at this path, or all its bytes if it has fewer.
 pub(crate) fn read_at_most<R: Files + AllocGlobal>(
     rt: &R,
     path: &str,
     most: u64,
 ) -> Result<Vec<u8>, ReadFault>
+    // With `Ok` there are at most `most` bytes.
     ensures { IfOk result (λ bytes. length bytes.items ≤ most) }
 {
     let Ok(file) = fs::open(rt, path) else {
@@ -83,7 +84,7 @@ pub(crate) fn read_at_most<R: Files + AllocGlobal>(
     }
 }
 
-/// Whether the system reports that the file at this path has more than `most` bytes.
+/// Whether the system reports that the file at this path has more than `most` bytes. False if the system reports an error.
 fn is_longer<R: Files>(rt: &R, path: &str, most: u64) -> bool {
     match fs::metadata(rt, path) {
         Ok(metadata) => metadata.len() > most,
@@ -91,8 +92,9 @@ fn is_longer<R: Files>(rt: &R, path: &str, most: u64) -> bool {
     }
 }
 
-/// The bytes of a file, if they are within the limit.
+/// The bytes of the file at this path. Fails with `CannotRead` if there are more than `FILE_LIMIT` bytes.
 fn read_limited<R: Files + AllocGlobal>(rt: &R, path: &str) -> Result<Vec<u8>, ReadFault>
+    // With `Ok` there are at most 2^30 bytes.
     ensures { IfOk result (λ bytes. IsFile bytes.items) }
 {
     if is_longer(rt, path, FILE_LIMIT) {

@@ -15,12 +15,13 @@ pub fn tree_with_net_is_accepted()
         IsNetOfTree sources net → IsRejectedTree sources fault → ⊥ }
 {}
 
-/// Without prices nothing is pinned: the report is of a cheapest cut among all sets of imports, with a flow within the weights.
+/// Without prices no import is pinned. So a report that is written is one of a cheapest cut among all sets of imports, with a flow within
+/// the weights.
 pub fn no_pins_without_prices()
-    // What `cut_tree` writes without prices is such a report.
+    // What `cut_tree` writes without prices is the report of a cheapest cut among all sets of imports, with a flow within the weights.
     ensures tree { (sources : List Source) (first second text : List ℕ) →
         IsCutText (IsNetOfPricedTree sources None) first second text → IsUnpinnedCutText (IsNetOfTree sources) first second text }
-    // What `cut_net_bytes` writes without prices is such a report.
+    // What `cut_net_bytes` writes without prices is the report of a cheapest cut among all sets of imports, with a flow within the weights.
     ensures network { (lines first second text : List ℕ) →
         IsCutText (IsNetOfPricedText lines None) first second text → IsUnpinnedCutText (IsNetOfText lines) first second text }
 {}

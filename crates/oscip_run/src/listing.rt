@@ -1,4 +1,4 @@
-//! The engines of `reach`, `reach-net` and `modules`, which list modules, over any sink.
+//! The engines of the commands `reach`, `reach-net` and `modules`: they write lists of modules to any sink.
 ghost use Rattle.std.specs.Prelude.{◌≡◌, ◌↔◌, ◌++◌, ◌<◌, All, AllPairs, Contains, IfErr, IfOk, OnOk, length, map, option_copied, option_map, slice_index_or, ℕ, None};
 ghost use Rattle.std.specs.String.{string_bytes};
 ghost use Rattle.byte_sink.specs.Sinks.{failures_after, failures_by, AppendsPrefix, Writes};
@@ -31,13 +31,14 @@ struct ListedModule<'a> {
     path: Option<&'a str>,
 }
 
-/// Appends a space and the path to the text, if there is a path.
+/// Appends a space and the path, in this style and with its control characters escaped, to the text. Without a path appends nothing.
 fn append_path(
     alloc: Global,
     style: LocationStyle<'_>,
     text: &mut String,
     path: Option<&str>,
 ) -> Result<(), AllocError>
+    // With `Ok` the text has grown by exactly these bytes.
     ensures { OnOk result (string_bytes text.new ≡ string_bytes text.old ++ path_suffix (style_of style.entry) (option_copied path.entry)) }
 {
     let Some(path) = path else {
@@ -48,13 +49,14 @@ fn append_path(
     write!(text, " {path}")
 }
 
-/// Appends the line of a module to the text.
+/// Appends the line of a module to the text: its name, its path if it has one, and an LF.
 fn append_line(
     alloc: Global,
     style: LocationStyle<'_>,
     text: &mut String,
     listed: &ListedModule,
 ) -> Result<(), AllocError>
+    // With `Ok` the text has grown by exactly these bytes.
     ensures { OnOk result (string_bytes text.new ≡ string_bytes text.old ++ entry_line (style_of style.entry) (entry_of listed.now)) }
 {
     text.push_str(listed.name)?;
@@ -62,7 +64,7 @@ fn append_line(
     text.push('\n')
 }
 
-/// Appends the line of a module to the text, and writes the text if it is long.
+/// Appends the line of a module to the text. If the text is then long, writes it to the sink and empties it.
 fn write_line<S: Sink>(
     alloc: Global,
     style: LocationStyle<'_>,
@@ -70,24 +72,29 @@ fn write_line<S: Sink>(
     listed: &ListedModule,
     sink: &mut S,
 ) -> Result<(), SinkFault>
+    // With `Ok` the sink took the old text and the line, without what the new text still holds.
     ensures gathered { OnOk result (WritesAllBut (S.taken sink.old) (S.taken sink.new)
         (string_bytes text.old ++ entry_line (style_of style.entry) (entry_of listed.now)) (string_bytes text.new)) }
+    // After an error the sink took a prefix of the old text and the line.
     ensures error_prefix { IfErr result (λ _. AppendsPrefix (S.taken sink.old) (S.taken sink.new)
         (string_bytes text.old ++ entry_line (style_of style.entry) (entry_of listed.now))) }
+    // The sink counts a failure if and only if the result is `Device`.
     ensures failures { S.failures sink.new ≡ failures_after result (S.failures sink.old) }
 {
     append_line(alloc, style, text, listed).map_err(|_| SinkFault::Memory)?;
     flush_if_full(text, sink)
 }
 
-/// Writes the lines of modules, in their order. After an error the sink has a prefix of the lines.
+/// Writes a line for each module, in the order of `modules`. After an error the sink took a prefix of the lines.
 fn write_lines<S: Sink>(
     alloc: Global,
     style: LocationStyle<'_>,
     modules: &[ListedModule<'_>],
     sink: &mut S,
 ) -> Result<(), SinkFault>
+    // With `Ok` the sink took all lines, otherwise a prefix of them.
     ensures writes { Writes (S.taken sink.old) (S.taken sink.new) result (entry_lines (style_of style.entry) (map entry_of modules.now)) }
+    // The sink counts a failure if and only if the result is `Device`.
     ensures failures { S.failures sink.new ≡ failures_after result (S.failures sink.old) }
 {
     let mut text = String::new(alloc);
@@ -97,13 +104,15 @@ fn write_lines<S: Sink>(
     write_fully(sink, text.as_bytes())
 }
 
-/// The modules of these numbers, without paths.
-fn named_modules<'a>(
+/// The modules of these numbers, in their order, each with its name and without a path.
+fn modules_without_paths<'a>(
     alloc: Global,
     net: &'a Net,
     numbers: &[u32],
 ) -> Result<Vec<ListedModule<'a>>, AllocError>
+    // The numbers are those of modules of the network.
     requires { All (λ m. m < length net.now.names) numbers.now }
+    // With `Ok` there is an entry for each number, with the module's name and no path.
     ensures { IfOk result (λ listed. map entry_of listed.items ≡ map (named_entry net.now) numbers.now) }
 {
     let mut listed = Vec::with_capacity(alloc, numbers.len())?;
@@ -115,15 +124,19 @@ fn named_modules<'a>(
 }
 
 /// The numbers of the modules that are reached from module `start` in this direction by one or more imports, sorted.
-fn reached_from(
+fn reachable_modules(
     alloc: Global,
     net: &Net,
     start: u32,
     direction: Direction,
 ) -> Result<Vec<u32>, AllocError>
+    // `start` is a module of the network.
     requires { start < length net.now.names }
+    // With `Ok` the numbers are strictly ascending.
     ensures ascending { IfOk result (λ reached. AllPairs (λ m n. m < n) reached.items) }
+    // With `Ok` a number is in the list if and only if its module is reached from `start` in this direction.
     ensures exact { IfOk result (λ reached. (n : ℕ) → Contains reached.items n ↔ IsReached net.now direction start n) }
+    // With `Ok` each number is that of a module of the network.
     ensures within { IfOk result (λ reached. All (λ m. m < length net.now.names) reached.items) }
 {
     match direction {
@@ -132,7 +145,7 @@ fn reached_from(
     }
 }
 
-/// Writes the names of the modules that are reached from the module of this name in this direction.
+/// Writes the names of the modules that are reached from the module of this name by imports in this direction: one per line, sorted.
 fn write_reached_modules<S: Sink>(
     alloc: Global,
     net: &Net,
@@ -140,12 +153,14 @@ fn write_reached_modules<S: Sink>(
     direction: Direction,
     sink: &mut S,
 ) -> Result<(), RunFault>
+    // This is the run of `list_reachable_in_net` for a network that is already read, so no network is rejected.
     ensures run { IsReachRun (IsThis net.now) IsNeverRejected name.now direction (S.taken sink.old) (S.taken sink.new) result }
+    // The sink counts a failure if and only if the result is `Device`.
     ensures failures { S.failures sink.new ≡ failures_by is_device result (S.failures sink.old) }
 {
     let start = module_number(alloc, net, name)?;
-    let reached = reached_from(alloc, net, start, direction)?;
-    let listed = named_modules(alloc, net, reached.as_slice())?;
+    let reached = reachable_modules(alloc, net, start, direction)?;
+    let listed = modules_without_paths(alloc, net, reached.as_slice())?;
     write_lines(alloc, LocationStyle::Plain, listed.as_slice(), sink)?;
     Ok(())
 }
@@ -154,7 +169,7 @@ fn write_reached_modules<S: Sink>(
 /// sorted.
 /// Imports of weight 0 count. A module doesn't reach itself, since a network has no cycle.
 /// Fails with `Net` if the network is rejected, then with `Solve` if no module has the name, and with `Device` or `Memory`.
-pub fn list_net_bytes_reach<S: Sink>(
+pub fn list_reachable_in_net<S: Sink>(
     alloc: Global,
     network: &[u8],
     name: &str,
@@ -174,7 +189,7 @@ pub fn list_net_bytes_reach<S: Sink>(
 /// Reads the files of a tree, and writes the names of the modules that module `name` reaches by one or more imports, or that reach it: one
 /// per line, sorted.
 /// Fails with `Tree` if the tree is rejected, then with `Solve` if no module has the name, and with `Device` or `Memory`.
-pub fn list_tree_reach<R: Threads + Sync, S: Sink>(
+pub fn list_reachable_in_tree<R: Threads + Sync, S: Sink>(
     rt: &R,
     alloc: Global,
     sources: &[Source],
@@ -194,16 +209,21 @@ pub fn list_tree_reach<R: Threads + Sync, S: Sink>(
     write_reached_modules(alloc, &net, name, direction, sink)
 }
 
-/// For each module of the network the path of its file, if it has one. `modules` has the module's number for each file.
+/// For each module number below `nodes`, the path of the module's file, or `None` for a module without a file. `modules` has the number of
+/// each file's module, in the order of `sources`.
 fn paths_by_module<'a>(
     alloc: Global,
     sources: &'a [Source],
     modules: &[u32],
     nodes: usize,
 ) -> Result<Vec<Option<&'a str>>, AllocError>
+    // Each file has a module number.
     requires as_many { length modules.now ≡ length sources.now }
+    // Each module number is below `nodes`.
     requires within { All (λ m. m < nodes) modules.now }
+    // With `Ok` there is an entry for each number below `nodes`.
     ensures size { IfOk result (λ paths. length paths.items ≡ nodes) }
+    // With `Ok` the path at an index m is that of a file whose module has number m, and `None` if there is no such file.
     ensures paths { IfOk result (λ paths. (m : ℕ) → IsPathAt sources.now modules.now (length sources.now) m (option_map (λ path. path.now) (slice_index_or paths.items m None))) }
 {
     let mut paths = vec![in alloc; None; nodes]?;
@@ -213,14 +233,17 @@ fn paths_by_module<'a>(
     Ok(paths)
 }
 
-/// The modules of a network, each with its path.
-fn located_modules<'a>(
+/// The modules of a network in the order of their numbers, each with its name and its entry of `paths`, the path of its file or `None`.
+fn modules_with_paths<'a>(
     alloc: Global,
     net: &'a Net,
     paths: &[Option<&'a str>],
 ) -> Result<Vec<ListedModule<'a>>, AllocError>
+    // There is an entry for each module of the network.
     requires { length paths.now ≡ length net.now.names }
+    // With `Ok` the names are those of the network, in its order.
     ensures names { IfOk result (λ listed. map (λ (entry : ModuleEntry). entry.name) (map entry_of listed.items) ≡ net.now.names) }
+    // With `Ok` the paths are those of `paths`, in this order.
     ensures paths { IfOk result (λ listed. map (λ (entry : ModuleEntry). entry.path) (map entry_of listed.items) ≡ map (option_map (λ path. path.now)) paths.now) }
 {
     let mut listed = Vec::with_capacity(alloc, paths.len())?;
@@ -233,8 +256,8 @@ fn located_modules<'a>(
 }
 
 /// Reads the files of a tree, and writes a line for each of its modules, sorted by name: the name, a space, and the path of its file.
-/// The path is in this style, with its control characters escaped. An external module, which is only imported, has its name alone. A tree
-/// without files has no line.
+/// The path is in this style, with its control characters escaped. The line of an external module, which is only imported, is its name
+/// alone. For a tree without files nothing is written.
 /// Fails with `Tree` if the tree is rejected, and with `Device` or `Memory`.
 pub fn list_tree_modules<R: Threads + Sync, S: Sink>(
     rt: &R,
@@ -255,7 +278,7 @@ pub fn list_tree_modules<R: Threads + Sync, S: Sink>(
     let net = &located.net;
     let modules = located.modules.as_slice();
     let paths = paths_by_module(alloc, sources, modules, net.nodes() as usize)?;
-    let listed = located_modules(alloc, net, paths.as_slice())?;
+    let listed = modules_with_paths(alloc, net, paths.as_slice())?;
     write_lines(alloc, style, listed.as_slice(), sink)?;
     Ok(())
 }

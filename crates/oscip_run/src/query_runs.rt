@@ -1,4 +1,4 @@
-//! The engine of a question about an index.
+//! The engine of the commands that query an index: `def`, `refs`, `symbol` and `symbols`.
 ghost use Rattle.std.specs.Prelude.{◌≡◌};
 ghost use Rattle.byte_sink.specs.Sinks.{failures_by};
 ghost use Rattle.index_store.specs.Faults.{is_device as is_query_device};
@@ -13,7 +13,7 @@ use oscip_job::{AskedSymbol, IndexQuestion, Places};
 use std::alloc::Global;
 use texts::LocationStyle;
 
-/// The position as `index_store` takes it.
+/// Converts a position of a question to a position of `index_store`, without the path.
 fn position_of(at: &oscip_job::Position) -> Position
     ensures { result ≡ position_of at.now }
 {
@@ -23,7 +23,7 @@ fn position_of(at: &oscip_job::Position) -> Position
     }
 }
 
-/// The kind of occurrence as `index_store` takes it.
+/// Converts the kind of occurrence that a question asks for to the type that `index_store` uses.
 fn which_of(places: Places) -> Which
     ensures { result ≡ which_of places }
 {
@@ -33,7 +33,7 @@ fn which_of(places: Places) -> Which
     }
 }
 
-/// Writes the locations of occurrences of a symbol, which is given by a position or by its text.
+/// Writes the locations where a symbol is defined, or where it is used and not defined. The symbol is given by a position or by its text.
 fn write_locations<S: Sink>(
     alloc: Global,
     places: Places,
@@ -42,7 +42,9 @@ fn write_locations<S: Sink>(
     style: LocationStyle<'_>,
     sink: &mut S,
 ) -> Result<(), QueryFault>
+    // This is the run of `query` at the position, or of `query_symbol` for the text of the symbol.
     ensures run { IsLocationsRun (style_of style.entry) index.now places symbol.now (S.taken sink.old) (S.taken sink.new) result }
+    // The sink counts a failure if and only if the result is `Device`.
     ensures failures { S.failures sink.new ≡ failures_by is_query_device result (S.failures sink.old) }
 {
     let which = which_of(places);
@@ -80,7 +82,9 @@ fn write_query<S: Sink>(
     style: LocationStyle<'_>,
     sink: &mut S,
 ) -> Result<(), QueryFault>
+    // This is the run of the query of `index_store` that answers the question.
     ensures run { IsIndexRun (style_of style.entry) index.now question.now (S.taken sink.old) (S.taken sink.new) result }
+    // The sink counts a failure if and only if the result is `Device`.
     ensures failures { S.failures sink.new ≡ failures_by is_query_device result (S.failures sink.old) }
 {
     match question {
@@ -94,10 +98,10 @@ fn write_query<S: Sink>(
     }
 }
 
-/// Answers a question from the bytes of its index, and writes nothing if there is no result.
-/// Writes a line for each location where a symbol is defined, or where it is used and not defined, the symbol at a position, or a line for
-/// each definition.
-/// Locations are written in this style. The position of the question counts from 0 in each style.
+/// Answers a question about the index that the bytes encode.
+/// Writes a line for each location where a symbol is defined, or for each location where it is used and not defined. For other questions
+/// writes the line of the symbol at a position, or a line for each definition. Without a result nothing is written.
+/// Locations are written in this style. The position in the question counts from 0 in each style.
 /// Fails with `Query`, `Device` or `Memory`.
 pub fn answer_question<S: Sink>(
     alloc: Global,
@@ -106,7 +110,7 @@ pub fn answer_question<S: Sink>(
     style: LocationStyle<'_>,
     sink: &mut S,
 ) -> Result<(), RunFault>
-    // The query of the question runs with its own symbol or position. After `Device` or `Memory` the sink has at most a prefix of the
+    // The run is that of the query for the question's symbol or position. After `Device` or `Memory` the sink has at most a prefix of the
     // lines, after another error none.
     ensures run { IsAskedRun (style_of style.entry) index.now question.now (S.taken sink.old) (S.taken sink.new) result }
     // The sink counts a failure if and only if the result is `Device`.

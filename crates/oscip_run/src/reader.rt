@@ -11,14 +11,14 @@ use std::rt::Files;
 
 /// Reads files and folders by their paths.
 pub trait Reader {
-    /// The readings that the reader may return: the bytes of a file, the modules of a folder, or a fault.
+    /// The relation of this reader to what it may return for a path: the bytes of a file, the modules of a folder, or a fault.
     ghost answers: { Self → Reading → Type 0 };
 
     /// The bytes of the file at this path. Fails with `CannotRead` or `Memory`.
     fn file(&self, path: &str) -> Result<Vec<u8>, RunFault>
-        // With `Ok` the bytes are a reading of the file at this path.
+        // With `Ok` the reader may return these bytes for the file at this path, by `answers`.
         ensures given { IfOk result (λ bytes. answers self.now (FileOf path.now bytes.items)) }
-        // An error is a reading of this path.
+        // With an error the reader may return this fault for this path, by `answers`.
         ensures refused { IfErr result (λ fault. answers self.now (Refused path.now fault)) }
         // The error is `CannotRead` or `Memory`.
         ensures fault { IfErr result IsReadFault };
@@ -26,17 +26,17 @@ pub trait Reader {
     /// The files of the modules below the folder at this path that no pattern excludes, sorted by path. Fails with `CannotRead` or
     /// `Memory`.
     fn modules(&self, path: &str, excluded: &[String]) -> Result<Vec<Source>, RunFault>
-        // With `Ok` the files are a reading of the folder at this path with these patterns.
+        // With `Ok` the reader may return these files for the folder at this path and these patterns, by `answers`.
         ensures given { IfOk result (λ sources. answers self.now (FolderOf path.now (texts excluded.now) sources.items)) }
         // The files are sorted by path, each path once.
         ensures order { IfOk result (λ sources. ArePathsInOrder sources.items) }
-        // An error is a reading of this path.
+        // With an error the reader may return this fault for this path, by `answers`.
         ensures refused { IfErr result (λ fault. answers self.now (Refused path.now fault)) }
         // The error is `CannotRead` or `Memory`.
         ensures fault { IfErr result IsReadFault };
 }
 
-/// The files and folders of the system. No clause states their content.
+/// The reader of the system's files and folders. No clause states the content of these files, since the system isn't modelled.
 #[derive(Drop)]
 pub struct SystemFiles<'a, R>(pub &'a R);
 

@@ -1,4 +1,4 @@
-//! The engine of a question about a network, by the kind of the question.
+//! Runs the engine of a question about a network: the kind of the question selects the engine.
 ghost use Rattle.std.specs.Prelude.{◌≡◌, option_copied};
 ghost use Rattle.byte_sink.specs.Sinks.{failures_by};
 ghost use Rattle.oscip_job.specs.Jobs.{HasNetWorkers};
@@ -9,7 +9,8 @@ ghost use Rattle.source_tree.specs.Sources.{ArePathsInOrder};
 
 use crate::{
     RunFault, check_net_bytes, check_tree, cut_net_bytes, cut_tree, draw_net_bytes, draw_tree,
-    list_net_bytes_reach, list_tree_reach, write_net_bytes_path, write_tree_path,
+    list_reachable_in_net, list_reachable_in_tree, write_net_shortest_path,
+    write_tree_shortest_path,
 };
 use byte_sink::Sink;
 use cut_solve::Gate;
@@ -23,7 +24,7 @@ use std::thread::Threads;
 /// them.
 /// A cut is searched for by the question's number of threads, which call `gate`.
 /// Returns false if a check says no or `why` finds no path. Fails as the engine does.
-pub fn answer<R: Threads + Wait + Sync, G: Gate + Sync, S: Sink>(
+pub fn answer_net_question<R: Threads + Wait + Sync, G: Gate + Sync, S: Sink>(
     rt: &R,
     alloc: Global,
     question: &NetQuestion,
@@ -35,7 +36,7 @@ pub fn answer<R: Threads + Wait + Sync, G: Gate + Sync, S: Sink>(
 ) -> Result<bool, RunFault>
     // A question with a number of workers has 1 to 64 of them.
     requires workers { HasNetWorkers question.now }
-    // The engine of the question runs on these bytes, with the question's own names and options; `why` and `reach` ignore the prices.
+    // The engine of the question runs on these bytes, with the names and options in the question. `why` and `reach` ignore the prices.
     ensures run { IsJobRun (IsNetOfPricedText network.now) (IsRejectedPricedText network.now) question.now report.now (option_copied prices.entry) (S.taken sink.old) (S.taken sink.new) result }
     // The sink counts a failure if and only if the result is `Device`.
     ensures failures { S.failures sink.new ≡ failures_by is_device result (S.failures sink.old) }
@@ -54,11 +55,11 @@ pub fn answer<R: Threads + Wait + Sync, G: Gate + Sync, S: Sink>(
         }
         NetQuestion::Why(names) => {
             let (first, last) = (names.from.as_str(), names.to.as_str());
-            write_net_bytes_path(alloc, network, first, last, sink)
+            write_net_shortest_path(alloc, network, first, last, sink)
         }
         NetQuestion::Reach(reaching) => {
             let (module, direction) = (reaching.module.as_str(), reaching.direction);
-            list_net_bytes_reach(alloc, network, module, direction, sink)?;
+            list_reachable_in_net(alloc, network, module, direction, sink)?;
             Ok(true)
         }
     }
@@ -67,7 +68,7 @@ pub fn answer<R: Threads + Wait + Sync, G: Gate + Sync, S: Sink>(
 /// Runs the engine of a question about the network of a tree's files, on the bytes of its report and its prices if the question has them.
 /// A cut is searched for by the question's number of threads, which call `gate`.
 /// Returns false if a check says no or `why` finds no path. Fails as the engine does.
-pub fn answer_tree<R: Threads + Wait + Sync, G: Gate + Sync, S: Sink>(
+pub fn answer_tree_net_question<R: Threads + Wait + Sync, G: Gate + Sync, S: Sink>(
     rt: &R,
     alloc: Global,
     question: &NetQuestion,
@@ -81,8 +82,8 @@ pub fn answer_tree<R: Threads + Wait + Sync, G: Gate + Sync, S: Sink>(
     requires in_order { ArePathsInOrder sources.now }
     // A question with a number of workers has 1 to 64 of them.
     requires workers { HasNetWorkers question.now }
-    // The engine of the question runs on these files and bytes, with the question's own names and options; `why` and `reach` ignore the
-    // prices.
+    // The engine of the question runs on these files and bytes, with the names and options that the question has. `why` and `reach` ignore
+    // the prices.
     ensures run { IsJobRun (IsNetOfPricedTree sources.now) (IsRejectedPricedTree sources.now) question.now report.now (option_copied prices.entry) (S.taken sink.old) (S.taken sink.new) result }
     // The sink counts a failure if and only if the result is `Device`.
     ensures failures { S.failures sink.new ≡ failures_by is_device result (S.failures sink.old) }
@@ -101,11 +102,11 @@ pub fn answer_tree<R: Threads + Wait + Sync, G: Gate + Sync, S: Sink>(
         }
         NetQuestion::Why(names) => {
             let (first, last) = (names.from.as_str(), names.to.as_str());
-            write_tree_path(rt, alloc, sources, first, last, sink)
+            write_tree_shortest_path(rt, alloc, sources, first, last, sink)
         }
         NetQuestion::Reach(reaching) => {
             let (module, direction) = (reaching.module.as_str(), reaching.direction);
-            list_tree_reach(rt, alloc, sources, module, direction, sink)?;
+            list_reachable_in_tree(rt, alloc, sources, module, direction, sink)?;
             Ok(true)
         }
     }

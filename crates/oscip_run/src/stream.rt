@@ -1,4 +1,4 @@
-//! Standard output and standard error, to which the end of the program writes its texts.
+//! Standard output and standard error, with the number of writes that failed.
 ghost use Rattle.std.specs.Prelude.{◌≡◌, MatchResult};
 ghost use Rattle.byte_sink.specs.Sinks.{failures_after};
 ghost use Rattle.oscip_run.specs.Streams.{WritesAll, WritesPrefix};
@@ -23,8 +23,8 @@ impl<S: Sink> Stream<S> {
         Stream { sink, failures: 0 }
     }
 
-    /// Writes a text. Fails with the fault of the sink, `Device` or `Memory`, if the sink didn't take the whole text. It then has a prefix
-    /// of the text, and the failure is counted.
+    /// Writes a text. Fails with the fault of the sink, `Device` or `Memory`, if the sink didn't take the whole text. The sink then has a
+    /// prefix of the text, and the stream counts the failure.
     pub fn write(&mut self, text: &str) -> Result<(), SinkFault>
         // With `Ok` the sink took the whole text, and the count of failures is unchanged; otherwise it took a prefix, and the count is one
         // more.

@@ -8,7 +8,7 @@ use texts::LocationStyle;
 
 /// The style of locations in the files of a tree.
 pub fn style_of_tree(tree: &SourceTree) -> LocationStyle<'_>
-    // For editors it is the style of editors with the tree's folder, otherwise the plain style.
+    // If the tree is read for an editor, the result is the editor style with the tree's folder; otherwise it is the plain style.
     ensures { style_of result ≡ style_of_tree tree.now }
 {
     if tree.for_editor {
@@ -22,7 +22,7 @@ pub fn style_of_tree(tree: &SourceTree) -> LocationStyle<'_>
 
 /// The style of the locations that a job writes.
 pub fn style_of_job(job: &Job) -> LocationStyle<'_>
-    // A job on a tree has the style of the tree. One on an index has the style of editors without a folder if it is for editors; any other
+    // A job on a tree has the style of the tree. A job that queries an index for an editor has the editor style without a folder. Any other
     // job has the plain style.
     ensures { style_of result ≡ style_of_job job.now }
 {

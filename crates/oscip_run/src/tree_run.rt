@@ -1,4 +1,4 @@
-//! Runs on the modules of a tree, over any reader and any sink.
+//! Runs the commands whose input is the modules of a tree, with any reader and any sink.
 ghost use Rattle.std.specs.Io.KnownBytes.{Keeps};
 ghost use Rattle.std.specs.Prelude.{◌≡◌, IfErr, IfOk, map};
 ghost use Rattle.std.specs.String.{string_bytes};
@@ -19,10 +19,10 @@ ghost use Rattle.source_tree.specs.Trees.{IsNetOfTree};
 ghost use Rattle.texts.specs.Places.{style_of};
 
 use crate::engine::READERS;
-use crate::reading::{bytes_or_none, read_question_files};
+use crate::reading::{bytes_or_empty, read_question_files};
 use crate::{
-    Reader, RunFault, answer_tree, check_tree_rules, list_tree_crossings, list_tree_faults,
-    list_tree_modules, style_of_tree, write_tree_net,
+    Reader, RunFault, answer_tree_net_question, check_tree_rules, list_tree_crossings,
+    list_tree_faults, list_tree_modules, style_of_tree, write_tree_net,
 };
 use byte_sink::Sink;
 use cut_solve::OpenGate;
@@ -38,22 +38,22 @@ use texts::LocationStyle;
 pub struct TreeRun {
     /// The faults of the files that were left out, in the order of the files.
     pub faults: Vec<TreeFault>,
-    /// The result of the command on the other files, in which false is `no`.
+    /// The result of the command on the other files. False means that the command answered `no`.
     pub ended: Result<bool, RunFault>,
 }
 
-/// Reads the files of a tree's modules, and leaves out those with faults of their own if the tree skips faults. Also returns the faults of
-/// the files that it left out.
+/// Reads the files of a tree's modules. With `tree.skips_faults`, leaves out the files with faults of their own, and also returns these
+/// faults.
 /// Checks the files in at most `workers` chunks. Fails with the fault of the reader for the folder, or with `Memory`.
-pub fn tree_files<R: Threads + Sync, F: Reader>(
+pub fn read_tree_files<R: Threads + Sync, F: Reader>(
     rt: &R,
     alloc: Global,
     reader: &F,
     tree: &SourceTree,
     workers: u32,
 ) -> Result<PartitionedFiles, RunFault>
-    // The files are those that the reader returned for the folder and its patterns, without the files that were left out; the faults are
-    // those of the latter.
+    // The files are those that the reader returned for the folder and its patterns, without the files that were left out. The faults are
+    // those of the files that were left out.
     ensures files { IfOk result (λ parted. AreTreeFiles (F.answers reader.now) tree.now parted.accepted.items parted.faults.items) }
     // The files are sorted by path, each path once.
     ensures order { IfOk result (λ parted. ArePathsInOrder parted.accepted.items) }
@@ -70,7 +70,7 @@ pub fn tree_files<R: Threads + Sync, F: Reader>(
     })
 }
 
-/// Answers a question about the network of these modules. Reads the report first, then the prices.
+/// Answers a question about the network of these modules. First reads the files that the question names: the report, then the prices.
 fn run_net_question<R: Threads + Wait + Sync, F: Reader, S: Sink>(
     rt: &R,
     alloc: Global,
@@ -79,20 +79,25 @@ fn run_net_question<R: Threads + Wait + Sync, F: Reader, S: Sink>(
     question: &NetQuestion,
     sink: &mut S,
 ) -> Result<bool, RunFault>
+    // The files are sorted by path, each path once.
     requires in_order { ArePathsInOrder sources.now }
+    // If the question has a number of workers, it is from 1 to 64.
     requires workers { HasNetWorkers question.now }
+    // `answer_tree_net_question` runs on these files and on the files that the question names, as the reader returned them. If one can't be
+    // read, the sink is unchanged.
     ensures run { IsTreeNetRun (F.answers reader.now) sources.now question.now (S.taken sink.old) (S.taken sink.new) result }
+    // The sink counts a failure if and only if the result is `Device`.
     ensures failures { S.failures sink.new ≡ failures_by is_device result (S.failures sink.old) }
 {
     let beside = read_question_files(reader, question)?;
-    let report = bytes_or_none(&beside.report);
+    let report = bytes_or_empty(&beside.report);
     let prices = beside.prices.as_deref();
-    answer_tree(
+    answer_tree_net_question(
         rt, alloc, question, sources, report, &OpenGate, prices, sink,
     )
 }
 
-/// Writes the locations where one of these modules uses another.
+/// Writes the locations where the module named `names.from` uses the one named `names.to`. Returns true.
 fn run_crossings<R: Threads + Sync, S: Sink>(
     rt: &R,
     alloc: Global,
@@ -101,9 +106,13 @@ fn run_crossings<R: Threads + Sync, S: Sink>(
     style: LocationStyle<'_>,
     sink: &mut S,
 ) -> Result<bool, RunFault>
+    // The files are sorted by path, each path once.
     requires { ArePathsInOrder sources.now }
+    // This is a run of `list_tree_crossings`, apart from the Boolean.
     ensures run { IsCrossingsRun (style_of style.entry) sources.now (string_bytes names.now.from) (string_bytes names.now.to) (S.taken sink.old) (S.taken sink.new) (without_boolean result) }
+    // With `Ok` the result is true.
     ensures answer { IsNeverFalse result }
+    // The sink counts a failure if and only if the result is `Device`.
     ensures failures { S.failures sink.new ≡ failures_by is_device result (S.failures sink.old) }
 {
     let (from, to) = (names.from.as_str(), names.to.as_str());
@@ -111,23 +120,27 @@ fn run_crossings<R: Threads + Sync, S: Sink>(
     Ok(true)
 }
 
-/// Writes the network of these modules.
+/// Writes the network of these modules as text. Returns true.
 fn run_network_text<R: Threads + Sync, S: Sink>(
     rt: &R,
     alloc: Global,
     sources: &[Source],
     sink: &mut S,
 ) -> Result<bool, RunFault>
+    // The files are sorted by path, each path once.
     requires { ArePathsInOrder sources.now }
+    // This is a run of `write_tree_net`, apart from the Boolean.
     ensures run { IsNetTextRun (IsNetOfTree sources.now) (IsRejectedTree sources.now) (S.taken sink.old) (S.taken sink.new) (without_boolean result) }
+    // With `Ok` the result is true.
     ensures answer { IsNeverFalse result }
+    // The sink counts a failure if and only if the result is `Device`.
     ensures failures { S.failures sink.new ≡ failures_by is_device result (S.failures sink.old) }
 {
     write_tree_net(rt, alloc, sources, sink)?;
     Ok(true)
 }
 
-/// Lists these modules.
+/// Writes a line for each module of the tree. Returns true.
 fn run_modules<R: Threads + Sync, S: Sink>(
     rt: &R,
     alloc: Global,
@@ -135,16 +148,20 @@ fn run_modules<R: Threads + Sync, S: Sink>(
     style: LocationStyle<'_>,
     sink: &mut S,
 ) -> Result<bool, RunFault>
+    // The files are sorted by path, each path once.
     requires { ArePathsInOrder sources.now }
+    // This is a run of `list_tree_modules`, apart from the Boolean.
     ensures run { IsModulesRun (style_of style.entry) sources.now (S.taken sink.old) (S.taken sink.new) (without_boolean result) }
+    // With `Ok` the result is true.
     ensures answer { IsNeverFalse result }
+    // The sink counts a failure if and only if the result is `Device`.
     ensures failures { S.failures sink.new ≡ failures_by is_device result (S.failures sink.old) }
 {
     list_tree_modules(rt, alloc, sources, style, sink)?;
     Ok(true)
 }
 
-/// Checks these modules against the rules in the file of this path.
+/// Checks these modules against the rules in the file at this path. Returns whether the verdict is `yes`.
 fn run_rules<R: Threads + Sync, F: Reader, S: Sink>(
     rt: &R,
     alloc: Global,
@@ -154,16 +171,19 @@ fn run_rules<R: Threads + Sync, F: Reader, S: Sink>(
     style: LocationStyle<'_>,
     sink: &mut S,
 ) -> Result<bool, RunFault>
+    // The files are sorted by path, each path once.
     requires { ArePathsInOrder sources.now }
+    // `check_tree_rules` runs on the rules that the reader returned for this path. If they can't be read, the sink is unchanged.
     ensures run { IsRulesFileRun (F.answers reader.now) (style_of style.entry) sources.now path.now (S.taken sink.old) (S.taken sink.new) result }
+    // The sink counts a failure if and only if the result is `Device`.
     ensures failures { S.failures sink.new ≡ failures_by is_device result (S.failures sink.old) }
 {
     let rules = reader.file(path)?;
     check_tree_rules(rt, alloc, sources, rules.as_slice(), style, sink)
 }
 
-/// Answers a question about these modules, with locations in this style. Reads the other files that the question names first.
-/// Returns false for `no`. Fails with the fault of the reader, and otherwise as the engine of the question does.
+/// Answers a question about these modules, with locations in this style. First reads the other files that the question names.
+/// Returns false if the answer is `no`. Fails with the fault of the reader, and otherwise as the engine of the question does.
 fn run_tree_question<R: Threads + Wait + Sync, F: Reader, S: Sink>(
     rt: &R,
     alloc: Global,
@@ -175,8 +195,9 @@ fn run_tree_question<R: Threads + Wait + Sync, F: Reader, S: Sink>(
 ) -> Result<bool, RunFault>
     // The files are sorted by path, each path once.
     requires in_order { ArePathsInOrder sources.now }
+    // If the question has a number of workers, it is from 1 to 64.
     requires workers { HasTreeWorkers question.now }
-    // The engine of the question runs on these files, and on what the reader returned for the paths in the question.
+    // This is a run of the engine of the question on these files, and on what the reader returned for the paths that the question names.
     ensures run { IsTreeQuestionRun (F.answers reader.now) (style_of style.entry) sources.now question.now (S.taken sink.old) (S.taken sink.new) result }
     // The sink counts a failure if and only if the result is `Device`.
     ensures failures { S.failures sink.new ≡ failures_by is_device result (S.failures sink.old) }
@@ -198,7 +219,7 @@ fn run_tree_question<R: Threads + Wait + Sync, F: Reader, S: Sink>(
 /// Answers a question about the modules of a tree.
 /// Fails with the fault of the reader for the tree's folder, or with `Memory`, before anything is written. Any other fault is in the
 /// returned `ended`.
-pub fn run_tree<R: Threads + Wait + Sync, F: Reader, S: Sink>(
+pub fn run_tree_job<R: Threads + Wait + Sync, F: Reader, S: Sink>(
     rt: &R,
     alloc: Global,
     reader: &F,
@@ -206,16 +227,17 @@ pub fn run_tree<R: Threads + Wait + Sync, F: Reader, S: Sink>(
     question: &TreeQuestion,
     sink: &mut S,
 ) -> Result<TreeRun, RunFault>
-    // A question with a number of workers has 1 to 64 of them.
+    // If the question has a number of workers, it is from 1 to 64.
     requires workers { HasTreeWorkers question.now }
-    // The engine of the question runs on the files that `tree_files` returns. With an error there is no run, and the sink is unchanged.
+    // The engine of the question runs on the files that `read_tree_files` returns. With an error there is no run, and the sink is
+    // unchanged.
     ensures run { IsTreeQuestionRunOn (F.answers reader.now) tree.now question.now (S.taken sink.old) (S.taken sink.new) result }
-    // The sink counts a failure if and only if that run ended with `Device`.
+    // If the engine ran, the sink counts a failure if and only if the engine ended with `Device`.
     ensures failures { IfOk result (λ run. S.failures sink.new ≡ failures_by is_device run.ended (S.failures sink.old)) }
-    // Without a run the sink counts no failure.
+    // If the function fails, so that no engine ran, the sink counts no failure.
     ensures failed { IfErr result (λ _. S.failures sink.new ≡ S.failures sink.old) }
 {
-    let PartitionedFiles { accepted, faults } = tree_files(rt, alloc, reader, tree, READERS)?;
+    let PartitionedFiles { accepted, faults } = read_tree_files(rt, alloc, reader, tree, READERS)?;
     let sources = accepted.as_slice();
     let style = style_of_tree(tree);
     let ended = run_tree_question(rt, alloc, reader, sources, question, style, sink);

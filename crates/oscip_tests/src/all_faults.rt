@@ -6,7 +6,7 @@ ghost use Rattle.std.specs.String.{string_bytes};
 
 use crate::faults::describe_fault;
 use crate::inputs::{FOUR, ONE_HEX, ONE_INDEX, sources};
-use index_run::{OpenBoardGate, answer_index};
+use index_run::{OpenBoardGate, write_requested_index};
 use oscip_job::{IndexRequest, Job, job_of};
 use oscip_run::{RunFault, list_tree_faults};
 use source_tree::{
@@ -17,7 +17,7 @@ use std::process::Abort;
 use std::sync::Wait;
 use std::test::Fail;
 use std::thread::Threads;
-use test_doubles::ByOne;
+use test_doubles::FailingSink;
 use texts::LocationStyle;
 
 /// Files of which one has no fault: the first has a byte order mark, one an underscore, and one has text after its end.
@@ -74,7 +74,7 @@ fn check_faults<R: Abort + Threads + AllocGlobal + Sync>(
     want: &str,
 ) -> Result<(), AllocError> {
     assert!(rt; in_order(sources));
-    let mut sink = ByOne::new(rt.alloc(), writes);
+    let mut sink = FailingSink::new(rt.alloc(), writes);
     let ended = list_tree_faults(rt, rt.alloc(), sources, LocationStyle::Plain, &mut sink);
     let description = describe_verdict(rt.alloc(), &ended)?;
     assert_eq!(rt; description.as_str(), want);
@@ -117,7 +117,7 @@ fn describe_faults(
 }
 
 /// The job that indexes a folder to this output.
-fn indexing(alloc: Global, word: &str) -> Result<IndexRequest, AllocError>
+fn index_request(alloc: Global, word: &str) -> Result<IndexRequest, AllocError>
     ensures package { IfOk result (λ it. IsPackage (string_bytes it.package)) }
     ensures workers { IfOk result (λ it. IsWorkerCount it.workers) }
 {
@@ -126,7 +126,7 @@ fn indexing(alloc: Global, word: &str) -> Result<IndexRequest, AllocError>
         line.push(String::from_str(alloc, word)?)?;
     }
     match job_of(alloc, line.as_slice()) {
-        Ok(Job::Index(indexing)) => Ok(indexing),
+        Ok(Job::Index(index_request)) => Ok(index_request),
         _ => Err(AllocError),
     }
 }
@@ -134,21 +134,28 @@ fn indexing(alloc: Global, word: &str) -> Result<IndexRequest, AllocError>
 /// Checks the output of the index of the accepted files to a sink that takes this many bytes, and the faults of the others.
 fn check_index<R: Abort + Threads + Wait + AllocGlobal + Sync>(
     rt: &R,
-    indexing: &IndexRequest,
+    index_request: &IndexRequest,
     sources: Vec<Source>,
     writes: u64,
     text: &[u8],
     want: &[u8],
 ) -> Result<(), AllocError>
-    requires package { IsPackage (string_bytes indexing.now.package) }
-    requires workers { IsWorkerCount indexing.now.workers }
+    requires package { IsPackage (string_bytes index_request.now.package) }
+    requires workers { IsWorkerCount index_request.now.workers }
 {
     assert!(rt; in_order(sources.as_slice()));
     let alloc = rt.alloc();
-    let mut sink = ByOne::new(alloc, writes);
+    let mut sink = FailingSink::new(alloc, writes);
     let PartitionedFiles { accepted, faults } = partition_files(rt, alloc, sources, 2)?;
     let accepted = accepted.as_slice();
-    let ended = answer_index(rt, alloc, indexing, accepted, &OpenBoardGate, &mut sink);
+    let ended = write_requested_index(
+        rt,
+        alloc,
+        index_request,
+        accepted,
+        &OpenBoardGate,
+        &mut sink,
+    );
     assert_eq!(rt;
         describe_faults(alloc, faults.as_slice(), &ended)?.as_bytes(),
         want
@@ -164,14 +171,14 @@ const SOME_AND_DEVICE: &[u8] =
 #[test]
 fn files_with_faults_are_left_out(rt: HostRuntime) -> Result<(), Fail> {
     for (word, text) in INDEXES {
-        let indexing = indexing(rt.alloc(), word)?;
+        let index_request = index_request(rt.alloc(), word)?;
         let files = sources(rt.alloc(), SOME)?;
-        check_index(&rt, &indexing, files, u64::MAX, text, SOME_FAULTS)?;
+        check_index(&rt, &index_request, files, u64::MAX, text, SOME_FAULTS)?;
         for writes in 0..text.len() {
             let files = sources(rt.alloc(), SOME)?;
             check_index(
                 &rt,
-                &indexing,
+                &index_request,
                 files,
                 writes as u64,
                 &text[..writes],
@@ -192,10 +199,10 @@ const CYCLE: &[(&str, &str)] = &[
 #[test]
 fn faults_of_a_rejected_tree_are_reported(rt: HostRuntime) -> Result<(), Fail> {
     for (word, _) in INDEXES {
-        let indexing = indexing(rt.alloc(), word)?;
+        let index_request = index_request(rt.alloc(), word)?;
         let files = sources(rt.alloc(), CYCLE)?;
         let want = b"C.Mod:0:14: EndName\n1 oscip: Cycle A B\n";
-        check_index(&rt, &indexing, files, u64::MAX, b"", want)?;
+        check_index(&rt, &index_request, files, u64::MAX, b"", want)?;
     }
     Ok(())
 }

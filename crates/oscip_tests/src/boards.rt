@@ -13,11 +13,11 @@ use std::test::Fail;
 use std::thread;
 use std::thread::Threads;
 use std::time::{Clock, Duration};
-use test_doubles::{AllCome, ByOne};
+use test_doubles::{FailingSink, MeetingGate};
 
 /// A gate of the scheduler at which all workers meet.
 #[derive(Drop)]
-struct Meeting<'a, R>(AllCome<'a, R>);
+struct Meeting<'a, R>(MeetingGate<'a, R>);
 
 impl<R: Clock> BoardGate for Meeting<'_, R> {
     fn at(&self, worker: u32, turn: u64) {
@@ -31,23 +31,23 @@ impl<R: Clock> BoardGate for Meeting<'_, R> {
 struct Waking<'a, R> {
     clock: &'a R,
     /// The number of claimed modules.
-    came: AtomicU64,
-    later: AllCome<'a, R>,
+    arrived_workers: AtomicU64,
+    later: MeetingGate<'a, R>,
 }
 
 impl<'a, R: Clock> Waking<'a, R> {
     fn new(clock: &'a R) -> Waking<'a, R> {
         Waking {
             clock,
-            came: AtomicU64::new(0),
-            later: AllCome::new(clock, 2),
+            arrived_workers: AtomicU64::new(0),
+            later: MeetingGate::new(clock, 2),
         }
     }
 }
 
 impl<R: Clock> BoardGate for Waking<'_, R> {
     fn at(&self, worker: u32, _turn: u64) {
-        if self.came.fetch_add(1, Ordering::SeqCst) == 0 {
+        if self.arrived_workers.fetch_add(1, Ordering::SeqCst) == 0 {
             thread::sleep(self.clock, Duration::from_millis(50));
         } else {
             self.later.at(worker, 0);
@@ -66,7 +66,7 @@ fn is_written<R: Abort + AllocGlobal + Threads + Wait + Sync, G: BoardGate + Syn
         package: String::new(rt.alloc()),
         root: String::new(rt.alloc()),
     };
-    let mut sink = ByOne::new(rt.alloc(), 10000);
+    let mut sink = FailingSink::new(rt.alloc(), 10000);
     match index_to(rt, rt.alloc(), sources, &options, 2, gate, &mut sink) {
         Ok(()) => Ok(true),
         Err(RunFault::Memory) => Err(AllocError),
@@ -77,9 +77,9 @@ fn is_written<R: Abort + AllocGlobal + Threads + Wait + Sync, G: BoardGate + Syn
 #[test]
 fn two_workers_hold_a_module_at_once(rt: HostRuntime) -> Result<(), Fail> {
     let sources = sources(rt.alloc(), TWO)?;
-    let gate = Meeting(AllCome::new(&rt, 2));
+    let gate = Meeting(MeetingGate::new(&rt, 2));
     assert!(rt; is_written(&rt, sources.as_slice(), &gate)?);
-    assert_eq!(rt; gate.0.let_go.load(Ordering::SeqCst), 2);
+    assert_eq!(rt; gate.0.released_workers.load(Ordering::SeqCst), 2);
     Ok(())
 }
 
@@ -88,6 +88,6 @@ fn a_worker_that_finds_no_module_ready_waits_for_one(rt: HostRuntime) -> Result<
     let sources = sources(rt.alloc(), THREE)?;
     let gate = Waking::new(&rt);
     assert!(rt; is_written(&rt, sources.as_slice(), &gate)?);
-    assert_eq!(rt; gate.later.let_go.load(Ordering::SeqCst), 2);
+    assert_eq!(rt; gate.later.released_workers.load(Ordering::SeqCst), 2);
     Ok(())
 }

@@ -9,11 +9,11 @@ use crate::inputs::{
     FOUR_PINS, FOUR_RULES, FOUR_WHY, NONE_INDEX, ONE, ONE_HEX, ONE_INDEX, SIX, SIX_BLOCKED,
     SIX_CUT, SIX_DOT, SIX_PINS, SIX_WHY, WRONG, WRONG_LINE, sources,
 };
-use index_run::{OpenBoardGate, answer_index, unresolved_to};
+use index_run::{OpenBoardGate, unresolved_to, write_requested_index};
 use oscip_job::{Job, JobFault, TreeQuestion, job_of};
 use oscip_run::{
-    RunFault, answer, answer_question, answer_tree, check_tree_rules, list_tree_crossings,
-    list_tree_faults, list_tree_modules, write_tree_net,
+    RunFault, answer_net_question, answer_question, answer_tree_net_question, check_tree_rules,
+    list_tree_crossings, list_tree_faults, list_tree_modules, write_tree_net,
 };
 use source_tree::{Source, in_order};
 use std::alloc::{AllocError, Global};
@@ -23,7 +23,7 @@ use std::sync::atomic::Ordering;
 use std::test::Fail;
 use std::thread::Threads;
 use std::time::Clock;
-use test_doubles::{AllCome, ByOne};
+use test_doubles::{FailingSink, MeetingGate};
 use texts::LocationStyle;
 
 /// The arguments after the program's name, the files, the prices, and the output.
@@ -167,7 +167,7 @@ fn line_of(alloc: Global, words: &[&str]) -> Result<Vec<String>, AllocError> {
     Ok(line)
 }
 
-fn boxed(alloc: Global, job: Job) -> Result<Box<Job>, JobFault>
+fn box_job(alloc: Global, job: Job) -> Result<Box<Job>, JobFault>
     requires workers { HasWorkers job }
     requires package { HasPackage job }
     ensures workers { IfOk result (λ job. HasWorkers job.value) }
@@ -180,11 +180,11 @@ fn boxed(alloc: Global, job: Job) -> Result<Box<Job>, JobFault>
 }
 
 /// The job of the arguments.
-fn job_in(alloc: Global, words: &[String]) -> Result<Box<Job>, JobFault>
+fn parse_job(alloc: Global, words: &[String]) -> Result<Box<Job>, JobFault>
     ensures workers { IfOk result (λ job. HasWorkers job.value) }
     ensures package { IfOk result (λ job. HasPackage job.value) }
 {
-    boxed(alloc, job_of(alloc, words)?)
+    box_job(alloc, job_of(alloc, words)?)
 }
 
 /// `yes` or `no`, or the fault.
@@ -210,8 +210,8 @@ fn describe_tree_run<R: Threads + Wait + AllocGlobal + Clock + Sync>(
     question: &TreeQuestion,
     sources: &[Source],
     prices: Option<&[u8]>,
-    gate: &AllCome<'_, R>,
-    sink: &mut ByOne,
+    gate: &MeetingGate<'_, R>,
+    sink: &mut FailingSink,
 ) -> Result<String, AllocError>
     requires workers { HasTreeWorkers question.now }
     requires in_order { ArePathsInOrder sources.now }
@@ -220,7 +220,7 @@ fn describe_tree_run<R: Threads + Wait + AllocGlobal + Clock + Sync>(
     match question {
         TreeQuestion::OfNet(question) => describe_verdict(
             alloc,
-            &answer_tree(rt, alloc, question, sources, FOUR_CUT, gate, prices, sink),
+            &answer_tree_net_question(rt, alloc, question, sources, FOUR_CUT, gate, prices, sink),
         ),
         TreeQuestion::Crossings(names) => {
             let (from, to) = (names.from.as_str(), names.to.as_str());
@@ -251,8 +251,8 @@ fn description<R: Threads + Wait + AllocGlobal + Clock + Sync>(
     job: &Job,
     sources: &[Source],
     prices: Option<&[u8]>,
-    gate: &AllCome<'_, R>,
-    sink: &mut ByOne,
+    gate: &MeetingGate<'_, R>,
+    sink: &mut FailingSink,
 ) -> Result<String, AllocError>
     requires workers { HasWorkers job.now }
     requires package { HasPackage job.now }
@@ -262,12 +262,12 @@ fn description<R: Threads + Wait + AllocGlobal + Clock + Sync>(
     match job {
         Job::Network { question, .. } => describe_verdict(
             alloc,
-            &answer(rt, alloc, question, SIX, SIX_CUT, gate, prices, sink),
+            &answer_net_question(rt, alloc, question, SIX, SIX_CUT, gate, prices, sink),
         ),
         Job::Tree { question, .. } => describe_tree_run(rt, question, sources, prices, gate, sink),
-        Job::Index(indexing) => describe_end(
+        Job::Index(index_request) => describe_end(
             alloc,
-            &answer_index(rt, alloc, indexing, sources, &OpenBoardGate, sink),
+            &write_requested_index(rt, alloc, index_request, sources, &OpenBoardGate, sink),
         ),
         Job::Unresolved { .. } => describe_end(
             alloc,
@@ -284,13 +284,13 @@ fn description<R: Threads + Wait + AllocGlobal + Clock + Sync>(
 }
 
 /// Checks the result of a job.
-fn ends<R: Abort + Threads + Wait + AllocGlobal + Clock + Sync>(
+fn check_end<R: Abort + Threads + Wait + AllocGlobal + Clock + Sync>(
     rt: &R,
     job: &Job,
     sources: &[Source],
     prices: Option<&[u8]>,
-    gate: &AllCome<'_, R>,
-    sink: &mut ByOne,
+    gate: &MeetingGate<'_, R>,
+    sink: &mut FailingSink,
     want: &str,
 ) -> Result<(), AllocError>
     requires workers { HasWorkers job.now }
@@ -303,7 +303,7 @@ fn ends<R: Abort + Threads + Wait + AllocGlobal + Clock + Sync>(
 }
 
 /// Checks that a sink that fails at each write in turn has a prefix of the output.
-fn has_fronts<R: Abort + Threads + Wait + AllocGlobal + Clock + Sync>(
+fn check_prefixes<R: Abort + Threads + Wait + AllocGlobal + Clock + Sync>(
     rt: &R,
     job: &Job,
     sources: &[Source],
@@ -314,9 +314,9 @@ fn has_fronts<R: Abort + Threads + Wait + AllocGlobal + Clock + Sync>(
     requires package { HasPackage job.now }
 {
     for writes in 0..text.len() {
-        let mut sink = ByOne::new(rt.alloc(), writes as u64);
-        let gate = AllCome::new(rt, 0);
-        ends(
+        let mut sink = FailingSink::new(rt.alloc(), writes as u64);
+        let gate = MeetingGate::new(rt, 0);
+        check_end(
             rt,
             job,
             sources,
@@ -344,8 +344,8 @@ fn check_bytewise<R: Abort + Threads + Wait + AllocGlobal + Clock + Sync>(
     requires package { HasPackage job.now }
 {
     assert!(rt; in_order(sources));
-    let mut sink = ByOne::new(rt.alloc(), u64::MAX);
-    let gate = AllCome::new(rt, 0);
+    let mut sink = FailingSink::new(rt.alloc(), u64::MAX);
+    let gate = MeetingGate::new(rt, 0);
     let description = description(rt, job, sources, prices, &gate, &mut sink)?;
     let put = if description.as_str() == "put" {
         "put"
@@ -360,7 +360,7 @@ fn check_bytewise<R: Abort + Threads + Wait + AllocGlobal + Clock + Sync>(
 }
 
 /// Checks that all workers of a cut come to its gate, and the output.
-fn has_workers<R: Abort + Threads + Wait + AllocGlobal + Clock + Sync>(
+fn check_workers<R: Abort + Threads + Wait + AllocGlobal + Clock + Sync>(
     rt: &R,
     job: &Job,
     sources: &[Source],
@@ -370,10 +370,10 @@ fn has_workers<R: Abort + Threads + Wait + AllocGlobal + Clock + Sync>(
     requires workers { HasWorkers job.now }
     requires package { HasPackage job.now }
 {
-    let mut sink = ByOne::new(rt.alloc(), 1000);
-    let gate = AllCome::new(rt, workers);
-    ends(rt, job, sources, None, &gate, &mut sink, "yes")?;
-    assert_eq!(rt; gate.came.load(Ordering::SeqCst), workers);
+    let mut sink = FailingSink::new(rt.alloc(), 1000);
+    let gate = MeetingGate::new(rt, workers);
+    check_end(rt, job, sources, None, &gate, &mut sink, "yes")?;
+    assert_eq!(rt; gate.arrived_workers.load(Ordering::SeqCst), workers);
     assert_eq!(rt; sink.taken.as_slice(), text);
     Ok(())
 }
@@ -383,8 +383,8 @@ fn a_sink_that_fails_has_the_prefix(rt: HostRuntime) -> Result<(), Fail> {
     for (words, files, prices, text) in PUTS {
         let line = line_of(rt.alloc(), words)?;
         let sources = sources(rt.alloc(), files)?;
-        let job = job_in(rt.alloc(), line.as_slice())?;
-        has_fronts(&rt, &job, sources.as_slice(), *prices, text)?;
+        let job = parse_job(rt.alloc(), line.as_slice())?;
+        check_prefixes(&rt, &job, sources.as_slice(), *prices, text)?;
     }
     Ok(())
 }
@@ -394,19 +394,19 @@ fn a_sink_of_one_byte_a_write_has_all(rt: HostRuntime) -> Result<(), Fail> {
     for (words, files, prices, text) in PUTS {
         let line = line_of(rt.alloc(), words)?;
         let sources = sources(rt.alloc(), files)?;
-        let job = job_in(rt.alloc(), line.as_slice())?;
+        let job = parse_job(rt.alloc(), line.as_slice())?;
         check_bytewise(&rt, &job, sources.as_slice(), *prices, text)?;
     }
     Ok(())
 }
 
 #[test]
-fn all_workers_of_a_cut_come(rt: HostRuntime) -> Result<(), Fail> {
+fn all_workers_of_a_cut_reach_the_gate(rt: HostRuntime) -> Result<(), Fail> {
     let sources = sources(rt.alloc(), FOUR)?;
     for (words, workers, text) in WORKERS {
         let line = line_of(rt.alloc(), words)?;
-        let job = job_in(rt.alloc(), line.as_slice())?;
-        has_workers(&rt, &job, sources.as_slice(), *workers, text)?;
+        let job = parse_job(rt.alloc(), line.as_slice())?;
+        check_workers(&rt, &job, sources.as_slice(), *workers, text)?;
     }
     Ok(())
 }

@@ -28,7 +28,7 @@ const FAULTS: &[(Failing, &str)] = &[
 ];
 
 /// The fault of a part, with this path if it has one.
-fn failing_fault(place: &Failing, path: String) -> RunFault {
+fn fault_of_part(place: &Failing, path: String) -> RunFault {
     match place {
         Failing::Sink => RunFault::Device,
         Failing::Run => RunFault::Memory,
@@ -51,10 +51,10 @@ pub fn describe_fault(alloc: Global, fault: &RunFault) -> Result<String, AllocEr
 }
 
 #[test]
-fn want_of_memory_and_a_sink_that_fails_have_their_lines(rt: HostRuntime) -> Result<(), Fail> {
+fn failed_allocations_and_sinks_have_their_lines(rt: HostRuntime) -> Result<(), Fail> {
     for (place, want) in FAULTS {
         let path = String::from_str(rt.alloc(), "a/M.Mod")?;
-        let description = describe_fault(rt.alloc(), &failing_fault(place, path))?;
+        let description = describe_fault(rt.alloc(), &fault_of_part(place, path))?;
         assert_eq!(rt; description.as_str(), *want);
     }
     Ok(())

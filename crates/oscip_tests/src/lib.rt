@@ -1,8 +1,6 @@
 //! Tests of the program's libraries, of what no command shows: sinks that fail at each write, gates at which workers meet, a scheduler with
-//! the test's own threads, trees that are read completely, and faults that no input causes.
-//! The output of commands is in `rows/`.
-//! Depends on `oscip_job`, `source_tree`, `ob_board`, `oscip_run` and `index_run`, which it tests, and on `test_doubles`. It has nothing but
-//! tests.
+//! the test's own threads, trees that are read completely, and faults that no input causes. The output of commands is in `rows/`. Depends
+//! on `oscip_job`, `source_tree`, `ob_board`, `oscip_run` and `index_run`, which it tests, and on `test_doubles`. It has nothing but tests.
 #![tactic(auto)]
 
 #[cfg(test)]

@@ -37,7 +37,7 @@ const SIZES: &[(usize, usize)] = &[
 const TREES: &[&[(&str, &str)]] = &[ONE, TWO, THREE, FOUR, WRONG];
 
 /// Whether no symbol string can contain this package.
-pub(crate) fn is_wrong(part: &str) -> bool
+pub(crate) fn is_invalid_package(part: &str) -> bool
     ensures { result ≡ is_wrong_part part.now }
 {
     part == "." || part.starts_with(' ')
@@ -122,7 +122,7 @@ fn write_parts<R: AllocGlobal + Threads + Wait + Sync>(
 }
 
 /// Whether both write equal bytes.
-fn agree<R: AllocGlobal + Threads + Wait + Sync>(
+fn have_equal_bytes<R: AllocGlobal + Threads + Wait + Sync>(
     rt: &R,
     sources: &[Source],
     options: &IndexOptions,
@@ -143,8 +143,8 @@ fn check_agreement<R: Abort + AllocGlobal + Threads + Wait + Sync>(
 ) -> Result<(), Fail> {
     let options = options_of(rt.alloc(), letters)?;
     assert!(rt; in_order(sources));
-    assert!(rt; !is_wrong(options.package.as_str()));
-    assert!(rt; agree(rt, sources, &options)?);
+    assert!(rt; !is_invalid_package(options.package.as_str()));
+    assert!(rt; have_equal_bytes(rt, sources, &options)?);
     Ok(())
 }
 

@@ -3,7 +3,7 @@
 //! that they qualify; or the fault of the tree.
 use crate::inputs::{FOUR, ONE, sources};
 use ob_imports::Graph;
-use ob_parse::{ReadModule, ReadTree, read_tree};
+use ob_parse::{ParsedModule, ParsedTree, read_tree};
 use source_tree::tree_fault_text;
 use std::alloc::{AllocError, Global};
 use std::process::Abort;
@@ -70,7 +70,7 @@ fn append_imports(description: &mut String, graph: &Graph) -> Result<(), AllocEr
 }
 
 /// Appends the tokens and the syntax tree of a module.
-fn append_syntax(description: &mut String, read: &ReadModule) -> Result<(), AllocError> {
+fn append_syntax(description: &mut String, read: &ParsedModule) -> Result<(), AllocError> {
     let tree = &*read.tree;
     let imports = match &tree.imports {
         Some(items) => items.rest.len() + 1,
@@ -90,7 +90,7 @@ fn append_syntax(description: &mut String, read: &ReadModule) -> Result<(), Allo
 }
 
 /// Appends the data of a module.
-fn append_module(description: &mut String, read: &ReadModule) -> Result<(), AllocError> {
+fn append_module(description: &mut String, read: &ParsedModule) -> Result<(), AllocError> {
     description.push_str(read.parts.scopes.name())?;
     append_syntax(description, read)?;
     for alias in read.parts.scopes.aliases() {
@@ -100,7 +100,7 @@ fn append_module(description: &mut String, read: &ReadModule) -> Result<(), Allo
     description.push_str("; ")
 }
 
-fn describe_tree(alloc: Global, tree: &ReadTree) -> Result<String, AllocError> {
+fn describe_tree(alloc: Global, tree: &ParsedTree) -> Result<String, AllocError> {
     let mut description = String::new(alloc);
     append_imports(&mut description, &tree.graph)?;
     for read in tree.modules.iter() {

@@ -8,7 +8,7 @@ ghost use Rattle.source_tree.specs.Trees.{ModuleFile};
 ghost use Rattle.scip_symbol.specs.Outcomes.{is_wrong_part};
 
 use crate::inputs::{FOUR, sources};
-use crate::models::{encode_message, is_wrong, message_bytes, options_of};
+use crate::models::{encode_message, is_invalid_package, message_bytes, options_of};
 use ob_board::{
     BoardFault, Claim, EntryBuilder, IndexEntry, IndexOptions, Job, NamedIndex, TreeBoard,
     board_graph,
@@ -58,7 +58,7 @@ fn take<F: NamedIndex>(board: &mut TreeBoard<'_, F>) -> Result<Option<Job<F>>, L
     match board.claim() {
         Claim::Finished => Ok(None),
         Claim::Later => Err(Later),
-        Claim::Module { number } => match Job::of_claimed(board, number) {
+        Claim::Module { number } => match Job::from_claimed(board, number) {
             Ok(job) => Ok(Some(job)),
             Err(_) => {
                 board.abandon(number);
@@ -85,7 +85,7 @@ fn next<F: NamedIndex, R: Wait>(
 }
 
 /// Offers the entry of C for B, and returns the entry if it is handed back.
-fn offer<F: NamedIndex>(
+fn offer_entry<F: NamedIndex>(
     board: &mut TreeBoard<'_, F>,
     offers: &Offers,
     entry: IndexEntry<F>,
@@ -102,7 +102,7 @@ fn offer<F: NamedIndex>(
 }
 
 /// Waits until the entry of C was offered, or an allocation failed.
-fn after_offer<'l, 'g, F: NamedIndex, R: Wait>(
+fn wait_for_offer<'l, 'g, F: NamedIndex, R: Wait>(
     rt: &R,
     changed: &Condvar,
     offers: &Offers,
@@ -119,7 +119,7 @@ fn after_offer<'l, 'g, F: NamedIndex, R: Wait>(
 }
 
 /// Delivers the entry of a module: that of B after that of C was offered for it.
-fn hand_in<F: NamedIndex, R: Wait>(
+fn deliver_entry<F: NamedIndex, R: Wait>(
     rt: &R,
     locked: &Locked<'_, F>,
     changed: &Condvar,
@@ -129,10 +129,10 @@ fn hand_in<F: NamedIndex, R: Wait>(
 ) {
     let mut board = locked.lock(rt);
     if number == B {
-        board = after_offer(rt, changed, offers, board);
+        board = wait_for_offer(rt, changed, offers, board);
     }
     let entry = if number == C {
-        offer(&mut *board, offers, made)
+        offer_entry(&mut *board, offers, made)
     } else {
         Some(made)
     };
@@ -155,7 +155,7 @@ fn worker<F: NamedIndex, R: Wait>(
             return;
         };
         match work.entry(&job) {
-            Ok(made) => hand_in(rt, locked, changed, offers, job.number(), made),
+            Ok(made) => deliver_entry(rt, locked, changed, offers, job.number(), made),
             Err(_) => locked.lock(rt).abandon(job.number()),
         }
         changed.notify_all();
@@ -164,7 +164,7 @@ fn worker<F: NamedIndex, R: Wait>(
 }
 
 /// Two workers, each a thread.
-fn in_threads<F: NamedIndex + Send + Sync, R: Threads + Wait + Sync>(
+fn run_two_workers<F: NamedIndex + Send + Sync, R: Threads + Wait + Sync>(
     rt: &R,
     locked: &Locked<'_, F>,
     offers: &Offers,
@@ -180,7 +180,7 @@ fn in_threads<F: NamedIndex + Send + Sync, R: Threads + Wait + Sync>(
 }
 
 /// The index that is gathered from the scheduler of a tree, with this package.
-fn gathered<F: NamedIndex + Send + Sync, R: Threads + Wait + Sync>(
+fn gather_index<F: NamedIndex + Send + Sync, R: Threads + Wait + Sync>(
     rt: &R,
     alloc: Global,
     sources: &[Source],
@@ -195,10 +195,10 @@ fn gathered<F: NamedIndex + Send + Sync, R: Threads + Wait + Sync>(
     requires right { is_wrong_part F.package_name ≡ false }
 {
     let package = options.package.as_str();
-    let work = EntryBuilder::<F, IndexEntry<F>>::of_tree(alloc, sources, tree, package)?;
+    let work = EntryBuilder::<F, IndexEntry<F>>::from_tree_parts(alloc, sources, tree, package)?;
     let graph = board_graph(alloc, &tree.graph)?;
     let locked: Locked<'_, F> = Mutex::new(TreeBoard::new(alloc, &graph)?);
-    in_threads(rt, &locked, offers, &work)?;
+    run_two_workers(rt, &locked, offers, &work)?;
     work.gather(locked.into_inner(), options.root.as_str())
 }
 
@@ -212,7 +212,7 @@ fn gathered_bytes<R: AllocGlobal + Threads + Wait + Sync>(
     requires { is_wrong_part (string_bytes options.now.package) ≡ false }
 {
     let tree = tree_parts(rt, rt.alloc(), sources, 2)?;
-    let index = gathered::<Brand, R>(rt, rt.alloc(), sources, &tree, options, offers)?;
+    let index = gather_index::<Brand, R>(rt, rt.alloc(), sources, &tree, options, offers)?;
     match index {
         Some(index) => encode_message(rt.alloc(), index),
         None => Err(Fail::new("a module isn't delivered: memory ran out")),
@@ -220,12 +220,12 @@ fn gathered_bytes<R: AllocGlobal + Threads + Wait + Sync>(
 }
 
 /// Checks that the gathered index is the tree's, and that the entry of C was rejected for B.
-fn gathers_the_index<R: Abort + AllocGlobal + Threads + Wait + Sync>(
+fn check_gathered_index<R: Abort + AllocGlobal + Threads + Wait + Sync>(
     rt: &R,
     sources: &[Source],
 ) -> Result<(), Fail> {
     let options = options_of(rt.alloc(), 3)?;
-    assert!(rt; !is_wrong(options.package.as_str()));
+    assert!(rt; !is_invalid_package(options.package.as_str()));
     let offers = Offers::new();
     let by_threads = gathered_bytes(rt, sources, &options, &offers)?;
     let whole = message_bytes(rt, sources, &options)?;
@@ -236,7 +236,7 @@ fn gathers_the_index<R: Abort + AllocGlobal + Threads + Wait + Sync>(
 }
 
 #[test]
-fn threads_of_a_test_work_at_the_board_of_a_tree(rt: HostRuntime) -> Result<(), Fail> {
+fn threads_of_a_caller_process_a_tree(rt: HostRuntime) -> Result<(), Fail> {
     let sources = sources(rt.alloc(), FOUR)?;
-    gathers_the_index(&rt, sources.as_slice())
+    check_gathered_index(&rt, sources.as_slice())
 }

@@ -10,7 +10,7 @@ use Rattle.proto_wire.specs.Readings.{payload_records}
 use Rattle.proto_wire.specs.Packed.{packed}
 use Rattle.proto_wire.specs.declared.record.WireValue.{WireValue}
 use Rattle.proto_wire.specs.declared.record.WireValue.TheVariants.{Varint, Eight, Bytes, Four}
-use Rattle.proto_wire.specs.Messages.{if_field, each_of, field_fault, latest, numbers_fault, value_numbers_fault, value_numbers, numbers_in}
+use Rattle.proto_wire.specs.Messages.{if_field, field_values, field_fault, latest, numbers_fault, value_numbers_fault, value_numbers, numbers_in}
 use Rattle.proto_wire.proofs.MessageSteps.{latest-append}
 use Rattle.proto_wire.proofs.PieceLaws.{ended}
 use Rattle.proto_wire.proofs.PieceReadings.{records_found, stop_found, pieces_read, PiecesRead, PiecesRead-cons}
@@ -48,21 +48,21 @@ pub first_then : (at : ℕ) (bytes : List ℕ) (p : PayloadRecord) (after : List
 first_then at bytes p after h = ap (λ (x : List PayloadRecord × Option WireFault). x.0) (first_whole at bytes p after h)
 
 -- the values of a field in the first record, then those in the other records
-pub each_then : {X : Type 0} (k : ℕ) (gives : PayloadRecord → List X) (pieces : List PayloadRecord) (p : PayloadRecord) (others : List PayloadRecord) → pieces ≡ p ∷ others → each_of k gives pieces ≡ if_field k p.wire (gives p) ++ each_of k gives others
-unfolding each_of
+pub each_then : {X : Type 0} (k : ℕ) (gives : PayloadRecord → List X) (pieces : List PayloadRecord) (p : PayloadRecord) (others : List PayloadRecord) → pieces ≡ p ∷ others → field_values k gives pieces ≡ if_field k p.wire (gives p) ++ field_values k gives others
+unfolding field_values
 each_then k gives pieces p others e = rw e refl
 
-pub each_none : {X : Type 0} (k : ℕ) (gives : PayloadRecord → List X) (pieces : List PayloadRecord) → pieces ≡ [] → each_of k gives pieces ≡ []
-unfolding each_of
+pub each_none : {X : Type 0} (k : ℕ) (gives : PayloadRecord → List X) (pieces : List PayloadRecord) → pieces ≡ [] → field_values k gives pieces ≡ []
+unfolding field_values
 each_none k gives pieces e = rw e refl
 
 -- the latest value so far, and one more record
 pub latest_then : {X : Type 0} (k : ℕ) (gives : PayloadRecord → List X) (last next : X) (pieces : List PayloadRecord) (p : PayloadRecord) (others : List PayloadRecord) → pieces ≡ p ∷ others → next ≡ latest last (if_field k p.wire (gives p))
-    → latest last (each_of k gives pieces) ≡ latest next (each_of k gives others)
+    → latest last (field_values k gives pieces) ≡ latest next (field_values k gives others)
 latest_then {X = X} k gives last next pieces p others e n =
-    ap (latest last) (each_then k gives pieces p others e) ∙ latest-append last (if_field k p.wire (gives p)) (each_of k gives others) ∙ ap (λ (x : X). latest x (each_of k gives others)) (sym n)
+    ap (latest last) (each_then k gives pieces p others e) ∙ latest-append last (if_field k p.wire (gives p)) (field_values k gives others) ∙ ap (λ (x : X). latest x (field_values k gives others)) (sym n)
 
-pub latest_none : {X : Type 0} (k : ℕ) (gives : PayloadRecord → List X) (last : X) (pieces : List PayloadRecord) → pieces ≡ [] → latest last (each_of k gives pieces) ≡ last
+pub latest_none : {X : Type 0} (k : ℕ) (gives : PayloadRecord → List X) (last : X) (pieces : List PayloadRecord) → pieces ≡ [] → latest last (field_values k gives pieces) ≡ last
 latest_none k gives last pieces e = ap (latest last) (each_none k gives pieces e)
 
 -- a payload that isn't a sequence of varints gives no numbers

@@ -7,24 +7,24 @@ use Rattle.proto_wire.specs.declared.fault.WireFault.{WireFault}
 use Rattle.proto_wire.specs.declared.record.WireValue.TheVariants.{Bytes}
 use Rattle.proto_wire.specs.Records.{PayloadRecord}
 use Rattle.proto_wire.specs.Readings.{payload_records}
-use Rattle.proto_wire.specs.Messages.{if_field, each_of, latest, nested_records, IsClean}
+use Rattle.proto_wire.specs.Messages.{if_field, field_values, latest, nested_records, IsClean}
 use Rattle.proto_wire.specs.Writing.{Field, FieldFits, payload_fields, spelled_fields, pieces_at, Carries, CarryAll}
 use Rattle.proto_wire.proofs.PieceReadings.{records_found}
 use Rattle.proto_wire.proofs.WritingLaws.{records_again}
 use Rattle.proto_wire.proofs.GivenLaws.{if_field-hit}
 
-pub each_of-push : {X : Type 0} (k : ℕ) (gives : PayloadRecord → List X) (front : List PayloadRecord) (p : PayloadRecord) → each_of k gives (front ++ p ∷ []) ≡ each_of k gives front ++ if_field k p.wire (gives p)
-unfolding each_of
-each_of-push k gives [] p = append-nil (if_field k p.wire (gives p))
-each_of-push k gives (q ∷ front) p = ap (λ xs. if_field k q.wire (gives q) ++ xs) (each_of-push k gives front p) ∙ sym (append_assoc (if_field k q.wire (gives q)) (each_of k gives front) (if_field k p.wire (gives p)))
+pub field_values-push : {X : Type 0} (k : ℕ) (gives : PayloadRecord → List X) (front : List PayloadRecord) (p : PayloadRecord) → field_values k gives (front ++ p ∷ []) ≡ field_values k gives front ++ if_field k p.wire (gives p)
+unfolding field_values
+field_values-push k gives [] p = append-nil (if_field k p.wire (gives p))
+field_values-push k gives (q ∷ front) p = ap (λ xs. if_field k q.wire (gives q) ++ xs) (field_values-push k gives front p) ∙ sym (append_assoc (if_field k q.wire (gives q)) (field_values k gives front) (if_field k p.wire (gives p)))
 
 pub latest-append : {X : Type 0} (old : X) (xs ys : List X) → latest old (xs ++ ys) ≡ latest (latest old xs) ys
 latest-append old [] ys = refl
 latest-append old (x ∷ xs) ys = latest-append x xs ys
 
 -- the latest value of a field, after one more record
-pub latest-push : {X : Type 0} (k : ℕ) (old : X) (gives : PayloadRecord → List X) (front : List PayloadRecord) (p : PayloadRecord) → latest old (each_of k gives (front ++ p ∷ [])) ≡ latest (latest old (each_of k gives front)) (if_field k p.wire (gives p))
-latest-push k old gives front p = ap (latest old) (each_of-push k gives front p) ∙ latest-append old (each_of k gives front) (if_field k p.wire (gives p))
+pub latest-push : {X : Type 0} (k : ℕ) (old : X) (gives : PayloadRecord → List X) (front : List PayloadRecord) (p : PayloadRecord) → latest old (field_values k gives (front ++ p ∷ [])) ≡ latest (latest old (field_values k gives front)) (if_field k p.wire (gives p))
+latest-push k old gives front p = ap (latest old) (field_values-push k gives front p) ∙ latest-append old (field_values k gives front) (if_field k p.wire (gives p))
 
 -- all of these fields have this number
 abbrev pub HaveNumber : ℕ → List Field → Type 0
@@ -42,8 +42,8 @@ inside_carried : (p : PayloadRecord) (bytes : List ℕ) → (p.wire.value ≡ By
 inside_carried p bytes h = rw (h.0, h.1) refl
 
 -- messages that were written decode to the messages
-pub messages-given : {V : Type 0} (k : ℕ) (of : List PayloadRecord → V) (written : V → List ℕ) (vs : List V) (ps : List PayloadRecord) → AllByRecursion (λ v. Restores of v (written v)) vs → CarryAll ps (payload_fields k (map written vs)) → map of (each_of k nested_records ps) ≡ vs
-unfolding each_of
+pub messages-given : {V : Type 0} (k : ℕ) (of : List PayloadRecord → V) (written : V → List ℕ) (vs : List V) (ps : List PayloadRecord) → AllByRecursion (λ v. Restores of v (written v)) vs → CarryAll ps (payload_fields k (map written vs)) → map of (field_values k nested_records ps) ≡ vs
+unfolding field_values
 messages-given k of written [] [] restores h = refl
 messages-given k of written [] (p ∷ ps) restores h = absurd h
 messages-given k of written (v ∷ vs) [] restores h = absurd h

@@ -4,7 +4,7 @@ use Rattle.std.proofs.lemmas.List.{append-nil}
 use Rattle.std.specs.Result.{result_err}
 use Rattle.proto_wire.specs.declared.fault.WireFault.{WireFault}
 use Rattle.proto_wire.specs.Faults.{◌>>=◌}
-use Rattle.proto_wire.specs.Packed.{int32, packed_from, packed}
+use Rattle.proto_wire.specs.Packed.{varint_to_int32, packed_from, packed}
 use Rattle.proto_wire.specs.Varints.{varint_in}
 
 -- numbers that were read before, and numbers that are left to read
@@ -27,12 +27,12 @@ unfolding packed
 Counts-start at payload = record { most = length payload; enough = omega arith; whole = same (packed_from (length payload) at payload) }
 
 pub step : (most at : ℕ) (rest : List ℕ) (n : ℕ) (after : List ℕ) → length rest ≤ suc most → length after < length rest → varint_in 10 at rest ≡ Ok (n, after)
-    → packed_from (suc most) at rest ≡ with_numbers (int32 n ∷ []) (packed_from most at after)
+    → packed_from (suc most) at rest ≡ with_numbers (varint_to_int32 n ∷ []) (packed_from most at after)
 unfolding packed_from
 step most at [] n after enough shorter e = absurd (omega arith)
 step most at (b ∷ rest) n after enough shorter e = rw e (consed (packed_from most at after))
   where
-    consed : (reading : Result (List ℤ) WireFault) → (reading >>= λ others. Ok (int32 n ∷ others)) ≡ with_numbers (int32 n ∷ []) reading
+    consed : (reading : Result (List ℤ) WireFault) → (reading >>= λ others. Ok (varint_to_int32 n ∷ others)) ≡ with_numbers (varint_to_int32 n ∷ []) reading
     consed (Ok xs) = refl
     consed (Err fault) = refl
 
@@ -41,15 +41,15 @@ regroup front z (Ok xs) = ap (λ (zs : List ℤ). Ok zs) (append_assoc front (z 
 regroup front z (Err fault) = refl
 
 pub Counts-step : (at : ℕ) (payload : List ℕ) (front : List ℤ) (rest : List ℕ) (n : ℕ) (after : List ℕ) → Counts at payload front rest → varint_in 10 at rest ≡ Ok (n, after) → length after < length rest
-    → Counts at payload (front ++ int32 n ∷ []) after
+    → Counts at payload (front ++ varint_to_int32 n ∷ []) after
 Counts-step at payload front rest n after so_far e shorter = go so_far.most so_far.enough so_far.whole
   where
-    go : (most : ℕ) → length rest ≤ most → with_numbers front (packed_from most at rest) ≡ packed at payload → Counts at payload (front ++ int32 n ∷ []) after
+    go : (most : ℕ) → length rest ≤ most → with_numbers front (packed_from most at rest) ≡ packed at payload → Counts at payload (front ++ varint_to_int32 n ∷ []) after
     go zero enough whole = absurd (omega arith)
     go (suc most) enough whole = record {
       most = most;
       enough = omega arith;
-      whole = regroup front (int32 n) (packed_from most at after) ∙ ap (with_numbers front) (sym (step most at rest n after enough shorter e)) ∙ whole;
+      whole = regroup front (varint_to_int32 n) (packed_from most at after) ∙ ap (with_numbers front) (sym (step most at rest n after enough shorter e)) ∙ whole;
     }
 
 pub faulty : (most at : ℕ) (rest : List ℕ) (fault : WireFault) → length rest ≤ most → 0 < length rest → varint_in 10 at rest ≡ Err fault → packed_from most at rest ≡ Err fault

@@ -5,7 +5,7 @@ use Rattle.std.proofs.lemmas.List.{length-append, append-nil}
 use Rattle.proto_wire.specs.declared.fault.WireFault.{WireFault}
 use Rattle.proto_wire.specs.Faults.{◌>>=◌}
 use Rattle.proto_wire.specs.Varints.{IsVarint, varint_in}
-use Rattle.proto_wire.specs.Packed.{int32, ArePacked, IsPackedOutcome, packed_from, packed}
+use Rattle.proto_wire.specs.Packed.{varint_to_int32, ArePacked, IsPackedOutcome, packed_from, packed}
 use Rattle.proto_wire.proofs.PackedLaws.{with_numbers, step, faulty, ended}
 use Rattle.proto_wire.proofs.VarintReadings.{varint_found, varint_bytes, no_varint_found, VarintRead, varint_read}
 
@@ -59,10 +59,10 @@ outcome_found at payload (Err fault) s =
     ap (packed_from (length payload) at) s.form ∙ found.2 ∙ ap (with_numbers s.before) (faulty found.0 at s.rest fault found.1 s.some (no_varint_found at s.rest fault s.no_varint))
 
 cons_read : (at : ℕ) (payload first rest : List ℕ) (n : ℕ) (reading : Result (List ℤ) WireFault) → payload ≡ first ++ rest → IsVarint first n → IsPackedOutcome at rest reading
-    → IsPackedOutcome at payload (reading >>= λ others. Ok (int32 n ∷ others))
+    → IsPackedOutcome at payload (reading >>= λ others. Ok (varint_to_int32 n ∷ others))
 cons_read at payload first rest n (Ok zs) form v others = (first, rest, n, form, v, refl, others)
 cons_read at payload first rest n (Err fault) form v others = record {
-  before = int32 n ∷ others.before;
+  before = varint_to_int32 n ∷ others.before;
   good = first ++ others.good;
   rest = others.rest;
   form = form ∙ ap (λ (bs : List ℕ). first ++ bs) others.form ∙ sym (append_assoc first others.good others.rest);
@@ -73,7 +73,7 @@ cons_read at payload first rest n (Err fault) form v others = record {
 
 first_read : (most at b : ℕ) (bytes : List ℕ) (reading : Result (ℕ × List ℕ) WireFault) → VarintRead at (b ∷ bytes) reading → length bytes ≤ most
     → ((rest : List ℕ) → length rest ≤ most → IsPackedOutcome at rest (packed_from most at rest))
-    → IsPackedOutcome at (b ∷ bytes) (reading >>= λ n. (packed_from most at n.1 >>= λ others. Ok (int32 n.0 ∷ others)))
+    → IsPackedOutcome at (b ∷ bytes) (reading >>= λ n. (packed_from most at n.1 >>= λ others. Ok (varint_to_int32 n.0 ∷ others)))
 first_read most at b bytes (Ok x) h enough others =
     let some = varint_bytes h.0 x.0 h.2 in
     let count : suc (length bytes) ≡ length h.0 + length x.1 = ap length h.1 ∙ length-append h.0 x.1 in
@@ -91,8 +91,8 @@ pub packed_read : (at : ℕ) (payload : List ℕ) → IsPackedOutcome at payload
 unfolding packed
 packed_read at payload = packed_from-read (length payload) at payload (omega arith)
 
-pub one_packed_outcome : (at : ℕ) (payload : List ℕ) (o p : Result (List ℤ) WireFault) → IsPackedOutcome at payload o → IsPackedOutcome at payload p → o ≡ p
-one_packed_outcome at payload o p h g = sym (outcome_found at payload o h) ∙ outcome_found at payload p g
+pub packed_outcome_is_unique : (at : ℕ) (payload : List ℕ) (o p : Result (List ℤ) WireFault) → IsPackedOutcome at payload o → IsPackedOutcome at payload p → o ≡ p
+packed_outcome_is_unique at payload o p h g = sym (outcome_found at payload o h) ∙ outcome_found at payload p g
 
 -- a fault that the function returns is the payload's
 pub fault_told : (at : ℕ) (payload : List ℕ) (fault : WireFault) → result_err (packed at payload) ≡ Some fault → IsPackedOutcome at payload (Err fault)

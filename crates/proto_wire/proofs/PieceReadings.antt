@@ -123,8 +123,8 @@ abbrev outcome : List PayloadRecord × Option WireFault → Result (List WireRec
 outcome (pieces, None) = Ok (map (λ p. p.wire) pieces)
 outcome (pieces, Some fault) = Err fault
 
-pub some_outcome : (bytes : List ℕ) → (o : Result (List WireRecord) WireFault) × IsOutcome bytes o
-some_outcome bytes = go (payload_records 0 bytes).0 (payload_records 0 bytes).1 (pieces_read 0 bytes)
+pub outcome_exists : (bytes : List ℕ) → (o : Result (List WireRecord) WireFault) × IsOutcome bytes o
+outcome_exists bytes = go (payload_records 0 bytes).0 (payload_records 0 bytes).1 (pieces_read 0 bytes)
   where
     go : (pieces : List PayloadRecord) (end : Option WireFault) → PiecesRead 0 bytes pieces end → (o : Result (List WireRecord) WireFault) × IsOutcome bytes o
     go pieces None h = (Ok (map (λ p. p.wire) pieces), (pieces, h, refl))
@@ -134,8 +134,8 @@ outcome_found : (bytes : List ℕ) (o : Result (List WireRecord) WireFault) → 
 outcome_found bytes (Ok list) h = rw (records_found 0 bytes h.0 h.1, h.2) refl
 outcome_found bytes (Err fault) h = rw (stop_found 0 bytes h.0 fault h.1) refl
 
-pub one_outcome : (bytes : List ℕ) (o p : Result (List WireRecord) WireFault) → IsOutcome bytes o → IsOutcome bytes p → o ≡ p
-one_outcome bytes o p h g = sym (outcome_found bytes o h) ∙ outcome_found bytes p g
+pub outcome_is_unique : (bytes : List ℕ) (o p : Result (List WireRecord) WireFault) → IsOutcome bytes o → IsOutcome bytes p → o ≡ p
+outcome_is_unique bytes o p h g = sym (outcome_found bytes o h) ∙ outcome_found bytes p g
 
 -- the function returns exactly the sequence of records
 pub records_iff : (at : ℕ) (bytes : List ℕ) (pieces : List PayloadRecord) → (payload_records at bytes ≡ (pieces, None)) ↔ AreRecords at bytes pieces

@@ -6,7 +6,7 @@ use Rattle.proto_wire.specs.declared.fault.WireFault.{WireFault}
 use Rattle.proto_wire.specs.declared.fault.WireFault.TheVariants.{Truncated, LongVarint, Group, ZeroField, BadText, Device, Memory}
 use Rattle.proto_wire.specs.declared.record.WireValue.{WireValue}
 use Rattle.proto_wire.specs.declared.record.WireValue.TheVariants.{Varint, Eight, Bytes, Four}
-use Rattle.proto_wire.specs.Faults.{◌>>=◌, Gives, Shows}
+use Rattle.proto_wire.specs.Faults.{◌>>=◌, Matches, HasExactOutcome}
 use Rattle.proto_wire.specs.Varints.{IsVarint, IsNoVarint, varint_in}
 use Rattle.proto_wire.specs.Records.{PayloadRecord, IsField, IsKey, IsValue, IsRecord, HasKey, IsTruncated, in_key, in_varint, in_eight, in_length, in_payload, in_four, HasOverlongVarint, as_key, as_varint, as_length, IsGroup, IsNoField, IsWrongRecord, IsFirst}
 use Rattle.proto_wire.specs.Readings.{piece, is_field, fixed_in, payload_in, value_in, record_in}
@@ -275,6 +275,6 @@ first_iff at bytes o = (λ e. subst (IsFirst at bytes) e (record_read at bytes),
     first_found at bytes (Err fault) h = wrong_found at bytes fault h
 
 -- a result of the function is the outcome for the first record
-pub first_told : {X : Type 0} (view : X → PayloadRecord × List ℕ) (at : ℕ) (bytes : List ℕ) (result : Result X WireFault) → Gives view result (record_in at bytes) → Shows view result (IsFirst at bytes)
+pub first_told : {X : Type 0} (view : X → PayloadRecord × List ℕ) (at : ℕ) (bytes : List ℕ) (result : Result X WireFault) → Matches view result (record_in at bytes) → HasExactOutcome view result (IsFirst at bytes)
 first_told view at bytes (Ok x) e = (first_iff at bytes (Ok (view x))).0 e
 first_told view at bytes (Err fault) e = (first_iff at bytes (Err fault)).0 e

@@ -5,7 +5,7 @@ use Rattle.std.proofs.lemmas.List.{length-append}
 use Rattle.proto_wire.specs.declared.fault.WireFault.{WireFault}
 use Rattle.proto_wire.specs.declared.fault.WireFault.TheVariants.{Truncated, LongVarint, Group, ZeroField, BadText, Device, Memory}
 use Rattle.proto_wire.specs.Faults.{◌>>=◌}
-use Rattle.proto_wire.specs.Varints.{GoOn, value_of, IsVarint, IsUnterminated, IsOverlong, IsNoVarint, varint_in}
+use Rattle.proto_wire.specs.Varints.{HaveContinuationBits, value_of, IsVarint, IsUnterminated, IsOverlong, IsNoVarint, varint_in}
 
 alone : (last : ℕ) → last < 128 → last ≡ (last % 128 + 128 * 0) % 2 ^ 64
 alone last ends = omega arith
@@ -13,7 +13,7 @@ alone last ends = omega arith
 dropped : (low high : ℕ) → (low + 128 * (high % 2 ^ 64)) % 2 ^ 64 ≡ (low + 128 * high) % 2 ^ 64
 dropped low high = omega arith
 
-groups_found : (k at : ℕ) (more : List ℕ) (last : ℕ) (rest : List ℕ) → GoOn more → last < 128 → length more < k
+groups_found : (k at : ℕ) (more : List ℕ) (last : ℕ) (rest : List ℕ) → HaveContinuationBits more → last < 128 → length more < k
     → varint_in k at ((more ++ last ∷ []) ++ rest) ≡ Ok (value_of (more ++ last ∷ []) % 2 ^ 64, rest)
 unfolding varint_in
 groups_found zero at more last rest go_on ends short = absurd (omega arith)
@@ -27,7 +27,7 @@ varint_found at bytes rest n v =
     let short : length v.more < 10 = omega (arith, v.short, ap length v.form, length-append v.more (v.last ∷ [])) in
     rw (v.value, v.form) (groups_found 10 at v.more v.last rest v.go_on v.ends short)
 
-open_within : (k at : ℕ) (bytes : List ℕ) → GoOn bytes → length bytes < k → varint_in k at bytes ≡ Err (Truncated at)
+open_within : (k at : ℕ) (bytes : List ℕ) → HaveContinuationBits bytes → length bytes < k → varint_in k at bytes ≡ Err (Truncated at)
 unfolding varint_in
 open_within zero at bytes go_on short = absurd (omega arith)
 open_within (suc k) at [] go_on short = refl
@@ -36,7 +36,7 @@ open_within (suc k) at (b ∷ bytes) go_on short = rw (le-ltb b 128 go_on.0, ope
 pub open_found : (at : ℕ) (bytes : List ℕ) → IsUnterminated bytes → varint_in 10 at bytes ≡ Err (Truncated at)
 open_found at bytes o = open_within 10 at bytes o.go_on o.short
 
-long_within : (k at : ℕ) (ten rest : List ℕ) → GoOn ten → length ten ≡ k → varint_in k at (ten ++ rest) ≡ Err (LongVarint at)
+long_within : (k at : ℕ) (ten rest : List ℕ) → HaveContinuationBits ten → length ten ≡ k → varint_in k at (ten ++ rest) ≡ Err (LongVarint at)
 unfolding varint_in
 long_within zero at [] rest go_on all = refl
 long_within zero at (b ∷ ten) rest go_on all = absurd (omega arith)
@@ -61,7 +61,7 @@ record StandsIn (most : ℕ) (bytes : List ℕ) (n : ℕ) (rest : List ℕ) : Ty
   more : List ℕ
   last : ℕ
   form : bytes ≡ (more ++ last ∷ []) ++ rest
-  go_on : GoOn more
+  go_on : HaveContinuationBits more
   ends : last < 128
   short : length more < most
   value : n ≡ value_of (more ++ last ∷ []) % 2 ^ 64
@@ -69,8 +69,8 @@ record StandsIn (most : ℕ) (bytes : List ℕ) (n : ℕ) (rest : List ℕ) : Ty
 -- what was found in at most this many bytes
 abbrev Found : ℕ → ℕ → List ℕ → Result (ℕ × List ℕ) WireFault → Type 0
 Found most at bytes (Ok x) = StandsIn most bytes x.0 x.1
-Found most at bytes (Err (Truncated place)) = (place ≡ at) × GoOn bytes × (length bytes < most)
-Found most at bytes (Err (LongVarint place)) = (ten rest : List ℕ) × (place ≡ at) × (bytes ≡ ten ++ rest) × GoOn ten × (length ten ≡ most)
+Found most at bytes (Err (Truncated place)) = (place ≡ at) × HaveContinuationBits bytes × (length bytes < most)
+Found most at bytes (Err (LongVarint place)) = (ten rest : List ℕ) × (place ≡ at) × (bytes ≡ ten ++ rest) × HaveContinuationBits ten × (length ten ≡ most)
 Found most at bytes (Err (Group place)) = ⊥
 Found most at bytes (Err (ZeroField place)) = ⊥
 Found most at bytes (Err (BadText place)) = ⊥
@@ -136,7 +136,7 @@ same_reading : (reading : Result (ℕ × List ℕ) WireFault) (x y : ℕ × List
 same_reading reading x y p q = cc
 
 -- bytes begin with at most one varint
-pub one_varint : (first rest other after : List ℕ) (n m : ℕ) → IsVarint first n → IsVarint other m → first ++ rest ≡ other ++ after → (n ≡ m) × (rest ≡ after)
-one_varint first rest other after n m v w e =
+pub varint_is_unique : (first rest other after : List ℕ) (n m : ℕ) → IsVarint first n → IsVarint other m → first ++ rest ≡ other ++ after → (n ≡ m) × (rest ≡ after)
+varint_is_unique first rest other after n m v w e =
     let pair = same_reading (varint_in 10 0 (first ++ rest)) (n, rest) (m, after) (varint_found 0 first rest n v) (ap (varint_in 10 0) e ∙ varint_found 0 other after m w) in
     (ap (λ (x : ℕ × List ℕ). x.0) pair, ap (λ (x : ℕ × List ℕ). x.1) pair)

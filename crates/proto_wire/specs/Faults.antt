@@ -19,20 +19,20 @@ UnlessMemory (BadText at) P = P
 UnlessMemory Device P = P
 UnlessMemory Memory P = Unit {0}
 
--- the result, with the view of its value, has this property, unless it is `Memory`
+-- the result has this property, with the value seen through `view`. Of the fault `Memory` nothing is claimed
 abbrev pub HasOutcome : {X Y : Type 0} → (X → Y) → Result X WireFault → (Result Y WireFault → Type 0) → Type 0
 HasOutcome view (Ok x) IsOutcome = IsOutcome (Ok (view x))
 HasOutcome view (Err fault) IsOutcome = UnlessMemory fault (IsOutcome (Err fault))
 
--- the result, with the view of its value, has this property; for functions that allocate nothing
-abbrev pub Shows : {X Y : Type 0} → (X → Y) → Result X WireFault → (Result Y WireFault → Type 0) → Type 0
-Shows view (Ok x) IsOutcome = IsOutcome (Ok (view x))
-Shows view (Err fault) IsOutcome = IsOutcome (Err fault)
+-- the result has this property, with the value seen through `view`. It is for functions that allocate nothing, and so never return `Memory`
+abbrev pub HasExactOutcome : {X Y : Type 0} → (X → Y) → Result X WireFault → (Result Y WireFault → Type 0) → Type 0
+HasExactOutcome view (Ok x) IsOutcome = IsOutcome (Ok (view x))
+HasExactOutcome view (Err fault) IsOutcome = IsOutcome (Err fault)
 
--- the result, with the view of its value, is this outcome
-abbrev pub Gives : {X Y : Type 0} → (X → Y) → Result X WireFault → Result Y WireFault → Type 0
-Gives view result reading = Shows view result (λ outcome. reading ≡ outcome)
+-- the result is this outcome, with the value seen through `view`
+abbrev pub Matches : {X Y : Type 0} → (X → Y) → Result X WireFault → Result Y WireFault → Type 0
+Matches view result reading = HasExactOutcome view result (λ outcome. reading ≡ outcome)
 
--- the fault is this one, or `Memory`
-abbrev pub Stops : WireFault → Option WireFault → Type 0
-Stops fault found = UnlessMemory fault (found ≡ Some fault)
+-- the fault is the one in `found`, or is `Memory`
+abbrev pub IsFaultOrMemory : WireFault → Option WireFault → Type 0
+IsFaultOrMemory fault found = UnlessMemory fault (found ≡ Some fault)

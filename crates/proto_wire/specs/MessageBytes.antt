@@ -8,7 +8,7 @@ use Rattle.proto_wire.specs.Readings.{payload_records}
 abbrev pub records_of : MessageBytes → List PayloadRecord
 records_of m = (payload_records m.start m.bytes.now).0
 
--- the records of the message are this one, followed by those of the rest, with the fault of the rest
+-- the message is the record p followed by the records of rest, and its fault, if any, is that of rest
 abbrev pub IsRecordBefore : MessageBytes → MessageBytes → PayloadRecord → Type 0
 IsRecordBefore m rest p =
     payload_records m.start m.bytes.now ≡ (p ∷ (payload_records rest.start rest.bytes.now).0, (payload_records rest.start rest.bytes.now).1)

@@ -9,10 +9,10 @@ use Rattle.proto_wire.specs.declared.record.WireRecord.{WireRecord}
 use Rattle.proto_wire.specs.declared.record.WireValue.{WireValue}
 use Rattle.proto_wire.specs.declared.record.WireValue.TheVariants.{Varint, Eight, Bytes, Four}
 use Rattle.proto_wire.specs.Records.{PayloadRecord, IsStopped, IsSplit}
-use Rattle.proto_wire.specs.Packed.{int32, packed}
+use Rattle.proto_wire.specs.Packed.{varint_to_int32, packed}
 use Rattle.proto_wire.specs.Readings.{payload_records}
 
--- the first of two optional faults
+-- the first fault if there is one, and otherwise the second
 abbrev pub first_of : Option WireFault → Option WireFault → Option WireFault
 first_of None later = later
 first_of (Some fault) later = Some fault
@@ -30,8 +30,8 @@ fault_of inside at bytes = first_fault inside (payload_records at bytes).0 (payl
 abbrev pub IsClean : (PayloadRecord → Option WireFault) → List PayloadRecord → Type 0
 IsClean inside pieces = AllByRecursion (λ p. inside p ≡ None) pieces
 
--- after these records, a prefix of a message's bytes, comes this fault: inside the next record, or of the next record itself, which is
--- wrong. The bytes begin at offset start
+-- the bytes, which begin at offset start, begin with these records, and the next record has this fault: inside it, or because the record
+-- itself is wrong
 pub data IsNextFault (inside : PayloadRecord → Option WireFault) (start : ℕ) (bytes : List ℕ) (front : List PayloadRecord) (fault : WireFault) : Type 0 where
   in_record : (p : PayloadRecord) (at : ℕ) (rest : List ℕ) → IsSplit start bytes (front ++ p ∷ []) at rest → inside p ≡ Some fault → IsNextFault inside start bytes front fault
   of_record : IsStopped start bytes front fault → IsNextFault inside start bytes front fault
@@ -44,7 +44,7 @@ IsFirstFault inside start bytes fault = (front : List PayloadRecord) × IsClean 
 abbrev pub payload_record : WireRecord → List ℕ → PayloadRecord
 payload_record wire payload = record { wire = wire; payload = payload }
 
--- the values of a record, if it has this field number
+-- the values xs of a record if it has the field number k, and otherwise none
 unfoldable pub if_field : {X : Type 0} → ℕ → WireRecord → List X → List X
 if_field k wire xs = if wire.field == k then xs else []
 
@@ -53,18 +53,18 @@ unfoldable pub field_fault : ℕ → WireRecord → Option WireFault → Option 
 field_fault k wire fault = if wire.field == k then fault else None
 
 -- the values of all records with this field number, concatenated
-unfoldable pub each_of : {X : Type 0} → ℕ → (PayloadRecord → List X) → List PayloadRecord → List X
-each_of k gives [] = []
-each_of k gives (p ∷ pieces) = if_field k p.wire (gives p) ++ each_of k gives pieces
+unfoldable pub field_values : {X : Type 0} → ℕ → (PayloadRecord → List X) → List PayloadRecord → List X
+field_values k gives [] = []
+field_values k gives (p ∷ pieces) = if_field k p.wire (gives p) ++ field_values k gives pieces
 
--- the last element of the list, or else the old value
+-- the last element of the list, or the value old if the list is empty. So the last record of a singular field counts
 abbrev pub latest : {X : Type 0} → X → List X → X
 latest old [] = old
 latest old (x ∷ xs) = latest x xs
 
 -- the number in a record's value, if it is a varint: its low 32 bits
 abbrev pub value_number : WireValue → List ℤ
-value_number (Varint n) = int32 n ∷ []
+value_number (Varint n) = varint_to_int32 n ∷ []
 value_number Eight = []
 value_number (Bytes count) = []
 value_number Four = []
@@ -74,7 +74,7 @@ number_in p = value_number p.wire.value
 
 -- the numbers in the value of a record of a repeated field, packed or not
 abbrev pub value_numbers : WireValue → ℕ → List ℕ → List ℤ
-value_numbers (Varint n) at payload = int32 n ∷ []
+value_numbers (Varint n) at payload = varint_to_int32 n ∷ []
 value_numbers Eight at payload = []
 value_numbers (Bytes count) at payload = result_unwrap_or (packed at payload) []
 value_numbers Four at payload = []
@@ -139,11 +139,12 @@ MeansEach Means [] (ps ∷ others) = ⊥
 MeansEach Means (m ∷ ms) [] = ⊥
 MeansEach Means (m ∷ ms) (ps ∷ others) = Means m ps × MeansEach Means ms others
 
--- the list of messages grows by those that these lists of records encode
+-- the new list of messages is the old one, followed by the message of each of these lists of records
 abbrev pub AddsMessages : {M : Type 0} → (M → List PayloadRecord → Type 0) → List (List PayloadRecord) → List M → List M → Type 0
 AddsMessages {M} Means given old new = (ms : List M) × (new ≡ old ++ ms) × MeansEach Means ms given
 
--- there is a message if and only if there are lists of records, and it is the one that their concatenation encodes
+-- the optional message is the merge of these lists of records: None if there is no list, and otherwise the message that the concatenation
+-- of the lists encodes
 abbrev pub IsMerged : {M : Type 0} → (M → List PayloadRecord → Type 0) → Option M → List (List PayloadRecord) → Type 0
 IsMerged Means None [] = Unit {0}
 IsMerged Means None (ps ∷ others) = ⊥

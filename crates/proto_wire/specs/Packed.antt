@@ -6,15 +6,15 @@ use Rattle.proto_wire.specs.Faults.{◌>>=◌}
 use Rattle.proto_wire.specs.Varints.{IsVarint, IsNoVarint, varint_in}
 
 -- the low 32 bits as a signed number
-abbrev pub int32 : ℕ → ℤ
-int32 n = cast_signed w32 (n % 2 ^ 32)
+abbrev pub varint_to_int32 : ℕ → ℤ
+varint_to_int32 n = cast_signed w32 (n % 2 ^ 32)
 
 -- the payload is a sequence of varints, whose low 32 bits are these numbers
 abbrev pub ArePacked : List ℕ → List ℤ → Type 0
 ArePacked payload [] = payload ≡ []
-ArePacked payload (z ∷ zs) = (first rest : List ℕ) × (n : ℕ) × (payload ≡ first ++ rest) × IsVarint first n × (z ≡ int32 n) × ArePacked rest zs
+ArePacked payload (z ∷ zs) = (first rest : List ℕ) × (n : ℕ) × (payload ≡ first ++ rest) × IsVarint first n × (z ≡ varint_to_int32 n) × ArePacked rest zs
 
--- the payload is a sequence of varints and then bytes that begin with no varint, for this reason
+-- the payload is a sequence of varints, followed by bytes that begin with no varint, which is this fault
 pub record IsPackedStopped (at : ℕ) (payload : List ℕ) (fault : WireFault) : Type 0 where
   pub before : List ℤ
   pub good : List ℕ
@@ -36,7 +36,7 @@ packed_from zero at (b ∷ bytes) = Ok []
 packed_from (suc most) at (b ∷ bytes) = do
   n ← varint_in 10 at (b ∷ bytes)
   others ← packed_from most at n.1
-  Ok (int32 n.0 ∷ others)
+  Ok (varint_to_int32 n.0 ∷ others)
 
 -- the numbers of a packed payload, or the fault of its record, whose key is at this offset
 unfoldable pub packed : ℕ → List ℕ → Result (List ℤ) WireFault

@@ -10,6 +10,7 @@ use Rattle.proto_wire.specs.Faults.{◌>>=◌}
 use Rattle.proto_wire.specs.Records.{PayloadRecord}
 use Rattle.proto_wire.specs.Varints.{varint_in}
 
+-- a record with its payload, from its field number, value, and the offsets of its key and its payload
 abbrev pub piece : ℕ → WireValue → ℕ → ℕ → List ℕ → PayloadRecord
 piece field value at body payload = record { wire = record { field = field; value = value; at = at; body = body }; payload = payload }
 

@@ -102,7 +102,7 @@ IsWrongRecord at bytes (BadText place) = ⊥
 IsWrongRecord at bytes Device = ⊥
 IsWrongRecord at bytes Memory = ⊥
 
--- the outcome for the first record: the record and the remaining bytes, or its fault
+-- the outcome of reading the first record, whose key is at this offset: the record and the remaining bytes, or the record's fault
 abbrev pub IsFirst : ℕ → List ℕ → Result (PayloadRecord × List ℕ) WireFault → Type 0
 IsFirst at bytes (Ok x) = (first : List ℕ) × (bytes ≡ first ++ x.1) × IsRecord at first x.0
 IsFirst at bytes (Err fault) = IsWrongRecord at bytes fault

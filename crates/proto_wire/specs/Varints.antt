@@ -7,8 +7,8 @@ use Rattle.proto_wire.specs.declared.fault.WireFault.TheVariants.{Truncated, Lon
 use Rattle.proto_wire.specs.Faults.{◌>>=◌}
 
 -- each byte has the continuation bit
-abbrev pub GoOn : List ℕ → Type 0
-GoOn bytes = AllByRecursion (λ b. 128 ≤ b) bytes
+abbrev pub HaveContinuationBits : List ℕ → Type 0
+HaveContinuationBits bytes = AllByRecursion (λ b. 128 ≤ b) bytes
 
 -- the number that groups of seven bits encode
 abbrev pub value_of : List ℕ → ℕ
@@ -20,14 +20,14 @@ pub record IsVarint (bytes : List ℕ) (n : ℕ) : Type 0 where
   pub more : List ℕ
   pub last : ℕ
   pub form : bytes ≡ more ++ last ∷ []
-  pub go_on : GoOn more
+  pub go_on : HaveContinuationBits more
   pub ends : last < 128
   pub short : length bytes ≤ 10
   pub value : n ≡ value_of bytes % 2 ^ 64
 
 -- the bytes end within a varint
 pub record IsUnterminated (bytes : List ℕ) : Type 0 where
-  pub go_on : GoOn bytes
+  pub go_on : HaveContinuationBits bytes
   pub short : length bytes < 10
 
 -- the bytes begin with ten bytes that have the continuation bit
@@ -35,7 +35,7 @@ pub record IsOverlong (bytes : List ℕ) : Type 0 where
   pub ten : List ℕ
   pub rest : List ℕ
   pub form : bytes ≡ ten ++ rest
-  pub go_on : GoOn ten
+  pub go_on : HaveContinuationBits ten
   pub ten_bytes : length ten ≡ 10
 
 -- the bytes begin with no varint, for this reason; the fault has this offset

@@ -12,9 +12,9 @@ fault_of_sink sink_faults.Memory = faults.Memory
 fault_of_sink sink_faults.Device = faults.Device
 
 -- the result of a call of a writer with this error, if any
-abbrev pub answer_of : Option SinkFault → Result (Unit {0}) WireFault
-answer_of None = Ok tt
-answer_of (Some fault) = Err (fault_of_sink fault)
+abbrev pub result_of_error : Option SinkFault → Result (Unit {0}) WireFault
+result_of_error None = Ok tt
+result_of_error (Some fault) = Err (fault_of_sink fault)
 
 -- the error is `Device`
 abbrev pub is_failure : WireFault → Bool

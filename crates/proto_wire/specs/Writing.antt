@@ -1,4 +1,4 @@
--- The one written form of fields.
+-- The bytes that are written for a field: a minimal varint, or a length and a payload. There is one such form for each field.
 use Rattle.std.specs.Prelude.{◌≡◌, ◌<◌, ◌^◌, ℕ, zero, suc, ◌+◌, ◌*◌, ℤ, pos, negsuc, List, [], ◌∷◌, ◌++◌, length, map}
 use Rattle.std.specs.List.{flat_map}
 use Rattle.std.specs.Int.{w64, cast_unsigned}
@@ -17,9 +17,11 @@ pub record Field : Type 0 where
   pub number : ℕ
   pub content : Content
 
+-- the field k whose content is a varint of the number n
 abbrev pub number_field : ℕ → ℕ → Field
 number_field k n = record { number = k; content = Number n }
 
+-- the field k whose content is a payload
 abbrev pub payload_field : ℕ → List ℕ → Field
 payload_field k bytes = record { number = k; content = Payload bytes }
 
@@ -36,6 +38,7 @@ abbrev pub spelled_as : ℕ → Content → List ℕ
 spelled_as k (Number n) = key_of k 0 ++ varint n
 spelled_as k (Payload bytes) = head_of k (length bytes) ++ bytes
 
+-- the bytes that are written for a field
 abbrev pub spelled : Field → List ℕ
 spelled f = spelled_as f.number f.content
 
@@ -53,6 +56,7 @@ pub record FieldFits (f : Field) : Type 0 where
   pub is_field : IsField f.number
   pub content : ContentFits f.content
 
+-- the record of a field k with this content, with its key at the offset `at`
 abbrev pub placed : ℕ → ℕ → Content → PayloadRecord
 placed at k (Number n) = piece k (Varint n) at (at + length (key_of k 0)) []
 placed at k (Payload bytes) = piece k (Bytes (length bytes)) at (at + length (head_of k (length bytes))) bytes
@@ -98,13 +102,13 @@ text_fields k [] = []
 text_fields k (b ∷ bytes) = payload_field k (b ∷ bytes) ∷ []
 
 -- the payload of packed numbers: a varint for each
-abbrev pub packing : List ℤ → List ℕ
-packing zs = flat_map (λ z. varint (sign_extended_bits z)) zs
+abbrev pub packed_payload : List ℤ → List ℕ
+packed_payload zs = flat_map (λ z. varint (sign_extended_bits z)) zs
 
 -- the fields for packed numbers: none if there are no numbers
 abbrev pub packed_fields : ℕ → List ℤ → List Field
 packed_fields k [] = []
-packed_fields k (z ∷ zs) = payload_field k (packing (z ∷ zs)) ∷ []
+packed_fields k (z ∷ zs) = payload_field k (packed_payload (z ∷ zs)) ∷ []
 
 -- the fields for payloads: one for each, even an empty one
 abbrev pub payload_fields : ℕ → List (List ℕ) → List Field

@@ -3,7 +3,7 @@ ghost use Rattle.std.specs.Prelude.{◌≡◌, ◌<◌, ◌++◌, FitsSigned, On
 ghost use Rattle.std.specs.Int.{w32};
 ghost use Rattle.std.specs.List.{AllByRecursion};
 ghost use Rattle.proto_wire.specs.Varints.{varint};
-ghost use Rattle.proto_wire.specs.Writing.{sign_extended_bits, head_of, key_of, number_field, packing, payload_field, spelled};
+ghost use Rattle.proto_wire.specs.Writing.{sign_extended_bits, head_of, key_of, number_field, packed_payload, payload_field, spelled};
 
 use crate::varint::append_varint;
 use std::alloc::AllocError;
@@ -28,7 +28,7 @@ pub(crate) fn append_varint_field(
     append_varint(out, number)
 }
 
-/// Appends what precedes a payload of `count` bytes: a key and the length.
+/// Appends the head of a record with a payload of `count` bytes: the key of this field number, and the length.
 pub(crate) fn append_payload_head(
     out: &mut Vec<u8>,
     field: u32,
@@ -59,9 +59,9 @@ pub(crate) fn sign_extended_bits(number: i32) -> u64
     i64::from(number).cast_unsigned()
 }
 
-/// Appends a varint for each number.
+/// Appends each number as a varint of its 64 sign-extended bits, as in the payload of a packed field.
 pub(crate) fn append_packed_numbers(out: &mut Vec<u8>, numbers: &[i32]) -> Result<(), AllocError>
-    ensures bytes { OnOk result (out.new.items ≡ out.old.items ++ packing numbers.now) }
+    ensures bytes { OnOk result (out.new.items ≡ out.old.items ++ packed_payload numbers.now) }
     ensures fits { OnOk result (AllByRecursion (FitsSigned w32) numbers.now) }
 {
     for number in numbers {

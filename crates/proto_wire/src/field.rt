@@ -4,8 +4,8 @@ ghost use Rattle.proto_wire.specs.declared.fault.WireFault.{WireFault};
 ghost use Rattle.proto_wire.specs.declared.fault.WireFault.TheVariants.{Memory};
 ghost use Rattle.std.specs.Result.{result_err, result_unwrap_or};
 ghost use Rattle.std.specs.String.{string_bytes};
-ghost use Rattle.proto_wire.specs.Faults.{Stops, HasOutcome};
-ghost use Rattle.proto_wire.specs.Packed.{int32, packed, IsPackedOutcome};
+ghost use Rattle.proto_wire.specs.Faults.{IsFaultOrMemory, HasOutcome};
+ghost use Rattle.proto_wire.specs.Packed.{varint_to_int32, packed, IsPackedOutcome};
 ghost use Rattle.proto_wire.specs.Messages.{payload_record, latest, if_field, field_fault, value_number, numbers_in, numbers_fault, bytes_in, text_fault};
 
 use crate::fault::WireFault;
@@ -13,23 +13,24 @@ use crate::record::{WireRecord, WireValue};
 use crate::varint::read_varint;
 use std::alloc::{AllocError, Global};
 
-pub(crate) fn int32(number: u64) -> i32
-    ensures { result ≡ int32 number }
+/// The low 32 bits of a varint's number, as a signed number (Protocol Buffers encoding, `varint_to_int32`).
+pub(crate) fn varint_to_int32(number: u64) -> i32
+    ensures { result ≡ varint_to_int32 number }
 {
     ((number % (1 << 32)) as u32).cast_signed()
 }
 
 /// Appends the numbers of a packed payload, whose record's key is at offset `at`. After an error some numbers may be appended.
-fn append_unpacked(numbers: &mut Vec<i32>, payload: &[u8], at: usize) -> Result<(), WireFault>
+fn decode_packed_into(numbers: &mut Vec<i32>, payload: &[u8], at: usize) -> Result<(), WireFault>
     ensures clean { OnOk result (result_err (packed at payload.now) ≡ None) }
     ensures numbers { OnOk result (numbers.new.items ≡ numbers.old.items ++ result_unwrap_or (packed at payload.now) []) }
-    ensures err { IfErr result (λ e. Stops e (result_err (packed at payload.now))) }
+    ensures err { IfErr result (λ e. IsFaultOrMemory e (result_err (packed at payload.now))) }
     ensures retained { take (length numbers.old.items) numbers.new.items ≡ numbers.old.items }
 {
     let mut rest = payload;
     while !rest.is_empty() {
         let (number, after) = read_varint(at, rest)?;
-        numbers.push(int32(number))?;
+        numbers.push(varint_to_int32(number))?;
         rest = after;
     }
     Ok(())
@@ -45,7 +46,7 @@ pub fn packed_values(alloc: Global, payload: &[u8], at: usize) -> Result<Vec<i32
     ensures only { (o : Result (List ℤ) WireFault) → IsPackedOutcome at payload.now o → HasOutcome (λ v. v.items) result (λ p. p ≡ o) }
 {
     let mut numbers = Vec::new(alloc);
-    append_unpacked(&mut numbers, payload, at)?;
+    decode_packed_into(&mut numbers, payload, at)?;
     Ok(numbers)
 }
 
@@ -53,7 +54,7 @@ pub fn packed_values(alloc: Global, payload: &[u8], at: usize) -> Result<Vec<i32
 /// Fails with `Truncated` or `LongVarint`, with the offset of the record's key, and with `Memory` if an allocation fails. Some numbers may
 /// then be appended.
 #[tactic(auto, unfolding(crate::specs::Messages::if_field, crate::specs::Messages::field_fault))]
-pub fn take_numbers(
+pub fn decode_numbers(
     field: u32,
     numbers: &mut Vec<i32>,
     wire: &WireRecord,
@@ -64,7 +65,7 @@ pub fn take_numbers(
     // With `Ok` the numbers of a record of this field are appended.
     ensures numbers { let p = payload_record wire.now payload.now in OnOk result (numbers.new.items ≡ numbers.old.items ++ if_field field wire.now (numbers_in p)) }
     // The error is the fault of the record, or `Memory`.
-    ensures err { let p = payload_record wire.now payload.now in IfErr result (λ e. Stops e (field_fault field wire.now (numbers_fault p))) }
+    ensures err { let p = payload_record wire.now payload.now in IfErr result (λ e. IsFaultOrMemory e (field_fault field wire.now (numbers_fault p))) }
     // The earlier numbers are a prefix of the new ones, also after an error.
     ensures retained { take (length numbers.old.items) numbers.new.items ≡ numbers.old.items }
 {
@@ -73,15 +74,16 @@ pub fn take_numbers(
     }
     match wire.value {
         WireValue::Varint(number) => {
-            numbers.push(int32(number))?;
+            numbers.push(varint_to_int32(number))?;
             Ok(())
         }
-        WireValue::Bytes(_) => append_unpacked(numbers, payload, wire.at),
+        WireValue::Bytes(_) => decode_packed_into(numbers, payload, wire.at),
         WireValue::Eight | WireValue::Four => Ok(()),
     }
 }
 
-/// Validates a packed payload, and fails as `append_unpacked` does. Stores no number.
+/// Validates a packed payload whose record's key is at offset `at`. Fails with `Truncated` or `LongVarint`, with this offset. Stores no
+/// number.
 fn check_packed(payload: &[u8], at: usize) -> Result<(), WireFault>
     ensures clean { OnOk result (result_err (packed at payload.now) ≡ None) }
     ensures err { IfErr result (λ e. result_err (packed at payload.now) ≡ Some e) }
@@ -94,7 +96,7 @@ fn check_packed(payload: &[u8], at: usize) -> Result<(), WireFault>
     Ok(())
 }
 
-/// Validates the numbers of the record if it is of this repeated field, and fails as `take_numbers` does. Allocates nothing.
+/// Validates the numbers of the record if it is of this repeated field, and fails as `decode_numbers` does. Allocates nothing.
 #[tactic(auto, unfolding(crate::specs::Messages::field_fault))]
 pub fn check_numbers(field: u32, wire: &WireRecord, payload: &[u8]) -> Result<(), WireFault>
     // With `Ok` a record of this field has no fault.
@@ -112,7 +114,7 @@ pub fn check_numbers(field: u32, wire: &WireRecord, payload: &[u8]) -> Result<()
 }
 
 /// Whether the fault is `Memory`.
-fn is_memory(fault: WireFault) -> bool
+fn is_memory_fault(fault: WireFault) -> bool
     ensures { result ≡ true ↔ fault ≡ Memory }
 {
     match fault {
@@ -126,7 +128,7 @@ fn is_memory(fault: WireFault) -> bool
     }
 }
 
-/// Appends the numbers of the record, as `take_numbers` does, but none of a payload that isn't a sequence of varints.
+/// Appends the numbers of the record, as `decode_numbers` does, but none of a payload that isn't a sequence of varints.
 /// Fails with `AllocError` if an allocation fails. Some numbers may then be appended.
 #[tactic(auto, unfolding(crate::specs::Messages::if_field))]
 pub(crate) fn append_field_numbers(
@@ -138,9 +140,9 @@ pub(crate) fn append_field_numbers(
     ensures numbers { let p = payload_record wire.now payload.now in OnOk result (numbers.new.items ≡ numbers.old.items ++ if_field field wire.now (numbers_in p)) }
 {
     let before = numbers.len();
-    match take_numbers(field, numbers, wire, payload) {
+    match decode_numbers(field, numbers, wire, payload) {
         Ok(()) => Ok(()),
-        Err(fault) if is_memory(fault) => Err(AllocError),
+        Err(fault) if is_memory_fault(fault) => Err(AllocError),
         Err(_) => {
             numbers.truncate(before);
             Ok(())
@@ -150,7 +152,7 @@ pub(crate) fn append_field_numbers(
 
 /// Stores the number of the record if the record is of this field: the low 32 bits of its varint.
 #[tactic(auto, unfolding(crate::specs::Messages::if_field))]
-pub fn take_number(field: u32, number: &mut i32, wire: &WireRecord)
+pub fn decode_number(field: u32, number: &mut i32, wire: &WireRecord)
     // The number is that of the record if the record is of this field and has one, and otherwise unchanged.
     ensures { number.new ≡ latest number.old (if_field field wire.now (value_number wire.now.value)) }
 {
@@ -158,11 +160,11 @@ pub fn take_number(field: u32, number: &mut i32, wire: &WireRecord)
         return;
     }
     if let WireValue::Varint(given) = wire.value {
-        *number = int32(given);
+        *number = varint_to_int32(given);
     }
 }
 
-/// Validates the string of the record if the record is of this field, and fails as `take_text` does. Allocates nothing.
+/// Validates the string of the record if the record is of this field, and fails as `decode_text` does. Allocates nothing.
 #[tactic(auto, unfolding(crate::specs::Messages::field_fault))]
 pub fn check_text(field: u32, wire: &WireRecord, payload: &[u8]) -> Result<(), WireFault>
     // With `Ok` a record of this field has no fault.
@@ -185,7 +187,7 @@ pub fn check_text(field: u32, wire: &WireRecord, payload: &[u8]) -> Result<(), W
 /// Fails with `BadText`, with the offset of the record's key, if the payload isn't UTF-8, and with `Memory` if an allocation fails. The
 /// string is then unchanged.
 #[tactic(auto, unfolding(crate::specs::Messages::if_field, crate::specs::Messages::field_fault))]
-pub fn take_text(
+pub fn decode_text(
     alloc: Global,
     field: u32,
     text: &mut String,
@@ -197,7 +199,7 @@ pub fn take_text(
     // With `Ok` the string is that of the record if the record is of this field and has a payload, and otherwise unchanged.
     ensures text { let p = payload_record wire.now payload.now in OnOk result (string_bytes text.new ≡ latest (string_bytes text.old) (if_field field wire.now (bytes_in p))) }
     // The error is the fault of the record, or `Memory`.
-    ensures err { let p = payload_record wire.now payload.now in IfErr result (λ e. Stops e (field_fault field wire.now (text_fault p))) }
+    ensures err { let p = payload_record wire.now payload.now in IfErr result (λ e. IsFaultOrMemory e (field_fault field wire.now (text_fault p))) }
     // After an error nothing is changed.
     ensures retained { OnErr result (string_bytes text.new ≡ string_bytes text.old) }
 {
@@ -217,7 +219,7 @@ pub fn take_text(
 /// Fails with `BadText`, with the offset of the record's key, if the payload isn't UTF-8, and with `Memory` if an allocation fails. The
 /// list is then unchanged.
 #[tactic(auto, unfolding(crate::specs::Messages::if_field, crate::specs::Messages::field_fault))]
-pub fn take_texts(
+pub fn decode_texts(
     alloc: Global,
     field: u32,
     texts: &mut Vec<String>,
@@ -229,7 +231,7 @@ pub fn take_texts(
     // With `Ok` the string of a record of this field is appended.
     ensures texts { let p = payload_record wire.now payload.now in OnOk result (map string_bytes texts.new.items ≡ map string_bytes texts.old.items ++ if_field field wire.now (bytes_in p)) }
     // The error is the fault of the record, or `Memory`.
-    ensures err { let p = payload_record wire.now payload.now in IfErr result (λ e. Stops e (field_fault field wire.now (text_fault p))) }
+    ensures err { let p = payload_record wire.now payload.now in IfErr result (λ e. IsFaultOrMemory e (field_fault field wire.now (text_fault p))) }
     // After an error nothing is changed.
     ensures retained { OnErr result (texts.new.items ≡ texts.old.items) }
 {

@@ -14,7 +14,7 @@ use crate::encoding::{
 use crate::scratch::Scratch;
 use std::alloc::AllocError;
 
-/// Appends a number as a field of this number, unless it is 0. A negative one takes ten bytes.
+/// Appends `number` as the field with the field number `field`, unless it is 0. A negative number takes ten bytes.
 /// Fails with `AllocError` if an allocation fails. The bytes are then unspecified.
 pub fn append_number(out: &mut Vec<u8>, field: u32, number: i32) -> Result<(), AllocError>
     // The field number is valid.
@@ -44,7 +44,7 @@ pub fn append_text(out: &mut Vec<u8>, field: u32, text: &str) -> Result<(), Allo
     append_payload_field(out, field, text.as_bytes())
 }
 
-/// Appends numbers as one packed field of this number, unless there are none.
+/// Appends `numbers` as one packed field with the field number `field`, unless the list is empty.
 /// Fails with `AllocError` if an allocation fails. The bytes are then unspecified.
 pub fn append_packed(
     scratch: &mut Scratch,
@@ -62,7 +62,7 @@ pub fn append_packed(
     if numbers.is_empty() {
         return Ok(());
     }
-    let mut packed = scratch.take();
+    let mut packed = scratch.take_buffer();
     append_packed_numbers(&mut packed, numbers)?;
     append_payload_field(out, field, &packed)?;
     scratch.give_back(packed)
@@ -73,11 +73,11 @@ pub trait Written {
     /// The written form of the message.
     ghost written: { Self → List ℕ };
 
-    /// The numbers of the message fit their types, which the types of the code guarantee.
+    /// Each number of the message fits the type of its field. The Rust types guarantee it.
     ghost fits: { Self → Type 0 };
 
     /// Appends the written form of the message. Fails with `AllocError` if an allocation fails. The bytes are then unspecified.
-    fn push_into(&self, scratch: &mut Scratch, out: &mut Vec<u8>) -> Result<(), AllocError>
+    fn encode_into(&self, scratch: &mut Scratch, out: &mut Vec<u8>) -> Result<(), AllocError>
         ensures bytes { OnOk result (out.new.items ≡ out.old.items ++ written self.now) }
         ensures fits { OnOk result (fits self.now) };
 }
@@ -98,8 +98,8 @@ pub fn append_message<M: Written>(
     // With `Ok` the numbers of the message fit their types.
     ensures fits { OnOk result (M.fits message.now) }
 {
-    let mut payload = scratch.take();
-    message.push_into(scratch, &mut payload)?;
+    let mut payload = scratch.take_buffer();
+    message.encode_into(scratch, &mut payload)?;
     append_payload_field(out, field, &payload)?;
     scratch.give_back(payload)
 }
@@ -125,7 +125,7 @@ pub fn append_messages<M: Written>(
     Ok(())
 }
 
-/// Appends a message as a field of this number, if there is one, even if its written form is empty.
+/// Appends a message as a field of this number, unless it is `None`, even if its written form is empty.
 /// Fails with `AllocError` if an allocation fails. The bytes are then unspecified.
 pub fn append_optional_message<M: Written>(
     scratch: &mut Scratch,

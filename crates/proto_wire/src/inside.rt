@@ -4,9 +4,9 @@
 ghost use Rattle.std.specs.Prelude.{◌≡◌, ◌<◌, ◌≤◌, ◌+◌, ◌^◌, ◌∷◌, [], pos, FitsSigned, IfNone, IfOk, IfSome, OnOk, length};
 ghost use Rattle.std.specs.Int.{w32};
 ghost use Rattle.proto_wire.specs.MessageBytes.{records_of, IsRecordBefore};
-ghost use Rattle.proto_wire.specs.Messages.{bytes_in, each_of, if_field, latest, value_number, number_in, numbers_in, payload_record, nested_records};
+ghost use Rattle.proto_wire.specs.Messages.{bytes_in, field_values, if_field, latest, value_number, number_in, numbers_in, payload_record, nested_records};
 
-use crate::field::{append_field_numbers, int32};
+use crate::field::{append_field_numbers, varint_to_int32};
 use crate::record::{WireRecord, WireValue, read_compact_record, read_record};
 use std::alloc::AllocError;
 
@@ -41,8 +41,7 @@ fn next_record<'a>(rest: &mut MessageBytes<'a>) -> Option<(WireRecord, &'a [u8])
 }
 
 /// Reads the next record and removes it from `rest`, if its key takes one byte, and its number or length takes one byte too. Most records
-/// have this form. Returns the record with its payload, or `None` for any other record.
-/// A caller that expects certain records needs no loop over other forms.
+/// have this form. Returns the record with its payload, or `None` for a record of another form.
 #[inline(always)]
 pub fn next_compact_record<'a>(rest: &mut MessageBytes<'a>) -> Option<(WireRecord, &'a [u8])>
     // Offsets fit 64 bits.
@@ -101,19 +100,20 @@ fn number_or_last(field: u32, last: i32, wire: &WireRecord) -> i32
         return last;
     }
     match wire.value {
-        WireValue::Varint(number) => int32(number),
+        WireValue::Varint(number) => varint_to_int32(number),
         WireValue::Bytes(_) | WireValue::Eight | WireValue::Four => last,
     }
 }
 
-/// Returns the next message of this field, and removes the records up to it from `rest`. `None` if there is no other.
+/// Returns the next message of this field, and removes its record and the records before it from `rest`. `None` if no message of this
+/// field is left.
 pub fn next_message<'a>(field: u32, rest: &mut MessageBytes<'a>) -> Option<MessageBytes<'a>>
     // Offsets fit 64 bits.
     requires { rest.old.start + length rest.old.bytes.now < 2 ^ 64 }
     // Without a result there is no further message of this field.
-    ensures none { IfNone result (each_of field nested_records (records_of rest.old) ≡ []) }
+    ensures none { IfNone result (field_values field nested_records (records_of rest.old) ≡ []) }
     // The result is the first message of this field, and the rest has the other messages.
-    ensures some { IfSome result (λ m. each_of field nested_records (records_of rest.old) ≡ records_of m ∷ each_of field nested_records (records_of rest.new)) }
+    ensures some { IfSome result (λ m. field_values field nested_records (records_of rest.old) ≡ records_of m ∷ field_values field nested_records (records_of rest.new)) }
     // With a result the rest is shorter.
     ensures shorter { IfSome result (λ _. length rest.new.bytes.now < length rest.old.bytes.now) }
     // The end of the rest is unchanged.
@@ -129,10 +129,10 @@ pub fn next_message<'a>(field: u32, rest: &mut MessageBytes<'a>) -> Option<Messa
     None
 }
 
-/// Returns the next message of this field, as `next_message` does, and the last payload of another field in the records that are removed,
-/// or `before` if there is none.
-/// One pass replaces two. Without a further message the payload is the last one of the whole rest.
-pub fn next_message_with_bytes<'a>(
+/// Returns the next message of `field`, as `next_message` does, and the last payload of `bytes_field` in the records that are removed from
+/// `rest`, or `before` if they have none.
+/// One pass replaces two. If no message of `field` is left, all records are removed.
+pub fn next_message_and_last_bytes<'a>(
     field: u32,
     bytes_field: u32,
     before: &'a [u8],
@@ -141,13 +141,13 @@ pub fn next_message_with_bytes<'a>(
     // Offsets fit 64 bits.
     requires { rest.old.start + length rest.old.bytes.now < 2 ^ 64 }
     // Without a result there is no further message of this field.
-    ensures none { IfNone result.0 (each_of field nested_records (records_of rest.old) ≡ []) }
+    ensures none { IfNone result.0 (field_values field nested_records (records_of rest.old) ≡ []) }
     // The result is the first message of this field, and the rest has the other messages.
-    ensures some { IfSome result.0 (λ m. each_of field nested_records (records_of rest.old) ≡ records_of m ∷ each_of field nested_records (records_of rest.new)) }
+    ensures some { IfSome result.0 (λ m. field_values field nested_records (records_of rest.old) ≡ records_of m ∷ field_values field nested_records (records_of rest.new)) }
     // Without a message the payload is the last one of all removed records, or `before`.
-    ensures whole { IfNone result.0 (latest before.now (each_of bytes_field bytes_in (records_of rest.old)) ≡ result.1.now) }
+    ensures whole { IfNone result.0 (latest before.now (field_values bytes_field bytes_in (records_of rest.old)) ≡ result.1.now) }
     // With a message the payload is the last one of the removed records, or `before`.
-    ensures so_far { IfSome result.0 (λ _. latest before.now (each_of bytes_field bytes_in (records_of rest.old)) ≡ latest result.1.now (each_of bytes_field bytes_in (records_of rest.new))) }
+    ensures so_far { IfSome result.0 (λ _. latest before.now (field_values bytes_field bytes_in (records_of rest.old)) ≡ latest result.1.now (field_values bytes_field bytes_in (records_of rest.new))) }
     // With a result the rest is shorter.
     ensures shorter { IfSome result.0 (λ _. length rest.new.bytes.now < length rest.old.bytes.now) }
     // The end of the rest is unchanged.
@@ -170,7 +170,7 @@ pub fn last_bytes<'a>(field: u32, message: MessageBytes<'a>) -> &'a [u8]
     // Offsets fit 64 bits.
     requires { message.start + length message.bytes.now < 2 ^ 64 }
     // The result is the last payload of the field, or is empty.
-    ensures { result.now ≡ latest [] (each_of field bytes_in (records_of message.entry)) }
+    ensures { result.now ≡ latest [] (field_values field bytes_in (records_of message.entry)) }
 {
     let mut rest = message;
     let mut last: &[u8] = &[];
@@ -185,7 +185,7 @@ pub fn last_number(field: u32, message: MessageBytes<'_>) -> i32
     // Offsets fit 64 bits.
     requires { message.start + length message.bytes.now < 2 ^ 64 }
     // The result is the last number of the field, or 0.
-    ensures { result ≡ latest (pos 0) (each_of field number_in (records_of message.entry)) }
+    ensures { result ≡ latest (pos 0) (field_values field number_in (records_of message.entry)) }
 {
     let mut rest = message;
     let mut last = 0;
@@ -204,9 +204,9 @@ pub fn last_bytes_and_number<'a>(
     // Offsets fit 64 bits.
     requires { message.start + length message.bytes.now < 2 ^ 64 }
     // The first result is the last payload of its field, or is empty.
-    ensures text { result.0.now ≡ latest [] (each_of text_field bytes_in (records_of message.entry)) }
+    ensures text { result.0.now ≡ latest [] (field_values text_field bytes_in (records_of message.entry)) }
     // The second result is the last number of its field, or 0.
-    ensures number { result.1 ≡ latest (pos 0) (each_of number_field number_in (records_of message.entry)) }
+    ensures number { result.1 ≡ latest (pos 0) (field_values number_field number_in (records_of message.entry)) }
 {
     let mut rest = message;
     let mut text: &[u8] = &[];
@@ -229,7 +229,7 @@ pub fn read_field_numbers(
     // Offsets fit 64 bits.
     requires { message.start + length message.bytes.now < 2 ^ 64 }
     // With `Ok` the list has exactly the numbers of the field, in order.
-    ensures { OnOk result (numbers.new.items ≡ each_of field numbers_in (records_of message.entry)) }
+    ensures { OnOk result (numbers.new.items ≡ field_values field numbers_in (records_of message.entry)) }
 {
     let mut rest = message;
     numbers.clear();
@@ -239,8 +239,8 @@ pub fn read_field_numbers(
     Ok(())
 }
 
-/// The last payload of one field, or empty bytes. Replaces the content of `numbers` by the numbers of another field, as `read_field_numbers`
-/// does, in one pass.
+/// The last payload of one field, or empty bytes. Replaces the content of `numbers` by the numbers of another field, as
+/// `read_field_numbers` does, in one pass.
 pub fn last_bytes_and_numbers<'a>(
     text_field: u32,
     numbers_field: u32,
@@ -250,9 +250,9 @@ pub fn last_bytes_and_numbers<'a>(
     // Offsets fit 64 bits.
     requires { message.start + length message.bytes.now < 2 ^ 64 }
     // The first result is the last payload of its field, or is empty.
-    ensures text { IfOk result (λ text. text.now ≡ latest [] (each_of text_field bytes_in (records_of message.entry))) }
+    ensures text { IfOk result (λ text. text.now ≡ latest [] (field_values text_field bytes_in (records_of message.entry))) }
     // With `Ok` the list has exactly the numbers of the field, in order.
-    ensures numbers { OnOk result (numbers.new.items ≡ each_of numbers_field numbers_in (records_of message.entry)) }
+    ensures numbers { OnOk result (numbers.new.items ≡ field_values numbers_field numbers_in (records_of message.entry)) }
 {
     let mut rest = message;
     let mut text: &[u8] = &[];

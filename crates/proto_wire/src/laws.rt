@@ -8,17 +8,17 @@ ghost use Rattle.proto_wire.specs.Varints.{IsVarint, varint};
 ghost use Rattle.proto_wire.specs.Records.{AreRecords, IsFirst, IsOutcome, IsRecord, IsStopped, PayloadRecord};
 ghost use Rattle.proto_wire.specs.Packed.{ArePacked, IsPackedOutcome, packed};
 ghost use Rattle.proto_wire.specs.Readings.{payload_records, record_in};
-ghost use Rattle.proto_wire.specs.Messages.{bytes_in, each_of, fault_of, latest, number_in, numbers_in, IsClean, IsFirstFault};
-ghost use Rattle.proto_wire.specs.Writing.{CarryAll, Field, FieldFits, number_fields, packed_fields, packing, payload_fields, piece_at, pieces_at, spelled, spelled_fields, text_fields};
+ghost use Rattle.proto_wire.specs.Messages.{bytes_in, field_values, fault_of, latest, number_in, numbers_in, IsClean, IsFirstFault};
+ghost use Rattle.proto_wire.specs.Writing.{CarryAll, Field, FieldFits, number_fields, packed_fields, packed_payload, payload_fields, piece_at, pieces_at, spelled, spelled_fields, text_fields};
 
 /// Bytes begin with at most one varint, and it encodes one number.
-pub fn one_varint()
+pub fn varint_is_unique()
     // If bytes begin with two varints, these encode one number and are followed by the same bytes.
     ensures { (first rest other after : List ℕ) (n m : ℕ) → IsVarint first n → IsVarint other m → first ++ rest ≡ other ++ after → (n ≡ m) × (rest ≡ after) }
 {}
 
 /// The varint that is written for a number encodes this number, and none of its varints is shorter.
-pub fn shortest_varint()
+pub fn written_varint_is_shortest()
     // The varint of a number below 2^64 encodes this number.
     ensures varint { (n : ℕ) → n < 2 ^ 64 → IsVarint (varint n) n }
     // Each varint of a number has at least as many bytes as the minimal one.
@@ -26,32 +26,32 @@ pub fn shortest_varint()
 {}
 
 /// Bytes have at most one outcome: they are one list of records, or have one first fault, and never both.
-pub fn one_outcome()
+pub fn outcome_is_unique()
     // Two outcomes of one list of bytes are equal.
     ensures { (bytes : List ℕ) (o p : Result (List WireRecord) WireFault) → IsOutcome bytes o → IsOutcome bytes p → o ≡ p }
 {}
 
 /// Any bytes have an outcome: they are a sequence of records, or have a first fault.
-pub fn some_outcome()
+pub fn outcome_exists()
     // Each list of bytes has an outcome.
     ensures { (bytes : List ℕ) → (o : Result (List WireRecord) WireFault) × IsOutcome bytes o }
 {}
 
 /// A packed payload has at most one outcome: one list of numbers, or one fault, and never both.
-pub fn one_packed_outcome()
+pub fn packed_outcome_is_unique()
     // Two outcomes of one payload are equal.
     ensures { (at : ℕ) (payload : List ℕ) (o p : Result (List ℤ) WireFault) → IsPackedOutcome at payload o → IsPackedOutcome at payload p → o ≡ p }
 {}
 
 /// Any packed payload has an outcome: a list of numbers or a fault.
-pub fn some_packed_outcome()
+pub fn packed_outcome_exists()
     // Each payload has an outcome.
     ensures { (at : ℕ) (payload : List ℕ) → (o : Result (List ℤ) WireFault) × IsPackedOutcome at payload o }
 {}
 
 /// The functions that contracts of messages cite agree with the relations: the first record, the records up to the first fault, and the
 /// numbers of a payload.
-pub fn readings_are_exact()
+pub fn record_functions_match_relations()
     // `record_in` gives exactly the first record or its fault.
     ensures first { (at : ℕ) (bytes : List ℕ) (o : Result (PayloadRecord × List ℕ) WireFault) → (record_in at bytes ≡ o) ↔ IsFirst at bytes o }
     // `payload_records` gives records without a fault if and only if the bytes are these records.
@@ -66,7 +66,7 @@ pub fn readings_are_exact()
 /// records.
 /// It is `None` if and only if the bytes are records without a fault, and a fault if and only if this fault is the first, after records
 /// without one.
-pub fn first_faults_are_exact()
+pub fn fault_of_matches_relations()
     // `fault_of` is `None` if and only if the bytes are records without a fault inside.
     ensures none { (inside : PayloadRecord → Option WireFault) (start : ℕ) (bytes : List ℕ) → (fault_of inside start bytes ≡ None) ↔ ((pieces : List PayloadRecord) × AreRecords start bytes pieces × IsClean inside pieces) }
     // `fault_of` is a fault if and only if it is the first fault of the bytes.
@@ -85,17 +85,17 @@ pub fn what_is_written_is_read()
     // These records have the contents of the fields.
     ensures carried { (at : ℕ) (fs : List Field) → CarryAll (pieces_at at fs) fs }
     // The bytes of packed numbers decode to these numbers.
-    ensures numbers { (zs : List ℤ) → AllByRecursion (FitsSigned w32) zs → ArePacked (packing zs) zs }
+    ensures numbers { (zs : List ℤ) → AllByRecursion (FitsSigned w32) zs → ArePacked (packed_payload zs) zs }
 {}
 
 /// Records that have the content of a written field decode to this content.
 pub fn written_fields_are_decoded()
     // Records of a written number decode to this number.
-    ensures number { (k : ℕ) (z : ℤ) (ps : List PayloadRecord) → FitsSigned w32 z → CarryAll ps (number_fields k z) → latest (pos 0) (each_of k number_in ps) ≡ z }
+    ensures number { (k : ℕ) (z : ℤ) (ps : List PayloadRecord) → FitsSigned w32 z → CarryAll ps (number_fields k z) → latest (pos 0) (field_values k number_in ps) ≡ z }
     // Records of a written string decode to this string.
-    ensures text { (k : ℕ) (text : List ℕ) (ps : List PayloadRecord) → CarryAll ps (text_fields k text) → latest [] (each_of k bytes_in ps) ≡ text }
+    ensures text { (k : ℕ) (text : List ℕ) (ps : List PayloadRecord) → CarryAll ps (text_fields k text) → latest [] (field_values k bytes_in ps) ≡ text }
     // Records of written packed numbers decode to these numbers.
-    ensures numbers { (k : ℕ) (zs : List ℤ) (ps : List PayloadRecord) → AllByRecursion (FitsSigned w32) zs → CarryAll ps (packed_fields k zs) → each_of k numbers_in ps ≡ zs }
+    ensures numbers { (k : ℕ) (zs : List ℤ) (ps : List PayloadRecord) → AllByRecursion (FitsSigned w32) zs → CarryAll ps (packed_fields k zs) → field_values k numbers_in ps ≡ zs }
     // Records of written payloads decode to these payloads.
-    ensures payloads { (k : ℕ) (payloads : List (List ℕ)) (ps : List PayloadRecord) → CarryAll ps (payload_fields k payloads) → each_of k bytes_in ps ≡ payloads }
+    ensures payloads { (k : ℕ) (payloads : List (List ℕ)) (ps : List PayloadRecord) → CarryAll ps (payload_fields k payloads) → field_values k bytes_in ps ≡ payloads }
 {}

@@ -19,7 +19,8 @@ mod writer;
 
 pub use fault::WireFault;
 pub use field::{
-    check_numbers, check_text, packed_values, take_number, take_numbers, take_text, take_texts,
+    check_numbers, check_text, decode_number, decode_numbers, decode_text, decode_texts,
+    packed_values,
 };
 pub use field_encoding::{
     Written, append_message, append_messages, append_number, append_optional_message,
@@ -27,9 +28,9 @@ pub use field_encoding::{
 };
 pub use inside::{
     MessageBytes, last_bytes, last_bytes_and_number, last_bytes_and_numbers, last_number,
-    next_compact_record, next_message, next_message_with_bytes, read_field_numbers,
+    next_compact_record, next_message, next_message_and_last_bytes, read_field_numbers,
 };
-pub use message::{Message, check_message, merge_message, read_message, take_messages};
+pub use message::{Message, check_message, decode_messages, merge_message, read_message};
 pub use record::{WireRecord, WireValue, read_record, records};
 pub use scratch::Scratch;
 pub use varint::append_varint;

@@ -2,7 +2,7 @@
 ghost use Rattle.std.specs.Prelude.{◌≡◌, ◌<◌, ◌≤◌, ◌+◌, ◌-◌, ◌^◌, List, Result, length, IfOk, IfSome, Ok};
 ghost use Rattle.proto_wire.specs.declared.record.WireRecord.{WireRecord};
 ghost use Rattle.proto_wire.specs.declared.fault.WireFault.{WireFault};
-ghost use Rattle.proto_wire.specs.Faults.{Gives, Shows, HasOutcome};
+ghost use Rattle.proto_wire.specs.Faults.{Matches, HasExactOutcome, HasOutcome};
 ghost use Rattle.proto_wire.specs.Records.{IsFirst, IsOutcome};
 ghost use Rattle.proto_wire.specs.Readings.{payload_record_view, fixed_in, payload_in, record_in, value_in};
 
@@ -67,7 +67,7 @@ fn read_fixed(
     count: usize,
     bytes: &[u8],
 ) -> Result<(WireRecord, &[u8], &[u8]), WireFault>
-    ensures value { Gives payload_record_view result (fixed_in count value key.field key.at key.body bytes.now) }
+    ensures value { Matches payload_record_view result (fixed_in count value key.field key.at key.body bytes.now) }
     ensures shorter { IfOk result (λ x. length x.2.now ≤ length bytes.now) }
     ensures inside { IfOk result (λ x. x.0.body + length x.1.now ≤ key.body) }
 {
@@ -80,7 +80,7 @@ fn read_fixed(
 /// Reads a length and a payload of that many bytes. Returns the record with its payload and the remaining bytes.
 fn read_payload(key: Key, bytes: &[u8]) -> Result<(WireRecord, &[u8], &[u8]), WireFault>
     requires { key.body + length bytes.now < 2 ^ 64 }
-    ensures value { Gives payload_record_view result (payload_in key.field key.at key.body bytes.now) }
+    ensures value { Matches payload_record_view result (payload_in key.field key.at key.body bytes.now) }
     ensures shorter { IfOk result (λ x. length x.2.now ≤ length bytes.now) }
     ensures inside { IfOk result (λ x. x.0.body + length x.1.now ≤ key.body + length bytes.now) }
 {
@@ -102,7 +102,7 @@ fn read_payload(key: Key, bytes: &[u8]) -> Result<(WireRecord, &[u8], &[u8]), Wi
 #[tactic(auto, unfolding(crate::specs::Readings::value_in))]
 fn read_value(key: Key, kind: u64, bytes: &[u8]) -> Result<(WireRecord, &[u8], &[u8]), WireFault>
     requires { key.body + length bytes.now < 2 ^ 64 }
-    ensures value { Gives payload_record_view result (value_in kind key.field key.at key.body bytes.now) }
+    ensures value { Matches payload_record_view result (value_in kind key.field key.at key.body bytes.now) }
     ensures shorter { IfOk result (λ x. length x.2.now ≤ length bytes.now) }
     ensures inside { IfOk result (λ x. x.0.body + length x.1.now ≤ key.body + length bytes.now) }
 {
@@ -122,7 +122,7 @@ fn read_value(key: Key, kind: u64, bytes: &[u8]) -> Result<(WireRecord, &[u8], &
 #[tactic(auto, unfolding(crate::specs::Readings::record_in))]
 fn read_first_record(at: usize, bytes: &[u8]) -> Result<(WireRecord, &[u8], &[u8]), WireFault>
     requires { at + length bytes.now < 2 ^ 64 }
-    ensures value { Gives payload_record_view result (record_in at bytes.now) }
+    ensures value { Matches payload_record_view result (record_in at bytes.now) }
     ensures shorter { IfOk result (λ x. length x.2.now < length bytes.now) }
     ensures inside { IfOk result (λ x. x.0.body + length x.1.now ≤ at + length bytes.now) }
 {
@@ -215,11 +215,11 @@ fn read_compact_fixed(at: usize, bytes: &[u8]) -> Option<(WireRecord, &[u8], &[u
     }
 }
 
-/// Reads the first record, of any form. It isn't inlined, so that the fast path of `read_record` stays small in its callers.
+/// Reads the first record, whatever its form. It isn't inlined, so that `read_record`, which is, stays small.
 #[inline(never)]
 fn read_general_record(at: usize, bytes: &[u8]) -> Result<(WireRecord, &[u8], &[u8]), WireFault>
     requires { at + length bytes.now < 2 ^ 64 }
-    ensures exact { Shows payload_record_view result (IsFirst at bytes.now) }
+    ensures exact { HasExactOutcome payload_record_view result (IsFirst at bytes.now) }
     ensures shorter { IfOk result (λ x. length x.2.now < length bytes.now) }
     ensures inside { IfOk result (λ x. x.0.body + length x.1.now ≤ at + length bytes.now) }
 {
@@ -237,7 +237,7 @@ pub fn read_record(at: usize, bytes: &[u8]) -> Result<(WireRecord, &[u8], &[u8])
     // Offsets fit 64 bits.
     requires { at + length bytes.now < 2 ^ 64 }
     // The result is the first record with its payload and the remaining bytes, or the record's fault.
-    ensures exact { Shows payload_record_view result (IsFirst at bytes.now) }
+    ensures exact { HasExactOutcome payload_record_view result (IsFirst at bytes.now) }
     // The record has at least one byte.
     ensures shorter { IfOk result (λ x. length x.2.now < length bytes.now) }
     // The payload ends within the bytes.

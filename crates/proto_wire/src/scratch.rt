@@ -12,7 +12,7 @@ pub struct Scratch {
 }
 
 impl Scratch {
-    /// No buffers. Allocates nothing.
+    /// A store without buffers. Allocates nothing.
     pub fn new(alloc: Global) -> Self {
         Scratch {
             alloc,
@@ -20,8 +20,8 @@ impl Scratch {
         }
     }
 
-    /// An empty buffer: a returned one, or a new one.
-    pub(crate) fn take(&mut self) -> Vec<u8>
+    /// Takes an empty buffer: one that `give_back` stored, or else a new one.
+    pub(crate) fn take_buffer(&mut self) -> Vec<u8>
         ensures { result.items ≡ [] }
     {
         match self.buffers.pop() {
@@ -33,7 +33,7 @@ impl Scratch {
         }
     }
 
-    /// Returns a buffer for the next payload. If an allocation fails, the buffer is dropped.
+    /// Stores a buffer for the next payload, so that its capacity is reused. If an allocation fails, the buffer is dropped.
     pub(crate) fn give_back(&mut self, buffer: Vec<u8>) -> Result<(), AllocError> {
         self.buffers.push(buffer)?;
         Ok(())

@@ -1,6 +1,6 @@
 //! Varints (Protocol Buffers encoding, "Base 128 Varints"): groups of seven bits, least significant first.
 ghost use Rattle.std.specs.Prelude.{◌≡◌, ◌<◌, ◌%◌, ◌++◌, ℕ, IfOk, IfSome, Ok, OnOk, length};
-ghost use Rattle.proto_wire.specs.Faults.{Gives};
+ghost use Rattle.proto_wire.specs.Faults.{Matches};
 ghost use Rattle.proto_wire.specs.Varints.{varint, varint_in};
 
 use crate::fault::WireFault;
@@ -9,7 +9,7 @@ use std::alloc::AllocError;
 /// Reads a varint of at most `most` bytes, with one recursive call for each byte. Returns its number with the remaining bytes.
 #[tactic(auto, unfolding(crate::specs::Varints::varint_in))]
 fn read_varint_bytewise(most: u8, at: usize, bytes: &[u8]) -> Result<(u64, &[u8]), WireFault>
-    ensures value { Gives (λ x. (x.0, x.1.now)) result (varint_in most at bytes.now) }
+    ensures value { Matches (λ x. (x.0, x.1.now)) result (varint_in most at bytes.now) }
     ensures shorter { IfOk result (λ x. length x.1.now < length bytes.now) }
 {
     if most == 0 {
@@ -18,15 +18,15 @@ fn read_varint_bytewise(most: u8, at: usize, bytes: &[u8]) -> Result<(u64, &[u8]
     match bytes {
         [] => Err(WireFault::Truncated { at }),
         [last, rest @ ..] if *last < 128 => Ok((u64::from(*last), rest)),
-        [low, rest @ ..] => {
+        [low_bits, rest @ ..] => {
             let (high, rest) = read_varint_bytewise(most - 1, at, rest)?;
-            Ok((u64::from(*low % 128) + 128 * (high % (1 << 57)), rest))
+            Ok((u64::from(*low_bits % 128) + 128 * (high % (1 << 57)), rest))
         }
     }
 }
 
 /// The value of the lowest seven bits of a byte.
-fn low(byte: u8) -> u64
+fn low_bits(byte: u8) -> u64
     ensures exact { result ≡ byte % 128 }
     ensures few { result < 128 }
 {
@@ -43,26 +43,33 @@ fn read_short_varint(bytes: &[u8]) -> Option<(u64, &[u8])>
     ensures shorter { IfSome result (λ x. length x.1.now < length bytes.now) }
 {
     match bytes {
-        [a, rest @ ..] if *a < 128 => Some((low(*a), rest)),
-        [a, b, rest @ ..] if *b < 128 => Some((low(*a) + (low(*b) << 7), rest)),
+        [a, rest @ ..] if *a < 128 => Some((low_bits(*a), rest)),
+        [a, b, rest @ ..] if *b < 128 => Some((low_bits(*a) + (low_bits(*b) << 7), rest)),
         [a, b, c, rest @ ..] if *c < 128 => {
-            Some((low(*a) + (low(*b) << 7) + (low(*c) << 14), rest))
+            Some((
+                low_bits(*a) + (low_bits(*b) << 7) + (low_bits(*c) << 14),
+                rest,
+            ))
         }
         [a, b, c, d, rest @ ..] if *d < 128 => Some((
-            low(*a) + (low(*b) << 7) + (low(*c) << 14) + (low(*d) << 21),
+            low_bits(*a) + (low_bits(*b) << 7) + (low_bits(*c) << 14) + (low_bits(*d) << 21),
             rest,
         )),
         [a, b, c, d, e, rest @ ..] if *e < 128 => Some((
-            low(*a) + (low(*b) << 7) + (low(*c) << 14) + (low(*d) << 21) + (low(*e) << 28),
+            low_bits(*a)
+                + (low_bits(*b) << 7)
+                + (low_bits(*c) << 14)
+                + (low_bits(*d) << 21)
+                + (low_bits(*e) << 28),
             rest,
         )),
         _ => None,
     }
 }
 
-/// Reads a varint of at most five bytes. Returns its number with the remaining bytes.
+/// Reads the last bytes of a long varint, at most five, as a varint of their own. Returns its number with the remaining bytes.
 fn read_varint_tail(at: usize, bytes: &[u8]) -> Result<(u64, &[u8]), WireFault>
-    ensures value { Gives (λ x. (x.0, x.1.now)) result (varint_in 5 at bytes.now) }
+    ensures value { Matches (λ x. (x.0, x.1.now)) result (varint_in 5 at bytes.now) }
     ensures shorter { IfOk result (λ x. length x.1.now < length bytes.now) }
 {
     match read_short_varint(bytes) {
@@ -71,30 +78,32 @@ fn read_varint_tail(at: usize, bytes: &[u8]) -> Result<(u64, &[u8]), WireFault>
     }
 }
 
-/// Reads a varint of six to ten bytes, the first five of them at once. Returns its number with the remaining bytes.
+/// Reads a varint of at most ten bytes. If its first five bytes have the continuation bit, they are read at once. Returns its number with
+/// the remaining bytes.
 fn read_long_varint(at: usize, bytes: &[u8]) -> Result<(u64, &[u8]), WireFault>
-    ensures value { Gives (λ x. (x.0, x.1.now)) result (varint_in 10 at bytes.now) }
+    ensures value { Matches (λ x. (x.0, x.1.now)) result (varint_in 10 at bytes.now) }
     ensures shorter { IfOk result (λ x. length x.1.now < length bytes.now) }
 {
     match bytes {
         [a, b, c, d, e, rest @ ..]
             if *a >= 128 && *b >= 128 && *c >= 128 && *d >= 128 && *e >= 128 => {
             let (high, rest) = read_varint_tail(at, rest)?;
-            let number = low(*a)
-                + (low(*b) << 7)
-                + (low(*c) << 14)
-                + (low(*d) << 21)
-                + (low(*e) << 28);
+            let number = low_bits(*a)
+                + (low_bits(*b) << 7)
+                + (low_bits(*c) << 14)
+                + (low_bits(*d) << 21)
+                + (low_bits(*e) << 28);
             Ok((number + ((high % (1 << 29)) << 35), rest))
         }
         _ => read_varint_bytewise(10, at, bytes),
     }
 }
 
-/// Reads a varint of at most ten bytes. Returns its number with the remaining bytes. One call for each byte would take three times as long.
+/// Reads a varint of at most ten bytes, faster than `read_varint_bytewise`, which calls itself for each byte. Returns its number with the
+/// remaining bytes.
 #[inline(never)]
 fn read_general_varint(at: usize, bytes: &[u8]) -> Result<(u64, &[u8]), WireFault>
-    ensures value { Gives (λ x. (x.0, x.1.now)) result (varint_in 10 at bytes.now) }
+    ensures value { Matches (λ x. (x.0, x.1.now)) result (varint_in 10 at bytes.now) }
     ensures shorter { IfOk result (λ x. length x.1.now < length bytes.now) }
 {
     match read_short_varint(bytes) {
@@ -108,13 +117,13 @@ fn read_general_varint(at: usize, bytes: &[u8]) -> Result<(u64, &[u8]), WireFaul
 /// Fails with `Truncated` or `LongVarint`, with the offset `at`. Varints of one or two bytes, the most frequent ones, need no further call.
 #[tactic(auto, unfolding(crate::specs::Varints::varint_in))]
 pub(crate) fn read_varint(at: usize, bytes: &[u8]) -> Result<(u64, &[u8]), WireFault>
-    ensures value { Gives (λ x. (x.0, x.1.now)) result (varint_in 10 at bytes.now) }
+    ensures value { Matches (λ x. (x.0, x.1.now)) result (varint_in 10 at bytes.now) }
     ensures shorter { IfOk result (λ x. length x.1.now < length bytes.now) }
 {
     match bytes {
         [only, rest @ ..] if *only < 128 => Ok((u64::from(*only), rest)),
-        [low, high, rest @ ..] if *high < 128 => {
-            Ok((u64::from(*low % 128) + 128 * u64::from(*high), rest))
+        [low_bits, high, rest @ ..] if *high < 128 => {
+            Ok((u64::from(*low_bits % 128) + 128 * u64::from(*high), rest))
         }
         _ => read_general_varint(at, bytes),
     }

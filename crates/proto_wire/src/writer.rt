@@ -3,8 +3,8 @@ ghost use Rattle.std.specs.Prelude.{◌≡◌, IfNone, IfOk, IfSome, IsOkUnless}
 ghost use Rattle.std.specs.Result.{result_err};
 ghost use Rattle.byte_sink.specs.Sinks.{failures_after, failures_by, Writes};
 ghost use Rattle.proto_wire.specs.Records.{IsField};
-ghost use Rattle.proto_wire.specs.Writing.{head_of, number_field, packing, payload_field, spelled};
-ghost use Rattle.proto_wire.specs.Writers.{answer_of, is_failure, WritesRecord};
+ghost use Rattle.proto_wire.specs.Writing.{head_of, number_field, packed_payload, payload_field, spelled};
+ghost use Rattle.proto_wire.specs.Writers.{result_of_error, is_failure, WritesRecord};
 
 use crate::WireFault;
 use crate::encoding::{append_packed_numbers, append_payload_head, append_varint_field};
@@ -28,13 +28,13 @@ fn write_number<S: Sink>(
 }
 
 /// The bytes that precede a payload of `count` bytes: a key and the length.
-fn head(alloc: Global, field: u32, count: usize) -> Result<Vec<u8>, SinkFault>
+fn payload_head(alloc: Global, field: u32, count: usize) -> Result<Vec<u8>, SinkFault>
     ensures bytes { IfOk result (λ v. v.items ≡ head_of field count) }
     ensures memory { IsOkUnless result SinkFault.Memory }
 {
-    let mut head = Vec::new(alloc);
-    append_payload_head(&mut head, field, count).map_err(|_| SinkFault::Memory)?;
-    Ok(head)
+    let mut payload_head = Vec::new(alloc);
+    append_payload_head(&mut payload_head, field, count).map_err(|_| SinkFault::Memory)?;
+    Ok(payload_head)
 }
 
 /// Writes a record with this payload. After an error the sink has taken a prefix of it.
@@ -47,19 +47,19 @@ fn write_payload<S: Sink>(
     ensures writes { Writes (S.taken sink.old) (S.taken sink.new) result (spelled (payload_field field payload.now)) }
     ensures failures { S.failures sink.new ≡ failures_after result (S.failures sink.old) }
 {
-    let head = head(alloc, field, payload.len())?;
-    write_fully(sink, &head)?;
+    let payload_head = payload_head(alloc, field, payload.len())?;
+    write_fully(sink, &payload_head)?;
     write_fully(sink, payload)
 }
 
 /// Writes a record with these numbers, packed. After an error the sink has taken a prefix of it.
-fn write_numbers<S: Sink>(
+fn write_packed_numbers<S: Sink>(
     alloc: Global,
     field: u32,
     numbers: &[i32],
     sink: &mut S,
 ) -> Result<(), SinkFault>
-    ensures writes { Writes (S.taken sink.old) (S.taken sink.new) result (spelled (payload_field field (packing numbers.now))) }
+    ensures writes { Writes (S.taken sink.old) (S.taken sink.new) result (spelled (payload_field field (packed_payload numbers.now))) }
     ensures failures { S.failures sink.new ≡ failures_after result (S.failures sink.old) }
 {
     let mut payload = Vec::new(alloc);
@@ -94,7 +94,7 @@ impl Writer {
 
     /// Fails with the writer's error, if the writer has failed.
     fn ensure_ok(&self) -> Result<(), WireFault>
-        ensures { result ≡ answer_of self.now }
+        ensures { result ≡ result_of_error self.now }
     {
         match self.error {
             None => Ok(()),
@@ -102,11 +102,11 @@ impl Writer {
         }
     }
 
-    /// Stores the error of a write, if it has one.
+    /// Stores the error of the write that returned `put`, if it failed, and returns it as a `WireFault`.
     fn store_error(&mut self, put: Result<(), SinkFault>) -> Result<(), WireFault>
         requires { self.old ≡ None }
         ensures retained { self.new ≡ result_err put }
-        ensures answer { result ≡ answer_of (result_err put) }
+        ensures answer { result ≡ result_of_error (result_err put) }
     {
         match put {
             Ok(()) => Ok(()),
@@ -133,7 +133,7 @@ impl Writer {
         // If the writer hadn't failed before, the sink counts a failure if and only if the result is `Device`.
         ensures failures { IfNone self.old (S.failures sink.new ≡ failures_by is_failure result (S.failures sink.old)) }
         // The result is the error that the writer now has, or `Ok` if it has none.
-        ensures retained { result ≡ answer_of self.new }
+        ensures retained { result ≡ result_of_error self.new }
         // If the writer had failed before, the writer and the sink are unchanged.
         ensures again { IfSome self.old (λ _. (self.new ≡ self.old) × (sink.new ≡ sink.old)) }
     {
@@ -158,7 +158,7 @@ impl Writer {
         // If the writer hadn't failed before, the sink counts a failure if and only if the result is `Device`.
         ensures failures { IfNone self.old (S.failures sink.new ≡ failures_by is_failure result (S.failures sink.old)) }
         // The result is the error that the writer now has, or `Ok` if it has none.
-        ensures retained { result ≡ answer_of self.new }
+        ensures retained { result ≡ result_of_error self.new }
         // If the writer had failed before, the writer and the sink are unchanged.
         ensures again { IfSome self.old (λ _. (self.new ≡ self.old) × (sink.new ≡ sink.old)) }
     {
@@ -179,16 +179,16 @@ impl Writer {
         // The field number is valid.
         requires { IsField field }
         // If the writer hadn't failed before: With `Ok` the sink took the whole record, otherwise a prefix of it.
-        ensures writes { IfNone self.old (WritesRecord (S.taken sink.old) (S.taken sink.new) result (spelled (payload_field field (packing numbers.now)))) }
+        ensures writes { IfNone self.old (WritesRecord (S.taken sink.old) (S.taken sink.new) result (spelled (payload_field field (packed_payload numbers.now)))) }
         // If the writer hadn't failed before, the sink counts a failure if and only if the result is `Device`.
         ensures failures { IfNone self.old (S.failures sink.new ≡ failures_by is_failure result (S.failures sink.old)) }
         // The result is the error that the writer now has, or `Ok` if it has none.
-        ensures retained { result ≡ answer_of self.new }
+        ensures retained { result ≡ result_of_error self.new }
         // If the writer had failed before, the writer and the sink are unchanged.
         ensures again { IfSome self.old (λ _. (self.new ≡ self.old) × (sink.new ≡ sink.old)) }
     {
         self.ensure_ok()?;
-        let put = write_numbers(alloc, field, numbers, sink);
+        let put = write_packed_numbers(alloc, field, numbers, sink);
         self.store_error(put)
     }
 
@@ -208,7 +208,7 @@ impl Writer {
         // If the writer hadn't failed before, the sink counts a failure if and only if the result is `Device`.
         ensures failures { IfNone self.old (S.failures sink.new ≡ failures_by is_failure result (S.failures sink.old)) }
         // The result is the error that the writer now has, or `Ok` if it has none.
-        ensures retained { result ≡ answer_of self.new }
+        ensures retained { result ≡ result_of_error self.new }
         // If the writer had failed before, the writer and the sink are unchanged.
         ensures again { IfSome self.old (λ _. (self.new ≡ self.old) × (sink.new ≡ sink.old)) }
     {

@@ -7,7 +7,7 @@ use Rattle.std.proofs.lemmas.List.Sums.{sum_by-set}
 use Rattle.std.proofs.lemmas.List.Elements.{All-set}
 use Rattle.residual_graph.specs.declared.arc.Arc.{Arc}
 use Rattle.residual_graph.specs.declared.arc.ResidualArc.{ResidualArc}
-use Rattle.residual_graph.specs.Flows.{IsBalanced, RaisesBy, entering, leaving, pushed}
+use Rattle.residual_graph.specs.Flows.{IsBalanced, RaisesFlowValue, entering, leaving, pushed}
 use Rattle.residual_graph.specs.Graphs.{no_residual_arc, HasArc, IsResidualWalk, head, no_arc, residual, room, tail}
 
 -- a flow of this value, except that node u has this amount of excess
@@ -114,7 +114,7 @@ augmenting_start first path amount within = record {
 }
 
 pub augmenting_end : (first now : List Arc) (path : List ResidualArc) (amount j : ℕ) → Augmenting first now path amount j → length path ≤ j →
-    (a b : ℕ) → a ≢ b → IsResidualWalk first a path b → RaisesBy first now a b amount
+    (a b : ℕ) → a ≢ b → IsResidualWalk first a path b → RaisesFlowValue first now a b amount
 augmenting_end first now path amount j m past a b apart leads value f =
     let (u, c, rest) = m.carried a b value apart f leads in
     let none : drop j path ≡ [] = drop_all j path past in

@@ -8,7 +8,7 @@ use Rattle.digraph.proofs.SpreadMarks.{follow_ends, follow_marked, follow_starts
 use Rattle.residual_graph.specs.declared.arc.Arc.{Arc}
 use Rattle.residual_graph.specs.declared.arc.ResidualArc.{ResidualArc}
 use Rattle.residual_graph.specs.Graphs.{arc_of, head, is_flagged, no_arc, tail, AreClosed, AreReached, Graph, HasArc, HasResidual}
-use Rattle.residual_graph.specs.Spreading.{led_to, step_at, IsFollowing, IsSpreading, LeavesFrom}
+use Rattle.residual_graph.specs.Spreading.{head_at, residual_arc_at, IsFollowing, IsSpreading, LeavesFrom}
 use Rattle.residual_graph.specs.Trees.{IsTree}
 use Rattle.residual_graph.proofs.Searching.{searching_start, tree_more}
 use Rattle.residual_graph.proofs.Walking.{reached}
@@ -25,10 +25,10 @@ pub step_in : (n count : ℕ) → n < count * 2 → n / 2 < count
 step_in n count low = omega arith
 
 -- each residual arc has a number
-pub numbered : (s : ResidualArc) → (n : ℕ) × (step_at n ≡ s) × (n < s.arc * 2 + 2)
+pub numbered : (s : ResidualArc) → (n : ℕ) × (residual_arc_at n ≡ s) × (n < s.arc * 2 + 2)
 numbered s = by s.arc s.forward
   where
-    by : (k : ℕ) (forward : Bool) → (n : ℕ) × (step_at n ≡ record { arc = k; forward = forward }) × (n < k * 2 + 2)
+    by : (k : ℕ) (forward : Bool) → (n : ℕ) × (residual_arc_at n ≡ record { arc = k; forward = forward }) × (n < k * 2 + 2)
     by k true =
         let arc : (2 * k) / 2 ≡ k = half k in
         let forward : ((2 * k) % 2 == 0) ≡ true = eq-eqb ((2 * k) % 2) 0 (omega arith) in
@@ -59,29 +59,29 @@ module _ (arcs : List Arc) (nodes : ℕ) (between : All (λ r. (r.from < nodes) 
 
 module _ (arcs : List Arc) (start : ℕ) (reached_flags : List Bool) (waiting : List ℕ) (v : ℕ) where
   pub following_starts : (next : ℕ) → IsLast (LeavesFrom arcs v) (length arcs * 2) next → IsSpreading arcs start reached_flags (waiting ++ v ∷ []) → IsFollowing arcs start reached_flags waiting v next
-  following_starts next last s = record { tree = s.tree; spread = follow_starts (LeavesFrom arcs) (led_to arcs) (length arcs * 2) reached_flags waiting v next last s.spread }
+  following_starts next last s = record { tree = s.tree; spread = follow_starts (LeavesFrom arcs) (head_at arcs) (length arcs * 2) reached_flags waiting v next last s.spread }
 
   pub following_ends : IsFollowing arcs start reached_flags waiting v 0 → IsSpreading arcs start reached_flags waiting
-  following_ends f = record { tree = f.tree; spread = follow_ends (LeavesFrom arcs) (led_to arcs) (length arcs * 2) reached_flags waiting v f.spread }
+  following_ends f = record { tree = f.tree; spread = follow_ends (LeavesFrom arcs) (head_at arcs) (length arcs * 2) reached_flags waiting v f.spread }
 
   module _ (number next : ℕ) (low : number < length arcs * 2) (own : LeavesFrom arcs v number) (last : IsLast (LeavesFrom arcs v) number next) (f : IsFollowing arcs start reached_flags waiting v (number + 1)) where
     -- what it leads to has its flag set already
-    pub follows_marked : is_flagged reached_flags (led_to arcs number) ≡ true → IsFollowing arcs start reached_flags waiting v next
-    follows_marked on = record { tree = f.tree; spread = follow_marked (LeavesFrom arcs) (led_to arcs) (length arcs * 2) reached_flags waiting v number next last f.spread on }
+    pub follows_marked : is_flagged reached_flags (head_at arcs number) ≡ true → IsFollowing arcs start reached_flags waiting v next
+    follows_marked on = record { tree = f.tree; spread = follow_marked (LeavesFrom arcs) (head_at arcs) (length arcs * 2) reached_flags waiting v number next last f.spread on }
 
     -- it gets one, and waits
-    pub follows_unmarked : led_to arcs number < length reached_flags → is_flagged reached_flags (led_to arcs number) ≡ false →
-        IsFollowing arcs start (set reached_flags (led_to arcs number) true) (waiting ++ led_to arcs number ∷ []) v next
+    pub follows_unmarked : head_at arcs number < length reached_flags → is_flagged reached_flags (head_at arcs number) ≡ false →
+        IsFollowing arcs start (set reached_flags (head_at arcs number) true) (waiting ++ head_at arcs number ∷ []) v next
     follows_unmarked within off =
-        let to = led_to arcs number in
-        let (places, tree) = f.tree in
+        let to = head_at arcs number in
+        let (visits, tree) = f.tree in
         let (place, in_places, at_place) = tree.placed v f.spread.own in
-        let known : HasArc arcs (step_at number) = step_in number (length arcs) low in
-        let grown = tree_more (record { nodes = length reached_flags; arcs = arcs }) start reached_flags places place (step_at number) tree in_places known (own.1 ∙ sym at_place) within (own.0, off) in
+        let known : HasArc arcs (residual_arc_at number) = step_in number (length arcs) low in
+        let grown = tree_more (record { nodes = length reached_flags; arcs = arcs }) start reached_flags visits place (residual_arc_at number) tree in_places known (own.1 ∙ sym at_place) within (own.0, off) in
         let size : length reached_flags ≡ length (set reached_flags to true) = sym (length-set reached_flags to true) in
         record {
-          tree = (_, subst (λ (m : ℕ). IsTree (record { nodes = m; arcs = arcs }) start (set reached_flags to true) (places ++ (record { node = to; step = step_at number; parent = place }) ∷ [])) size grown);
-          spread = follow_unmarked (LeavesFrom arcs) (led_to arcs) (length arcs * 2) reached_flags waiting v number next last f.spread within;
+          tree = (_, subst (λ (m : ℕ). IsTree (record { nodes = m; arcs = arcs }) start (set reached_flags to true) (visits ++ (record { node = to; step = residual_arc_at number; parent = place }) ∷ [])) size grown);
+          spread = follow_unmarked (LeavesFrom arcs) (head_at arcs) (length arcs * 2) reached_flags waiting v number next last f.spread within;
         }
 
 -- ---- the whole
@@ -96,7 +96,7 @@ spreading_starts arcs start nodes low =
     let first = searching_start g start (record { arc = 0; forward = false }) low in
     record {
       tree = (_, subst (λ (m : ℕ). IsTree (record { nodes = m; arcs = arcs }) start (set (replicate nodes false) start true) ((record { node = start; step = record { arc = 0; forward = false }; parent = 0 }) ∷ [])) (sym first.tree.size) first.tree);
-      spread = spread_starts start nodes (LeavesFrom arcs) (led_to arcs) (length arcs * 2) low;
+      spread = spread_starts start nodes (LeavesFrom arcs) (head_at arcs) (length arcs * 2) low;
     }
 
 module _ (arcs : List Arc) (start : ℕ) (reached_flags : List Bool) (s : IsSpreading arcs start reached_flags []) where
@@ -104,7 +104,7 @@ module _ (arcs : List Arc) (start : ℕ) (reached_flags : List Bool) (s : IsSpre
   spread_closed step known left on =
       let (n, is, low) = numbered step in
       let in_arcs : n < length arcs * 2 = omega arith in
-      let followed = s.spread.followed n (tail arcs (step_at n)) in_arcs (subst (HasResidual arcs) (sym is) left, refl) (subst (λ (r : ResidualArc). is_flagged reached_flags (tail arcs r) ≡ true) (sym is) on) in
+      let followed = s.spread.followed n (tail arcs (residual_arc_at n)) in_arcs (subst (HasResidual arcs) (sym is) left, refl) (subst (λ (r : ResidualArc). is_flagged reached_flags (tail arcs r) ≡ true) (sym is) on) in
       elim followed [
         | inl done ↦ subst (λ (r : ResidualArc). is_flagged reached_flags (head arcs r) ≡ true) is done
         | inr w ↦ absurd (omega (arith, w.1))
@@ -112,5 +112,5 @@ module _ (arcs : List Arc) (start : ℕ) (reached_flags : List Bool) (s : IsSpre
 
   pub spread_reached : (nodes : ℕ) → length reached_flags ≡ nodes → AreReached (record { nodes = nodes; arcs = arcs }) start reached_flags
   spread_reached nodes size =
-      let (places, tree) = s.tree in
-      subst (λ (m : ℕ). AreReached (record { nodes = m; arcs = arcs }) start reached_flags) size (reached (record { nodes = length reached_flags; arcs = arcs }) start reached_flags places tree spread_closed)
+      let (visits, tree) = s.tree in
+      subst (λ (m : ℕ). AreReached (record { nodes = m; arcs = arcs }) start reached_flags) size (reached (record { nodes = length reached_flags; arcs = arcs }) start reached_flags visits tree spread_closed)

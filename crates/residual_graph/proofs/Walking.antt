@@ -24,16 +24,16 @@ same_arc arcs s t e =
     (ends arcs s.arc s.forward t.forward)
 
 -- the steps so far lead from the index to the end, and were found at later indices
-pub record Walking (g : Graph) (places : List Visit) (end at : ℕ) (back : List ResidualArc) : Type 0 where
-  pub at_in : at < length places
-  pub leads : IsResidualWalk g.arcs (get_or places at no_visit).node (reverse back) (get_or places end no_visit).node
+pub record Walking (g : Graph) (visits : List Visit) (end at : ℕ) (back : List ResidualArc) : Type 0 where
+  pub at_in : at < length visits
+  pub leads : IsResidualWalk g.arcs (get_or visits at no_visit).node (reverse back) (get_or visits end no_visit).node
   pub known : All (HasArc g.arcs) back
   pub left : All (HasResidual g.arcs) back
-  pub later : (n : ℕ) (d : ResidualArc) → n < length back → (q : ℕ) × (at < q) × (q < length places) × ((get_or places q no_visit).step ≡ get_or back n d)
+  pub later : (n : ℕ) (d : ResidualArc) → n < length back → (q : ℕ) × (at < q) × (q < length visits) × ((get_or visits q no_visit).step ≡ get_or back n d)
   pub once : AllPairs (λ s t. s.arc ≢ t.arc) back
 
-pub walking_start : (g : Graph) (places : List Visit) (end : ℕ) → end < length places → Walking g places end end []
-walking_start g places end h = record {
+pub walking_start : (g : Graph) (visits : List Visit) (end : ℕ) → end < length visits → Walking g visits end end []
+walking_start g visits end h = record {
   at_in = h;
   leads = refl;
   known = λ k d i. absurd (omega arith);
@@ -42,11 +42,11 @@ walking_start g places end h = record {
   once = λ i j d h k. absurd (omega arith);
 }
 
-module _ (g : Graph) (start : ℕ) (reached_flags : List Bool) (places : List Visit) (tree : IsTree g start reached_flags places) (end : ℕ) where
-  pub walking_more : (at : ℕ) (back : List ResidualArc) → Walking g places end at back → 0 < at →
-      Walking g places end (get_or places at no_visit).parent (back ++ (get_or places at no_visit).step ∷ [])
+module _ (g : Graph) (start : ℕ) (reached_flags : List Bool) (visits : List Visit) (tree : IsTree g start reached_flags visits) (end : ℕ) where
+  pub walking_more : (at : ℕ) (back : List ResidualArc) → Walking g visits end at back → 0 < at →
+      Walking g visits end (get_or visits at no_visit).parent (back ++ (get_or visits at no_visit).step ∷ [])
   walking_more at back w positive =
-      let p = get_or places at no_visit in
+      let p = get_or visits at no_visit in
       let at_in = w.at_in in
       let f = tree.found at positive at_in in
       let less : p.parent < at = f.earlier in
@@ -54,8 +54,8 @@ module _ (g : Graph) (start : ℕ) (reached_flags : List Bool) (places : List Vi
         at_in = omega arith;
         leads =
             let grown : reverse (back ++ p.step ∷ []) ≡ p.step ∷ reverse back = reverse-append back (p.step ∷ []) in
-            let rest = subst (λ v. IsResidualWalk g.arcs v (reverse back) (get_or places end no_visit).node) (sym f.comes) w.leads in
-            subst (λ v. IsResidualWalk g.arcs (get_or places p.parent no_visit).node v (get_or places end no_visit).node) (sym grown) (f.leaves, rest);
+            let rest = subst (λ v. IsResidualWalk g.arcs v (reverse back) (get_or visits end no_visit).node) (sym f.comes) w.leads in
+            subst (λ v. IsResidualWalk g.arcs (get_or visits p.parent no_visit).node v (get_or visits end no_visit).node) (sym grown) (f.leaves, rest);
         known = All-push (HasArc g.arcs) back p.step w.known f.known;
         left = All-push (HasResidual g.arcs) back p.step w.left f.left;
         later = λ n d h. elim (cases_eq n (length back)) [
@@ -68,20 +68,20 @@ module _ (g : Graph) (start : ℕ) (reached_flags : List Bool) (places : List Vi
         once = all_pairs_push (λ s r. s.arc ≢ r.arc) back p.step w.once (λ n d h e.
             let (q, above, in_q, step_is) = w.later n d h in
             let later = tree.found q (omega arith) in_q in
-            let same : p.step.arc ≡ (get_or places q no_visit).step.arc = sym (ap (λ (s : ResidualArc). s.arc) step_is ∙ e) in
-            elim (same_arc g.arcs p.step (get_or places q no_visit).step same) [
+            let same : p.step.arc ≡ (get_or visits q no_visit).step.arc = sym (ap (λ (s : ResidualArc). s.arc) step_is ∙ e) in
+            elim (same_arc g.arcs p.step (get_or visits q no_visit).step same) [
               | inl heads ↦ tree.once at q above in_q (sym f.comes ∙ heads ∙ later.comes)
               | inr turned ↦ tree.once p.parent q (omega arith) in_q (sym f.leaves ∙ turned ∙ later.comes)
             ]);
       }
 
   -- the walk back comes to the start
-  walk : (fuel at : ℕ) (back : List ResidualArc) → at ≤ fuel → Walking g places end at back → (all : List ResidualArc) × Walking g places end 0 all
+  walk : (fuel at : ℕ) (back : List ResidualArc) → at ≤ fuel → Walking g visits end at back → (all : List ResidualArc) × Walking g visits end 0 all
   walk fuel zero back h w = (back, w)
   walk zero (suc at) back h w = absurd (omega arith)
   walk (suc fuel) (suc at) back h w =
       let less = (tree.found (suc at) (omega arith) w.at_in).earlier in
-      walk fuel (get_or places (suc at) no_visit).parent (back ++ (get_or places (suc at) no_visit).step ∷ []) (omega arith)
+      walk fuel (get_or visits (suc at) no_visit).parent (back ++ (get_or visits (suc at) no_visit).step ∷ []) (omega arith)
       (walking_more (suc at) back w (omega arith))
 
 pub All-reverse : (P : ResidualArc → Type 0) (xs : List ResidualArc) → All P xs → All P (reverse xs)
@@ -97,11 +97,11 @@ AllPairs-reverse xs all i j d h in_j e =
     all (length xs - 1 - j) (length xs - 1 - i) d (omega arith) (omega arith)
     (ap (λ (s : ResidualArc). s.arc) (sym (get_or-reverse xs j d in_xs)) ∙ sym e ∙ ap (λ (s : ResidualArc). s.arc) (get_or-reverse xs i d (omega arith)))
 
-pub walking_end : (g : Graph) (start : ℕ) (reached_flags : List Bool) (places : List Visit) → IsTree g start reached_flags places → (end : ℕ) (back : List ResidualArc) → Walking g places end 0 back →
-    IsAugmenting g.arcs start (reverse back) (get_or places end no_visit).node
-walking_end g start reached_flags places tree end back w = record {
+pub walking_end : (g : Graph) (start : ℕ) (reached_flags : List Bool) (visits : List Visit) → IsTree g start reached_flags visits → (end : ℕ) (back : List ResidualArc) → Walking g visits end 0 back →
+    IsAugmenting g.arcs start (reverse back) (get_or visits end no_visit).node
+walking_end g start reached_flags visits tree end back w = record {
   is_path = record {
-    leads = subst (λ v. IsResidualWalk g.arcs v (reverse back) (get_or places end no_visit).node) tree.first w.leads;
+    leads = subst (λ v. IsResidualWalk g.arcs v (reverse back) (get_or visits end no_visit).node) tree.first w.leads;
     known = All-reverse (HasArc g.arcs) back w.known;
     once = AllPairs-reverse back w.once;
   };
@@ -120,15 +120,15 @@ along P arcs on a (s ∷ more) b (e, rest) known left h =
     (on s (known 0 s (omega arith)) (left 0 s (omega arith)) (subst P (sym e) h))
 
 -- the flagged nodes are those that augmenting paths lead to
-pub reached : (g : Graph) (start : ℕ) (reached_flags : List Bool) (places : List Visit) → IsTree g start reached_flags places → AreClosed g.arcs reached_flags → AreReached g start reached_flags
-reached g start reached_flags places t closed =
+pub reached : (g : Graph) (start : ℕ) (reached_flags : List Bool) (visits : List Visit) → IsTree g start reached_flags visits → AreClosed g.arcs reached_flags → AreReached g start reached_flags
+reached g start reached_flags visits t closed =
     record {
       size = t.size;
       each = λ m. (
         λ h.
             let (p, in_places, at_m) = t.placed m h in
-            let (back, w) = walk g start reached_flags places t p p p [] (omega arith) (walking_start g places p in_places) in
-            let way = walking_end g start reached_flags places t p back w in
+            let (back, w) = walk g start reached_flags visits t p p p [] (omega arith) (walking_start g visits p in_places) in
+            let way = walking_end g start reached_flags visits t p back w in
             (subst (λ v. v < g.nodes) at_m (t.listed p in_places).0, (reverse back, subst (IsAugmenting g.arcs start (reverse back)) at_m way)),
         λ (in_m, (path, way)). along (λ n. is_flagged reached_flags n ≡ true) g.arcs closed start path m way.is_path.leads way.is_path.known way.left t.started,
       );

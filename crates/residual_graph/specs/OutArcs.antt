@@ -6,18 +6,18 @@ use Rattle.residual_graph.specs.declared.arc.ResidualArc.{ResidualArc}
 use Rattle.residual_graph.specs.declared.groups.OutArcIndexes.{OutArcIndexes}
 use Rattle.residual_graph.specs.Graphs.{Graph, IsGraph, HasArc, arc_of, no_residual_arc, room, tail}
 
--- a step over this arc, with its head and residual capacity
+-- the residual arc s of the arc r, with its head and residual capacity
 abbrev pub out_arc_of : Arc → ResidualArc → OutArc
 out_arc_of r s = record { step = s; head = if s.forward then r.to else r.from; residual = room r s.forward }
 
--- a step of the graph, with its head and residual capacity
+-- the residual arc s of these arcs, with its head and residual capacity
 abbrev pub out_arc : List Arc → ResidualArc → OutArc
 out_arc arcs s = out_arc_of (arc_of arcs s) s
 
 abbrev pub step_of : OutArc → ResidualArc
 step_of a = a.step
 
--- the residual arc leaves the node, and has its head and residual capacity
+-- the residual arc leaves the node, and its head and residual capacity are those in the graph
 pub record IsOutOf (g : Graph) (node : ℕ) (a : OutArc) : Type 0 where
   pub known : HasArc g.arcs a.step
   pub leaves : tail g.arcs a.step ≡ node
@@ -36,11 +36,11 @@ begin_of begins u = slice_index_or begins u 0
 abbrev pub no_indexes : OutArcIndexes
 no_indexes = record { forward = 0; backward = 0 }
 
--- the index of a step among the residual arcs of its tail
+-- the index of a residual arc among the residual arcs of its tail
 abbrev pub index_of : List OutArcIndexes → ResidualArc → ℕ
 index_of indexes s = if s.forward then (slice_index_or indexes s.arc no_indexes).forward else (slice_index_or indexes s.arc no_indexes).backward
 
--- the residual arc at this index among those of node u, with its head and residual capacity
+-- the residual arc `a`, with its head and residual capacity, has this index among those of node u
 pub record IsOutAt (arcs : List Arc) (indexes : List OutArcIndexes) (u : ℕ) (a : OutArc) (index : ℕ) : Type 0 where
   pub known : HasArc arcs a.step
   pub leaves : tail arcs a.step ≡ u

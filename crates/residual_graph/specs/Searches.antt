@@ -4,6 +4,6 @@ use Rattle.residual_graph.specs.declared.found.SearchResult.{SearchResult}
 use Rattle.residual_graph.specs.Graphs.{Graph}
 use Rattle.residual_graph.specs.Trees.{IsTree}
 
--- the search is one of this graph from the start
+-- the result is that of a search of this graph from the start: its visits form a tree of residual arcs with capacity
 pub record IsSearchOf (g : Graph) (start : ℕ) (found : SearchResult) : Type 0 where
-  pub tree : IsTree g start found.reached_flags.items found.places.items
+  pub tree : IsTree g start found.reached_flags.items found.visits.items

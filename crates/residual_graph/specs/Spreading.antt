@@ -9,28 +9,30 @@ use Rattle.residual_graph.specs.Graphs.{head, tail, HasResidual}
 use Rattle.residual_graph.specs.Trees.{IsTree}
 
 -- the residual arc of this number: arc n / 2, in its direction if n is even
-abbrev pub step_at : ℕ → ResidualArc
-step_at n = record { arc = n / 2; forward = n % 2 == 0 }
+abbrev pub residual_arc_at : ℕ → ResidualArc
+residual_arc_at n = record { arc = n / 2; forward = n % 2 == 0 }
 
 -- the residual arc of this number has capacity, and leaves v
 abbrev pub LeavesFrom : List Arc → ℕ → ℕ → Type 0
-LeavesFrom arcs v n = HasResidual arcs (step_at n) × (tail arcs (step_at n) ≡ v)
+LeavesFrom arcs v n = HasResidual arcs (residual_arc_at n) × (tail arcs (residual_arc_at n) ≡ v)
 
 -- the head of the residual arc of this number
-abbrev pub led_to : List Arc → ℕ → ℕ
-led_to arcs n = head arcs (step_at n)
+abbrev pub head_at : List Arc → ℕ → ℕ
+head_at arcs n = head arcs (residual_arc_at n)
 
--- the lists of the first count residual arcs with capacity by their tails: for each node its last one, and for each of them the previous
--- one
+-- `last` and `before` link, for each node, those of the first `count` residual arcs that leave it and have capacity: `last` has the last
+-- one of each node, and `before` the previous one of each residual arc
 abbrev pub AreArcLists : List Arc → ℕ → List ℕ → List ℕ → ℕ → Type 0
 AreArcLists arcs nodes last before count = AreLinkedLists (LeavesFrom arcs) nodes last before count
 
--- the flagged nodes form a tree of steps from the start, and the heads of their residual arcs are flagged, unless the tail waits
+-- the flagged nodes form a tree of residual arcs from the start; and if a flagged node isn't in the worklist, the heads of its residual
+-- arcs with capacity are flagged
 pub record IsSpreading (arcs : List Arc) (start : ℕ) (reached_flags : List Bool) (waiting : List ℕ) : Type 0 where
-  pub tree : (places : List Visit) × IsTree (record { nodes = length reached_flags; arcs = arcs }) start reached_flags places
-  pub spread : IsSpread (LeavesFrom arcs) (led_to arcs) (length arcs * 2) reached_flags waiting
+  pub tree : (visits : List Visit) × IsTree (record { nodes = length reached_flags; arcs = arcs }) start reached_flags visits
+  pub spread : IsSpread (LeavesFrom arcs) (head_at arcs) (length arcs * 2) reached_flags waiting
 
--- as `IsSpreading`, while the residual arcs of one node are followed in descending order: those with a number below next are left
+-- as `IsSpreading`, but the residual arcs of node `one` whose number is below `next` may lead to unflagged heads: they are followed in
+-- descending order of their numbers
 pub record IsFollowing (arcs : List Arc) (start : ℕ) (reached_flags : List Bool) (waiting : List ℕ) (one next : ℕ) : Type 0 where
-  pub tree : (places : List Visit) × IsTree (record { nodes = length reached_flags; arcs = arcs }) start reached_flags places
-  pub spread : IsSpreadBut (LeavesFrom arcs) (led_to arcs) (length arcs * 2) reached_flags waiting one next
+  pub tree : (visits : List Visit) × IsTree (record { nodes = length reached_flags; arcs = arcs }) start reached_flags visits
+  pub spread : IsSpreadBut (LeavesFrom arcs) (head_at arcs) (length arcs * 2) reached_flags waiting one next

@@ -15,19 +15,19 @@ pub struct Arc {
     pub flow: u64,
 }
 
-/// A residual arc (Goldberg and Tarjan 1988, section 2): an arc in its direction or against it. The steps of paths.
+/// A residual arc (Goldberg and Tarjan 1988, section 2): an arc in its direction or against it. A path is a list of residual arcs.
 #[derive(Clone, Copy)]
 pub struct ResidualArc {
     /// The number of the arc.
     pub arc: usize,
-    /// Whether the step is in the arc's direction.
+    /// Whether the residual arc has the arc's direction.
     pub forward: bool,
 }
 
 /// A residual arc as a search needs it: with its head and its residual capacity, so that the arc need not be read.
 #[derive(Clone, Copy)]
 pub struct OutArc {
-    /// The arc and the direction.
+    /// The number of the arc, and the direction.
     pub step: ResidualArc,
     /// The head.
     pub head: u32,
@@ -35,7 +35,7 @@ pub struct OutArc {
     pub residual: u64,
 }
 
-/// The step with its head and its residual capacity.
+/// The residual arc `step` of `arc`, with its head and its residual capacity.
 pub(crate) fn out_arc_of(arc: Arc, step: ResidualArc) -> OutArc
     requires { arc.flow ≤ arc.capacity }
     ensures { result ≡ out_arc_of arc step }

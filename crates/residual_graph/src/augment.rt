@@ -5,7 +5,7 @@ ghost use Rattle.residual_graph.specs.Graphs.{HasArc, residual, room};
 
 use crate::{Arc, ResidualArc};
 
-/// The arc with this amount more flow, or less against its direction.
+/// The arc with this amount more flow if `forward` is true, otherwise with this amount less.
 pub(crate) fn push(arc: Arc, forward: bool, amount: u64) -> Arc
     requires left { amount ≤ room arc forward }
     requires within { arc.flow ≤ arc.capacity }
@@ -24,7 +24,7 @@ pub(crate) fn push(arc: Arc, forward: bool, amount: u64) -> Arc
     }
 }
 
-/// The residual capacity of a step.
+/// The residual capacity of a residual arc: the capacity less the flow in the arc's direction, the flow against it.
 pub(crate) fn residual_of(arcs: &[Arc], step: ResidualArc) -> u64
     requires known { HasArc arcs.now step }
     requires within { All (λ r. r.flow ≤ r.capacity) arcs.now }
@@ -38,7 +38,7 @@ pub(crate) fn residual_of(arcs: &[Arc], step: ResidualArc) -> u64
     }
 }
 
-/// The bottleneck of a path: the smallest residual capacity of its steps, 2^64 - 1 for a path without steps.
+/// The bottleneck of a path: the smallest residual capacity of its residual arcs, 2^64 - 1 for a path without arcs.
 pub(crate) fn min_residual(arcs: &[Arc], path: &[ResidualArc]) -> u64
     requires known { All (HasArc arcs.now) path.now }
     requires within { All (λ r. r.flow ≤ r.capacity) arcs.now }

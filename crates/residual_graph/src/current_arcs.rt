@@ -9,28 +9,28 @@ use std::alloc::{AllocError, Global};
 /// no push is possible also inspects the skipped arcs.
 #[derive(Drop)]
 pub struct CurrentArcs {
-    passed: Vec<u32>,
+    indices: Vec<u32>,
     any: bool,
 }
 
 impl CurrentArcs {
-    /// All indices are 0. Fails if an allocation fails.
+    /// The current arc of each of `nodes` nodes is its first one, with index 0. Fails if an allocation fails.
     pub fn new(alloc: Global, nodes: u32) -> Result<CurrentArcs, AllocError> {
         Ok(CurrentArcs {
-            passed: vec![in alloc; 0u32; nodes as usize]?,
+            indices: vec![in alloc; 0u32; nodes as usize]?,
             any: false,
         })
     }
 
-    /// The index of the node's current arc; 0 past the end.
-    pub fn passed(&self, node: u32) -> usize {
-        self.passed.get(node as usize).copied().unwrap_or(0) as usize
+    /// The index of the node's current arc; 0 if there is no such node.
+    pub fn current_index(&self, node: u32) -> usize {
+        self.indices.get(node as usize).copied().unwrap_or(0) as usize
     }
 
     /// Sets the index of the node's current arc.
-    pub fn set_current(&mut self, node: u32, passed: usize) {
-        if let Some(written) = self.passed.get_mut(node as usize) {
-            *written = u32::try_from(passed).unwrap_or(0);
+    pub fn set_current(&mut self, node: u32, index: usize) {
+        if let Some(written) = self.indices.get_mut(node as usize) {
+            *written = u32::try_from(index).unwrap_or(0);
             self.any = true;
         }
     }
@@ -38,7 +38,7 @@ impl CurrentArcs {
     /// Resets all indices to 0.
     pub fn reset_all(&mut self) {
         if self.any {
-            self.passed.as_mut_slice().fill(0);
+            self.indices.as_mut_slice().fill(0);
             self.any = false;
         }
     }

@@ -1,13 +1,13 @@
 //! Residual graphs.
 ghost use Rattle.std.specs.Prelude.{ℕ, ◌≡◌, ◌≢◌, ◌<◌, ◌≤◌, ◌^◌, All, AllPairs, Contains, IfOk, map, slice_set};
 ghost use Rattle.residual_graph.specs.declared.arc.ResidualArc.{ResidualArc};
-ghost use Rattle.residual_graph.specs.Flows.{pushed, DifferInFlowOnly, RaisesBy};
+ghost use Rattle.residual_graph.specs.Flows.{pushed, DifferInFlowOnly, RaisesFlowValue};
 ghost use Rattle.residual_graph.specs.Graphs.{arc_of, head, residual, tail, HasArc, IsGraph, IsResidualWalk};
 ghost use Rattle.residual_graph.specs.OutArcs.{step_of, IsOutOf};
 
 use crate::arc::out_arc_of;
 use crate::augment::{min_residual, push, residual_of};
-use crate::groups::{OutArcIndexes, group_sizes_of, placed, range_starts};
+use crate::groups::{OutArcIndexes, count_residual_arcs, out_arcs_by_tail, range_starts};
 use crate::{Arc, OutArc, ResidualArc};
 use std::alloc::{AllocError, Global};
 use std::marker::Model;
@@ -45,9 +45,9 @@ impl ResidualGraph {
         // The graph has these nodes and arcs.
         ensures { IfOk result (λ g. g ≡ record { nodes = nodes; arcs = arcs.items }) }
     {
-        let counted = group_sizes_of(alloc, &arcs, nodes)?;
+        let counted = count_residual_arcs(alloc, &arcs, nodes)?;
         let begins = range_starts(alloc, &counted.sizes)?;
-        let outs = placed(alloc, &arcs, nodes, &begins, &counted)?;
+        let outs = out_arcs_by_tail(alloc, &arcs, nodes, &begins, &counted)?;
         Ok(ResidualGraph {
             nodes,
             arcs,
@@ -62,7 +62,7 @@ impl ResidualGraph {
         // No flow exceeds its capacity, and the ends of arcs are nodes.
         ensures { IsGraph self.now }
     {
-        // Using a field makes the facts of the type known here.
+        // The prover knows the type's invariant only after a use of a field.
         let _ = &self.arcs;
     }
 
@@ -86,7 +86,7 @@ impl ResidualGraph {
     pub fn residual_arcs(&self, node: u32) -> &[OutArc]
         // `node` is a node.
         requires { node < self.now.nodes }
-        // Each leaves the node, and has its head and residual capacity.
+        // Each residual arc leaves the node, and its head and residual capacity are those in the graph.
         ensures each { All (IsOutOf self.now node) result.now }
         // No residual arc of the node is missing.
         ensures all { (s : ResidualArc) → HasArc self.now.arcs s → tail self.now.arcs s ≡ node → Contains (map step_of result.now) s }
@@ -96,11 +96,11 @@ impl ResidualGraph {
         &self.outs[begin..end]
     }
 
-    /// The tail of a step.
+    /// The tail of a residual arc.
     pub fn tail(&self, step: ResidualArc) -> u32
-        // The graph has the step's arc.
+        // The graph has the arc that the residual arc follows.
         requires { HasArc self.now.arcs step }
-        // It is the tail of the step.
+        // It is the tail of the residual arc.
         ensures is { result ≡ tail self.now.arcs step }
         // It is a node.
         ensures node { result < self.now.nodes }
@@ -109,11 +109,11 @@ impl ResidualGraph {
         if step.forward { arc.from } else { arc.to }
     }
 
-    /// The head of a step.
+    /// The head of a residual arc.
     pub fn head(&self, step: ResidualArc) -> u32
-        // The graph has the step's arc.
+        // The graph has the arc that the residual arc follows.
         requires { HasArc self.now.arcs step }
-        // It is the head of the step.
+        // It is the head of the residual arc.
         ensures is { result ≡ head self.now.arcs step }
         // It is a node.
         ensures node { result < self.now.nodes }
@@ -122,26 +122,26 @@ impl ResidualGraph {
         if step.forward { arc.to } else { arc.from }
     }
 
-    /// The residual capacity of a step.
+    /// The residual capacity of a residual arc.
     pub fn residual(&self, step: ResidualArc) -> u64
-        // The graph has the step's arc.
+        // The graph has the arc that the residual arc follows.
         requires { HasArc self.now.arcs step }
-        // It is the residual capacity of the step.
+        // It is the residual capacity of the residual arc.
         ensures { result ≡ residual self.now.arcs step }
     {
         residual_of(&self.arcs, step)
     }
 
-    /// Sends an amount, at most the residual capacity, over a step: adds it to the arc's flow, or subtracts it against the arc's
+    /// Sends an amount, at most the residual capacity, over a residual arc: adds it to the arc's flow, or subtracts it against the arc's
     /// direction.
     pub fn send(&mut self, step: ResidualArc, amount: u64)
-        // The graph has the step's arc.
+        // The graph has the arc that the residual arc follows.
         requires known { HasArc self.old.arcs step }
-        // The step has this residual capacity.
+        // The amount is at most the residual capacity of the residual arc.
         requires left { amount ≤ residual self.old.arcs step }
-        // The nodes are unchanged.
+        // The number of nodes is unchanged.
         ensures nodes { self.new.nodes ≡ self.old.nodes }
-        // Only the flow of the step's arc changes, by the amount.
+        // Only the flow of the arc that the residual arc follows changes, by the amount.
         ensures arcs { self.new.arcs ≡ slice_set self.old.arcs step.arc (pushed (arc_of self.old.arcs step) step.forward amount) }
         // The arcs differ at most in their flow.
         ensures same { DifferInFlowOnly self.old.arcs self.new.arcs }
@@ -167,14 +167,14 @@ impl ResidualGraph {
         );
     }
 
-    /// Sends this amount along the path.
+    /// Sends this amount over each residual arc of the path: the value of a flow between the ends of the path rises by the amount.
     fn send_along(&mut self, path: &[ResidualArc], amount: u64)
         requires known { All (HasArc self.old.arcs) path.now }
         requires left { All (λ s. amount ≤ residual self.old.arcs s) path.now }
         requires once { AllPairs (λ s t. s.arc ≢ t.arc) path.now }
         ensures nodes { self.new.nodes ≡ self.old.nodes }
         ensures same { DifferInFlowOnly self.old.arcs self.new.arcs }
-        ensures raises { (a b : ℕ) → a ≢ b → IsResidualWalk self.old.arcs a path.now b → RaisesBy self.old.arcs self.new.arcs a b amount }
+        ensures raises { (a b : ℕ) → a ≢ b → IsResidualWalk self.old.arcs a path.now b → RaisesFlowValue self.old.arcs self.new.arcs a b amount }
     {
         self.invariants();
         for step in path {
@@ -182,10 +182,10 @@ impl ResidualGraph {
         }
     }
 
-    /// Sends the bottleneck of the path along it, and returns that amount, 2^64 - 1 for a path without steps. The value of each flow
+    /// Sends the bottleneck of the path along it, and returns that amount, 2^64 - 1 for a path without arcs. The value of each flow
     /// between the ends of the path rises by that amount. No arc may occur on the path twice.
     pub fn augment(&mut self, path: &[ResidualArc]) -> u64
-        // The graph has the arc of each step.
+        // The graph has the arc of each residual arc.
         requires known { All (HasArc self.old.arcs) path.now }
         // No arc occurs twice on the path.
         requires once { AllPairs (λ s t. s.arc ≢ t.arc) path.now }
@@ -193,12 +193,12 @@ impl ResidualGraph {
         ensures nodes { self.new.nodes ≡ self.old.nodes }
         // The arcs differ at most in their flow.
         ensures same { DifferInFlowOnly self.old.arcs self.new.arcs }
-        // Each step had this residual capacity.
+        // The amount was at most the residual capacity of each residual arc.
         ensures left { All (λ s. result ≤ residual self.old.arcs s) path.now }
-        // No larger amount fits each step.
+        // No larger amount was at most the residual capacity of each residual arc.
         ensures most { (m : ℕ) → m < 2 ^ 64 → All (λ s. m ≤ residual self.old.arcs s) path.now → m ≤ result }
         // The value of each flow between the ends of the path rises by the amount.
-        ensures raises { (a b : ℕ) → a ≢ b → IsResidualWalk self.old.arcs a path.now b → RaisesBy self.old.arcs self.new.arcs a b result }
+        ensures raises { (a b : ℕ) → a ≢ b → IsResidualWalk self.old.arcs a path.now b → RaisesFlowValue self.old.arcs self.new.arcs a b result }
     {
         let amount = min_residual(&self.arcs, path);
         self.send_along(path, amount);

@@ -1,8 +1,7 @@
 //! Residual graphs (Goldberg and Tarjan 1988, section 2): flows on arcs, augmentation, breadth-first search, and reachability without a
-//! graph.
-//! Depends on `digraph` for linked lists and the worklist of a reachability search.
-//! The main calls are `ResidualGraph::new`, `search`, `ResidualGraph::augment` and `flag_reachable`. `search` and `flag_reachable` find exactly the nodes
-//! that augmenting paths reach; augmenting raises the value of each flow by the bottleneck of the path.
+//! graph. Depends on `digraph` for linked lists and the worklist of a reachability search. The main calls are `ResidualGraph::new`,
+//! `search`, `ResidualGraph::augment` and `flag_reachable`. `search` and `flag_reachable` find exactly the nodes that augmenting paths
+//! reach; augmenting raises the value of each flow by the bottleneck of the path.
 #![tactic(auto)]
 
 mod arc;

@@ -1,4 +1,4 @@
-//! Topological order of a graph by its arcs (Kahn 1962). The order itself isn't proved, only that it has no number but those of nodes.
+//! Topological order of a graph's nodes (Kahn 1962). The contracts promise only that the result consists of nodes, not their order.
 ghost use Rattle.std.specs.Prelude.{◌≡◌, ◌<◌, All, IfOk, OnOk, length, vec_len};
 
 use crate::{Arc, ResidualGraph};
@@ -31,7 +31,7 @@ fn sources_of(alloc: Global, counts: &[u32], nodes: u32) -> Result<Vec<u32>, All
     Ok(free)
 }
 
-/// Removes the arcs that leave the node, and adds the nodes whose in-degree becomes 0.
+/// Subtracts the arcs that leave the node from the in-degrees in `counts`, and appends the nodes whose in-degree becomes 0 to `free`.
 fn remove_node(
     graph: &ResidualGraph,
     node: u32,
@@ -56,7 +56,8 @@ fn remove_node(
     Ok(())
 }
 
-/// The nodes in topological order, if the arcs are acyclic; otherwise without the nodes that cycles reach. Fails if an allocation fails.
+/// The nodes in topological order. If the arcs have cycles, the nodes of cycles and all nodes that they reach are missing. Fails if an
+/// allocation fails.
 pub fn topological_order(alloc: Global, graph: &ResidualGraph) -> Result<Vec<u32>, AllocError>
     // The order has only nodes.
     ensures { IfOk result (λ order. All (λ n. n < graph.now.nodes) order.items) }
@@ -81,13 +82,13 @@ pub fn positions_of(alloc: Global, order: &[u32], nodes: u32) -> Result<Vec<u32>
     // The order has only nodes.
     requires within { All (λ n. n < nodes) order.now }
     // There is an index for each node.
-    ensures { IfOk result (λ places. vec_len places ≡ nodes) }
+    ensures { IfOk result (λ positions. vec_len positions ≡ nodes) }
 {
-    let mut places = vec![in alloc; 0u32; nodes as usize]?;
+    let mut positions = vec![in alloc; 0u32; nodes as usize]?;
     let mut place = 0u32;
     for node in order {
-        places[*node as usize] = place;
+        positions[*node as usize] = place;
         place = place.saturating_add(1);
     }
-    Ok(places)
+    Ok(positions)
 }

@@ -1,4 +1,4 @@
-//! The path of a search to a node.
+//! The augmenting path by which a search reached a node.
 ghost use Rattle.std.specs.Prelude.{ℕ, ◌≡◌, ◌<◌, true, length, IfOk};
 ghost use Rattle.residual_graph.specs.Graphs.{IsAugmenting, is_flagged};
 ghost use Rattle.residual_graph.specs.Searches.{IsSearchOf};
@@ -8,13 +8,13 @@ use crate::found::Visit;
 use crate::{ResidualArc, ResidualGraph, SearchResult};
 use std::alloc::{AllocError, Global};
 
-/// The index of the node's visit; 0 without one.
-fn visit_index(places: &[Visit], node: u32) -> usize
-    ensures within { 0 < result → result < length places.now }
-    ensures found { (p : ℕ) → p < length places.now → (visit_at places.now p).node ≡ node →
-        (result < length places.now) × ((visit_at places.now result).node ≡ node) }
+/// The index of the node's visit; 0, the index of the start, if the node has no visit.
+fn visit_index(visits: &[Visit], node: u32) -> usize
+    ensures within { 0 < result → result < length visits.now }
+    ensures found { (p : ℕ) → p < length visits.now → (visit_at visits.now p).node ≡ node →
+        (result < length visits.now) × ((visit_at visits.now result).node ≡ node) }
 {
-    for (p, place) in places.iter().enumerate() {
+    for (p, place) in visits.iter().enumerate() {
         if place.node == node {
             return p;
         }
@@ -36,9 +36,9 @@ pub fn path_to(
     ensures { IfOk result (λ path. (start : ℕ) → IsSearchOf graph.now start found.now → IsAugmenting graph.now.arcs start path.items node) }
 {
     let mut path = Vec::new(alloc);
-    let mut at = visit_index(&found.places, node);
+    let mut at = visit_index(&found.visits, node);
     while at > 0 {
-        let place = found.places[at];
+        let place = found.visits[at];
         path.push(place.step)?;
         at = place.parent;
     }

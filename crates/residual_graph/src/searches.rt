@@ -8,7 +8,7 @@ use crate::found::Visit;
 use crate::{OutArc, ResidualArc, ResidualGraph, SearchResult};
 use std::alloc::{AllocError, Global};
 
-/// Whether the search takes this residual arc: it has residual capacity, and its head isn't reached yet.
+/// Whether the search follows this residual arc: it has residual capacity, and its head isn't flagged as reached.
 fn extends_search(out: OutArc, reached_flags: &[bool]) -> bool
     requires { out.head < length reached_flags.now }
     ensures { IsTrue result ↔ ((0 < out.residual) × (is_flagged reached_flags.now out.head ≡ false)) }
@@ -16,31 +16,31 @@ fn extends_search(out: OutArc, reached_flags: &[bool]) -> bool
     !reached_flags[out.head as usize] && out.residual > 0
 }
 
-/// Visits the unreached heads of the residual arcs of the node at this index of `places`.
+/// Visits the unreached heads of those residual arcs with capacity that leave the node at index `place` of `visits`.
 fn visit_heads(
     graph: &ResidualGraph,
     place: usize,
     reached_flags: &mut Vec<bool>,
     levels: &mut Vec<u32>,
-    places: &mut Vec<Visit>,
+    visits: &mut Vec<Visit>,
 ) -> Result<(), AllocError>
     requires reached_flags { vec_len reached_flags.old ≡ graph.now.nodes }
     requires levels { vec_len levels.old ≡ graph.now.nodes }
-    requires place { place < vec_len places.old }
-    requires node { (visit_at places.old.items place).node < graph.now.nodes }
+    requires place { place < vec_len visits.old }
+    requires node { (visit_at visits.old.items place).node < graph.now.nodes }
     ensures reached_flags { OnOk result (vec_len reached_flags.new ≡ graph.now.nodes) }
     ensures levels { OnOk result (vec_len levels.new ≡ graph.now.nodes) }
     ensures search { OnOk result ((start : ℕ) →
-        Searching graph.now start reached_flags.old.items places.old.items place [] 0 →
-        Searching graph.now start reached_flags.new.items places.new.items (place + 1) [] 0) }
+        Searching graph.now start reached_flags.old.items visits.old.items place [] 0 →
+        Searching graph.now start reached_flags.new.items visits.new.items (place + 1) [] 0) }
 {
-    let node = places[place].node;
+    let node = visits[place].node;
     let level = levels[node as usize].saturating_add(1);
     for out in graph.residual_arcs(node) {
         if extends_search(*out, reached_flags) {
             reached_flags[out.head as usize] = true;
             levels[out.head as usize] = level;
-            places.push(Visit {
+            visits.push(Visit {
                 node: out.head,
                 step: out.step,
                 parent: place,
@@ -66,10 +66,10 @@ pub fn search(alloc: Global, graph: &ResidualGraph, start: u32) -> Result<Search
 {
     let mut reached_flags = vec![in alloc; false; graph.nodes() as usize]?;
     let mut levels = vec![in alloc; u32::MAX; graph.nodes() as usize]?;
-    let mut places = Vec::new(alloc);
+    let mut visits = Vec::new(alloc);
     reached_flags[start as usize] = true;
     levels[start as usize] = 0;
-    places.push(Visit {
+    visits.push(Visit {
         node: start,
         step: ResidualArc {
             arc: 0,
@@ -78,13 +78,13 @@ pub fn search(alloc: Global, graph: &ResidualGraph, start: u32) -> Result<Search
         parent: 0,
     })?;
     let mut place = 0;
-    while place < places.len() {
-        visit_heads(graph, place, &mut reached_flags, &mut levels, &mut places)?;
+    while place < visits.len() {
+        visit_heads(graph, place, &mut reached_flags, &mut levels, &mut visits)?;
         place += 1;
     }
     Ok(SearchResult {
         reached_flags,
         levels,
-        places,
+        visits,
     })
 }

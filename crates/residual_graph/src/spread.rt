@@ -2,15 +2,15 @@
 ghost use Rattle.std.specs.Prelude.{◌≡◌, ◌<◌, ◌≤◌, ◌*◌, ◌++◌, ◌∷◌, [], ℕ, All, IfOk, OnOk, length, vec_len, if◌then◌else◌};
 ghost use Rattle.digraph.specs.Spreading.{left_over};
 ghost use Rattle.residual_graph.specs.Graphs.{head, tail, AreClosed, AreReached, HasArc};
-ghost use Rattle.residual_graph.specs.Spreading.{step_at, AreArcLists, IsSpreading};
+ghost use Rattle.residual_graph.specs.Spreading.{residual_arc_at, AreArcLists, IsSpreading};
 
 use crate::augment::residual_of;
 use crate::{Arc, ResidualArc};
 use std::alloc::{AllocError, Global};
 
-/// The residual arcs with capacity of each node, as a linked list from the last one back to the first. Residual arc 2k is arc k in its
-/// direction, 2k + 1 is arc k against it. An entry is the number plus one; 0 ends a list. Costs one number for each node and two for each
-/// arc.
+/// For each node a linked list of its residual arcs with capacity, from the last one back to the first. Residual arc 2k is arc k in its
+/// direction, 2k + 1 is arc k against it. A link is the number of a residual arc plus one; 0 ends a list. The lists take one number for
+/// each node and two for each arc.
 #[derive(Drop)]
 struct LinkedLists {
     /// For each node its last residual arc.
@@ -19,8 +19,9 @@ struct LinkedLists {
     before: Vec<usize>,
 }
 
-fn step_at(number: usize) -> ResidualArc
-    ensures { result ≡ step_at number }
+/// The residual arc of this number: arc k in its direction for 2k, against it for 2k + 1.
+fn residual_arc_at(number: usize) -> ResidualArc
+    ensures { result ≡ residual_arc_at number }
 {
     ResidualArc {
         arc: number / 2,
@@ -28,6 +29,7 @@ fn step_at(number: usize) -> ResidualArc
     }
 }
 
+/// The tail of a residual arc.
 fn tail_of(arcs: &[Arc], step: ResidualArc) -> u32
     requires { HasArc arcs.now step }
     ensures { result ≡ tail arcs.now step }
@@ -36,6 +38,7 @@ fn tail_of(arcs: &[Arc], step: ResidualArc) -> u32
     if step.forward { arc.from } else { arc.to }
 }
 
+/// The head of a residual arc.
 fn head_of(arcs: &[Arc], step: ResidualArc) -> u32
     requires { HasArc arcs.now step }
     ensures { result ≡ head arcs.now step }
@@ -44,7 +47,7 @@ fn head_of(arcs: &[Arc], step: ResidualArc) -> u32
     if step.forward { arc.to } else { arc.from }
 }
 
-/// The lists of all nodes.
+/// Links the residual arcs with capacity into a list for each node.
 fn link_by_tail(alloc: Global, arcs: &[Arc], nodes: u32) -> Result<LinkedLists, AllocError>
     requires within { All (λ r. r.flow ≤ r.capacity) arcs.now }
     requires between { All (λ r. (r.from < nodes) × (r.to < nodes)) arcs.now }
@@ -53,7 +56,7 @@ fn link_by_tail(alloc: Global, arcs: &[Arc], nodes: u32) -> Result<LinkedLists, 
     let mut last = vec![in alloc; 0usize; nodes as usize]?;
     let mut before = Vec::with_capacity(alloc, arcs.len() * 2)?;
     for number in 0..arcs.len() * 2 {
-        let step = step_at(number);
+        let step = residual_arc_at(number);
         if residual_of(arcs, step) > 0 {
             let node = tail_of(arcs, step) as usize;
             before.push(last[node])?;
@@ -84,7 +87,7 @@ fn flag_heads(
     let mut next = linked.last[node as usize];
     while next > 0 {
         let number = next - 1;
-        let to = head_of(arcs, step_at(number));
+        let to = head_of(arcs, residual_arc_at(number));
         if !reached_flags[to as usize] {
             reached_flags[to as usize] = true;
             waiting.push(to)?;
@@ -94,8 +97,8 @@ fn flag_heads(
     Ok(())
 }
 
-/// Flags the nodes that augmenting paths from `start` reach, as `search` does in a graph. The ends of each arc are below `nodes`, and its
-/// flow is at most its capacity. Takes time linear in nodes and arcs, which isn't proved. Fails if an allocation fails.
+/// Flags the nodes that augmenting paths from `start` reach, as `search` does, but from a list of arcs without a `ResidualGraph`. Takes
+/// time linear in nodes and arcs, which isn't proved. Fails if an allocation fails.
 pub fn flag_reachable(
     alloc: Global,
     arcs: &[Arc],

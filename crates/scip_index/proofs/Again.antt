@@ -10,7 +10,7 @@ use Rattle.proto_wire.specs.declared.fault.WireFault.{WireFault}
 use Rattle.proto_wire.specs.Records.{PayloadRecord, IsField}
 use Rattle.proto_wire.specs.Readings.{payload_records}
 use Rattle.proto_wire.specs.Messages.{fault_of, numbers_fault, text_fault, message_fault}
-use Rattle.proto_wire.specs.Writing.{Content, Number, Payload, Field, payload_field, number_fields, text_fields, packing, packed_fields, payload_fields, spelled, spelled_fields, head_of, ContentFits, FieldFits, pieces_at, Carries, CarryAll}
+use Rattle.proto_wire.specs.Writing.{Content, Number, Payload, Field, payload_field, number_fields, text_fields, packed_payload, packed_fields, payload_fields, spelled, spelled_fields, head_of, ContentFits, FieldFits, pieces_at, Carries, CarryAll}
 use Rattle.proto_wire.proofs.FieldLaws.{text-good}
 use Rattle.proto_wire.proofs.GivenLaws.{bits-fit, packed-again}
 use Rattle.proto_wire.proofs.WritingLaws.{carry_again}
@@ -83,7 +83,7 @@ number_good inside k (pos zero) some most fits passes = tt
 number_good inside k (pos (suc n)) some most fits passes = (record { is_field = is_field_of k some most; fits = bits-fit (pos (suc n)) fits; none = λ p h. passes p h.number }, tt)
 number_good inside k (negsuc n) some most fits passes = (record { is_field = is_field_of k some most; fits = bits-fit (negsuc n) fits; none = λ p h. passes p h.number }, tt)
 
-numbers_clean : (p : PayloadRecord) (k : ℕ) (zs : List ℤ) → AllByRecursion (FitsSigned w32) zs → Carries p (payload_field k (packing zs)) → numbers_fault p ≡ None
+numbers_clean : (p : PayloadRecord) (k : ℕ) (zs : List ℤ) → AllByRecursion (FitsSigned w32) zs → Carries p (payload_field k (packed_payload zs)) → numbers_fault p ≡ None
 numbers_clean p k zs fits h = rw (h.content.0, h.content.1, packed-again p.wire.at zs fits) refl
 
 pub packed_good : (inside : PayloadRecord → Option WireFault) (k : ℕ) (zs : List ℤ) → 0 < k → k < 100 → AllByRecursion (FitsSigned w32) zs → Passes inside k numbers_fault → AreGood inside (packed_fields k zs)

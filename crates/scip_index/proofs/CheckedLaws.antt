@@ -10,10 +10,10 @@ use Rattle.proto_wire.specs.declared.fault.WireFault.{WireFault}
 use Rattle.proto_wire.specs.declared.fault.WireFault.TheVariants.{BadText}
 use Rattle.proto_wire.specs.declared.record.WireValue.{WireValue}
 use Rattle.proto_wire.specs.declared.record.WireValue.TheVariants.{Varint, Eight, Bytes, Four}
-use Rattle.proto_wire.specs.Faults.{Stops, UnlessMemory}
+use Rattle.proto_wire.specs.Faults.{IsFaultOrMemory, UnlessMemory}
 use Rattle.proto_wire.specs.Records.{PayloadRecord}
 use Rattle.proto_wire.specs.Readings.{payload_records}
-use Rattle.proto_wire.specs.Messages.{value_bytes, bytes_in, each_of, fault_of, field_fault, first_of, if_field, latest, message_fault, value_message_fault, numbers_fault, nested_records, value_records, text_fault, value_text_fault, IsClean, IsFirstFault}
+use Rattle.proto_wire.specs.Messages.{value_bytes, bytes_in, field_values, fault_of, field_fault, first_of, if_field, latest, message_fault, value_message_fault, numbers_fault, nested_records, value_records, text_fault, value_text_fault, IsClean, IsFirstFault}
 use Rattle.proto_wire.proofs.FaultLaws.{UnlessMemory-then}
 use Rattle.proto_wire.proofs.MessageLaws.{first_fault_iff, no_fault_iff}
 use Rattle.proto_wire.proofs.PieceReadings.{records_found}
@@ -25,7 +25,7 @@ pub checked_means : (bytes : List ℕ) (result : Result (Unit {0}) WireFault) �
 checked_means bytes (Ok x) clean = means_from bytes (index_of (payload_records 0 bytes).0) clean refl
 checked_means bytes (Err fault) clean = tt
 
-pub checked_fault : (bytes : List ℕ) (result : Result (Unit {0}) WireFault) → IfErr result (λ e. Stops e (fault_of index_fault 0 bytes)) → IfErr result (λ e. UnlessMemory e (IsFirstFault index_fault 0 bytes e))
+pub checked_fault : (bytes : List ℕ) (result : Result (Unit {0}) WireFault) → IfErr result (λ e. IsFaultOrMemory e (fault_of index_fault 0 bytes)) → IfErr result (λ e. UnlessMemory e (IsFirstFault index_fault 0 bytes e))
 checked_fault bytes (Ok x) err = tt
 checked_fault bytes (Err fault) err = UnlessMemory-then fault err (λ e. (first_fault_iff index_fault 0 bytes fault).0 e)
 
@@ -65,11 +65,11 @@ text_of_field k p e = elim (cases_Bool (p.wire.field == k)) [
   | inr other ↦ rw other tt
 ]
 
-texts_of_document : (pieces : List PayloadRecord) → IsClean document_fault pieces → AllByRecursion IsUtf8 (each_of 1 bytes_in pieces)
-unfolding each_of
+texts_of_document : (pieces : List PayloadRecord) → IsClean document_fault pieces → AllByRecursion IsUtf8 (field_values 1 bytes_in pieces)
+unfolding field_values
 texts_of_document [] clean = tt
 texts_of_document (p ∷ pieces) clean =
-    all_append IsUtf8 (if_field 1 p.wire (bytes_in p)) (each_of 1 bytes_in pieces)
+    all_append IsUtf8 (if_field 1 p.wire (bytes_in p)) (field_values 1 bytes_in pieces)
     (text_of_field 1 p (former (field_fault 1 p.wire (text_fault p)) (first_of (field_fault 2 p.wire (message_fault occurrence_fault p)) (first_of (field_fault 3 p.wire (message_fault symbol_fault p)) (field_fault 4 p.wire (text_fault p)))) clean.0))
     (texts_of_document pieces clean.1)
 
@@ -78,26 +78,26 @@ latest_text old [] h all = h
 latest_text old (t ∷ texts) h all = latest_text t texts all.0 all.1
 
 abbrev pub HasPathText : List PayloadRecord → Type 0
-HasPathText pieces = IsUtf8 (latest [] (each_of 1 bytes_in pieces))
+HasPathText pieces = IsUtf8 (latest [] (field_values 1 bytes_in pieces))
 
 path_text : (pieces : List PayloadRecord) → IsClean document_fault pieces → HasPathText pieces
-path_text pieces clean = latest_text [] (each_of 1 bytes_in pieces) (IsUtf8-from_ascii [] IsAscii-nil) (texts_of_document pieces clean)
+path_text pieces clean = latest_text [] (field_values 1 bytes_in pieces) (IsUtf8-from_ascii [] IsAscii-nil) (texts_of_document pieces clean)
 
 -- ---- symbols
 
-texts_of_occurrence : (pieces : List PayloadRecord) → IsClean occurrence_fault pieces → AllByRecursion IsUtf8 (each_of 2 bytes_in pieces)
-unfolding each_of
+texts_of_occurrence : (pieces : List PayloadRecord) → IsClean occurrence_fault pieces → AllByRecursion IsUtf8 (field_values 2 bytes_in pieces)
+unfolding field_values
 texts_of_occurrence [] clean = tt
 texts_of_occurrence (p ∷ pieces) clean =
     let behind = first_of (field_fault 2 p.wire (text_fault p)) (field_fault 7 p.wire (numbers_fault p)) in
-    all_append IsUtf8 (if_field 2 p.wire (bytes_in p)) (each_of 2 bytes_in pieces)
+    all_append IsUtf8 (if_field 2 p.wire (bytes_in p)) (field_values 2 bytes_in pieces)
     (text_of_field 2 p (former (field_fault 2 p.wire (text_fault p)) (field_fault 7 p.wire (numbers_fault p)) (latter (field_fault 1 p.wire (numbers_fault p)) behind clean.0))) (texts_of_occurrence pieces clean.1)
 
 abbrev pub HasSymbolText : List PayloadRecord → Type 0
-HasSymbolText pieces = IsUtf8 (latest [] (each_of 2 bytes_in pieces))
+HasSymbolText pieces = IsUtf8 (latest [] (field_values 2 bytes_in pieces))
 
 symbol_text : (pieces : List PayloadRecord) → IsClean occurrence_fault pieces → HasSymbolText pieces
-symbol_text pieces clean = latest_text [] (each_of 2 bytes_in pieces) (IsUtf8-from_ascii [] IsAscii-nil) (texts_of_occurrence pieces clean)
+symbol_text pieces clean = latest_text [] (field_values 2 bytes_in pieces) (IsUtf8-from_ascii [] IsAscii-nil) (texts_of_occurrence pieces clean)
 
 -- ---- nested messages
 
@@ -117,31 +117,31 @@ module _ (inside : PayloadRecord → Option WireFault) (Has : List PayloadRecord
   ]
 
 abbrev pub HaveSymbolTexts : List PayloadRecord → Type 0
-HaveSymbolTexts pieces = AllByRecursion HasSymbolText (each_of 2 nested_records pieces)
+HaveSymbolTexts pieces = AllByRecursion HasSymbolText (field_values 2 nested_records pieces)
 
 symbol_texts : (pieces : List PayloadRecord) → IsClean document_fault pieces → HaveSymbolTexts pieces
-unfolding each_of
+unfolding field_values
 symbol_texts [] clean = tt
 symbol_texts (p ∷ pieces) clean =
     let last = first_of (field_fault 3 p.wire (message_fault symbol_fault p)) (field_fault 4 p.wire (text_fault p)) in
     let both = latter (field_fault 1 p.wire (text_fault p)) (first_of (field_fault 2 p.wire (message_fault occurrence_fault p)) last) clean.0 in
-    all_append HasSymbolText (if_field 2 p.wire (nested_records p)) (each_of 2 nested_records pieces)
+    all_append HasSymbolText (if_field 2 p.wire (nested_records p)) (field_values 2 nested_records pieces)
     (message_of_field occurrence_fault HasSymbolText symbol_text 2 p (former (field_fault 2 p.wire (message_fault occurrence_fault p)) last both)) (symbol_texts pieces clean.1)
 
-documents_have : (Has : List PayloadRecord → Type 0) → ((pieces : List PayloadRecord) → IsClean document_fault pieces → Has pieces) → (pieces : List PayloadRecord) → IsClean index_fault pieces → AllByRecursion Has (each_of 2 nested_records pieces)
-unfolding each_of
+documents_have : (Has : List PayloadRecord → Type 0) → ((pieces : List PayloadRecord) → IsClean document_fault pieces → Has pieces) → (pieces : List PayloadRecord) → IsClean index_fault pieces → AllByRecursion Has (field_values 2 nested_records pieces)
+unfolding field_values
 documents_have Has has [] clean = tt
 documents_have Has has (p ∷ pieces) clean =
     let behind = first_of (field_fault 2 p.wire (message_fault document_fault p)) (field_fault 3 p.wire (message_fault symbol_fault p)) in
     let both = latter (field_fault 1 p.wire (message_fault metadata_fault p)) behind clean.0 in
-    all_append Has (if_field 2 p.wire (nested_records p)) (each_of 2 nested_records pieces)
+    all_append Has (if_field 2 p.wire (nested_records p)) (field_values 2 nested_records pieces)
     (message_of_field document_fault Has has 2 p (former (field_fault 2 p.wire (message_fault document_fault p)) (field_fault 3 p.wire (message_fault symbol_fault p)) both))
     (documents_have Has has pieces clean.1)
 
 -- the paths of the documents of bytes that encode an index are UTF-8
-pub paths_are_texts : (bytes : List ℕ) → fault_of index_fault 0 bytes ≡ None → AllByRecursion HasPathText (each_of 2 nested_records (payload_records 0 bytes).0)
+pub paths_are_texts : (bytes : List ℕ) → fault_of index_fault 0 bytes ≡ None → AllByRecursion HasPathText (field_values 2 nested_records (payload_records 0 bytes).0)
 paths_are_texts bytes clean = documents_have HasPathText path_text (payload_records 0 bytes).0 (clean_records index_fault 0 bytes clean)
 
 -- the symbols of their occurrences are UTF-8 too
-pub symbols_are_texts : (bytes : List ℕ) → fault_of index_fault 0 bytes ≡ None → AllByRecursion HaveSymbolTexts (each_of 2 nested_records (payload_records 0 bytes).0)
+pub symbols_are_texts : (bytes : List ℕ) → fault_of index_fault 0 bytes ≡ None → AllByRecursion HaveSymbolTexts (field_values 2 nested_records (payload_records 0 bytes).0)
 symbols_are_texts bytes clean = documents_have HaveSymbolTexts symbol_texts (payload_records 0 bytes).0 (clean_records index_fault 0 bytes clean)

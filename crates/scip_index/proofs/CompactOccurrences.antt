@@ -6,7 +6,7 @@ use Rattle.std.proofs.lemmas.Bool.{eq-eqb}
 use Rattle.std.proofs.lemmas.List.{length-append}
 use Rattle.std.proofs.lemmas.List.Concat.{flat_map-append}
 use Rattle.proto_wire.specs.Varints.{varint}
-use Rattle.proto_wire.specs.Writing.{Field, head_of, number_fields, packing, payload_field, spelled, spelled_fields, text_fields}
+use Rattle.proto_wire.specs.Writing.{Field, head_of, number_fields, packed_payload, payload_field, spelled, spelled_fields, text_fields}
 use Rattle.proto_wire.proofs.VarintLaws.{varint-large, varint-small}
 use Rattle.scip_index.specs.Written.{occurrence_fields, written_occurrence}
 use Rattle.scip_index.specs.Ranges.{range_between}
@@ -92,7 +92,7 @@ unfolding written_occurrence
 written_use line column end text role =
     let symbols = text_fields 2 text in
     let roles = number_fields 3 (pos role) in
-    let range = payload_field 1 (packing (pos line ∷ pos column ∷ pos end ∷ [])) in
+    let range = payload_field 1 (packed_payload (pos line ∷ pos column ∷ pos end ∷ [])) in
     let fields : occurrence_fields (compact_occurrence line column end text role) ≡ range ∷ (symbols ++ roles) = ap (λ (rest : List Field). range ∷ rest) (append-nil (symbols ++ roles)) in
     ap spelled_fields fields ∙ ap (λ (bytes : List ℕ). range_field line column end ++ bytes) (flat_map-append spelled symbols roles)
 

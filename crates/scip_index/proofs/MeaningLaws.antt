@@ -3,8 +3,8 @@ use Rattle.std.proofs.Common.{◌≡◌, ℕ, List, [], ◌∷◌, ◌++◌, map
 use Rattle.std.specs.Prelude.{pos, option_map}
 use Rattle.std.proofs.lemmas.List.{map-append}
 use Rattle.proto_wire.specs.Records.{PayloadRecord}
-use Rattle.proto_wire.specs.Messages.{each_of, if_field, latest, number_in, numbers_in, bytes_in, nested_records, MeansEach, AddsMessages, IsMerged}
-use Rattle.proto_wire.proofs.MessageSteps.{each_of-push, latest-push}
+use Rattle.proto_wire.specs.Messages.{field_values, if_field, latest, number_in, numbers_in, bytes_in, nested_records, MeansEach, AddsMessages, IsMerged}
+use Rattle.proto_wire.proofs.MessageSteps.{field_values-push, latest-push}
 use Rattle.scip_index.specs.Plain.{OccurrenceModel, SymbolModel, DocumentModel, ToolModel, MetadataModel, IndexModel}
 use Rattle.scip_index.specs.Meaning.{occurrence_of, symbol_of, document_of, tool_of, merged, metadata_of, index_of}
 
@@ -43,7 +43,7 @@ occurrence_and o p = record {
 }
 
 pub occurrence-more : (front : List PayloadRecord) (p : PayloadRecord) (old new : OccurrenceModel) → old ≡ occurrence_of front → new ≡ occurrence_and old p → new ≡ occurrence_of (front ++ p ∷ [])
-occurrence-more front p old new h step = step ∙ ap (λ o. occurrence_and o p) h ∙ sym (rw (each_of-push 1 numbers_in front p, latest-push 2 [] bytes_in front p, latest-push 3 (pos 0) number_in front p, each_of-push 7 numbers_in front p) refl)
+occurrence-more front p old new h step = step ∙ ap (λ o. occurrence_and o p) h ∙ sym (rw (field_values-push 1 numbers_in front p, latest-push 2 [] bytes_in front p, latest-push 3 (pos 0) number_in front p, field_values-push 7 numbers_in front p) refl)
 
 abbrev pub symbol_and : SymbolModel → PayloadRecord → SymbolModel
 symbol_and s p = record {
@@ -54,8 +54,8 @@ symbol_and s p = record {
 pub symbol-more : (front : List PayloadRecord) (p : PayloadRecord) (old new : SymbolModel) → old ≡ symbol_of front → new ≡ symbol_and old p → new ≡ symbol_of (front ++ p ∷ [])
 symbol-more front p old new h step = step ∙ ap (λ o. symbol_and o p) h ∙ sym (rw (latest-push 1 [] bytes_in front p, latest-push 6 [] bytes_in front p) refl)
 
-pub mapped-push : {V : Type 0} (k : ℕ) (of : List PayloadRecord → V) (front : List PayloadRecord) (p : PayloadRecord) → map of (each_of k nested_records (front ++ p ∷ [])) ≡ map of (each_of k nested_records front) ++ map of (if_field k p.wire (nested_records p))
-mapped-push k of front p = ap (map of) (each_of-push k nested_records front p) ∙ map-append of (each_of k nested_records front) (if_field k p.wire (nested_records p))
+pub mapped-push : {V : Type 0} (k : ℕ) (of : List PayloadRecord → V) (front : List PayloadRecord) (p : PayloadRecord) → map of (field_values k nested_records (front ++ p ∷ [])) ≡ map of (field_values k nested_records front) ++ map of (if_field k p.wire (nested_records p))
+mapped-push k of front p = ap (map of) (field_values-push k nested_records front p) ∙ map-append of (field_values k nested_records front) (if_field k p.wire (nested_records p))
 
 abbrev pub document_and : DocumentModel → PayloadRecord → DocumentModel
 document_and d p = record {
@@ -78,7 +78,7 @@ tool_and t p = record {
 }
 
 pub tool-more : (front : List PayloadRecord) (p : PayloadRecord) (old new : ToolModel) → old ≡ tool_of front → new ≡ tool_and old p → new ≡ tool_of (front ++ p ∷ [])
-tool-more front p old new h step = step ∙ ap (λ o. tool_and o p) h ∙ sym (rw (latest-push 1 [] bytes_in front p, latest-push 2 [] bytes_in front p, each_of-push 3 bytes_in front p) refl)
+tool-more front p old new h step = step ∙ ap (λ o. tool_and o p) h ∙ sym (rw (latest-push 1 [] bytes_in front p, latest-push 2 [] bytes_in front p, field_values-push 3 bytes_in front p) refl)
 
 -- metadata and one more record, if the tool is present already
 abbrev pub metadata_and : MetadataModel → PayloadRecord → Option ToolModel → MetadataModel
@@ -89,11 +89,11 @@ metadata_and m p tool = record {
   text_document_encoding = latest m.text_document_encoding (if_field 4 p.wire (number_in p));
 }
 
-pub metadata-more : (front : List PayloadRecord) (p : PayloadRecord) (old new : MetadataModel) (tool : Option ToolModel) → old ≡ metadata_of front → tool ≡ merged tool_of (each_of 2 nested_records front ++ if_field 2 p.wire (nested_records p)) → new ≡ metadata_and old p tool
+pub metadata-more : (front : List PayloadRecord) (p : PayloadRecord) (old new : MetadataModel) (tool : Option ToolModel) → old ≡ metadata_of front → tool ≡ merged tool_of (field_values 2 nested_records front ++ if_field 2 p.wire (nested_records p)) → new ≡ metadata_and old p tool
     → new ≡ metadata_of (front ++ p ∷ [])
 metadata-more front p old new tool h t step =
-    step ∙ ap (metadata_and old p) t ∙ ap (λ o. metadata_and o p (merged tool_of (each_of 2 nested_records front ++ if_field 2 p.wire (nested_records p)))) h
-    ∙ sym (rw (latest-push 1 (pos 0) number_in front p, each_of-push 2 nested_records front p, latest-push 3 [] bytes_in front p, latest-push 4 (pos 0) number_in front p) refl)
+    step ∙ ap (metadata_and old p) t ∙ ap (λ o. metadata_and o p (merged tool_of (field_values 2 nested_records front ++ if_field 2 p.wire (nested_records p)))) h
+    ∙ sym (rw (latest-push 1 (pos 0) number_in front p, field_values-push 2 nested_records front p, latest-push 3 [] bytes_in front p, latest-push 4 (pos 0) number_in front p) refl)
 
 abbrev pub index_and : IndexModel → PayloadRecord → Option MetadataModel → IndexModel
 index_and i p metadata = record {
@@ -102,8 +102,8 @@ index_and i p metadata = record {
   external_symbols = i.external_symbols ++ map symbol_of (if_field 3 p.wire (nested_records p));
 }
 
-pub index-more : (front : List PayloadRecord) (p : PayloadRecord) (old new : IndexModel) (metadata : Option MetadataModel) → old ≡ index_of front → metadata ≡ merged metadata_of (each_of 1 nested_records front ++ if_field 1 p.wire (nested_records p)) → new ≡ index_and old p metadata
+pub index-more : (front : List PayloadRecord) (p : PayloadRecord) (old new : IndexModel) (metadata : Option MetadataModel) → old ≡ index_of front → metadata ≡ merged metadata_of (field_values 1 nested_records front ++ if_field 1 p.wire (nested_records p)) → new ≡ index_and old p metadata
     → new ≡ index_of (front ++ p ∷ [])
 index-more front p old new metadata h t step =
-    step ∙ ap (index_and old p) t ∙ ap (λ o. index_and o p (merged metadata_of (each_of 1 nested_records front ++ if_field 1 p.wire (nested_records p)))) h
-    ∙ sym (rw (each_of-push 1 nested_records front p, mapped-push 2 document_of front p, mapped-push 3 symbol_of front p) refl)
+    step ∙ ap (index_and old p) t ∙ ap (λ o. index_and o p (merged metadata_of (field_values 1 nested_records front ++ if_field 1 p.wire (nested_records p)))) h
+    ∙ sym (rw (field_values-push 1 nested_records front p, mapped-push 2 document_of front p, mapped-push 3 symbol_of front p) refl)

@@ -2,7 +2,7 @@
 use Rattle.std.proofs.Common.{◌≡◌, ℕ, List, Option, Some, None, Result, Ok, Err, sym, refl, ap, ◌∙◌}
 use Rattle.std.specs.Prelude.{IfErr, IfOk, OnOk}
 use Rattle.proto_wire.specs.declared.fault.WireFault.{WireFault}
-use Rattle.proto_wire.specs.Faults.{Stops, HasOutcome}
+use Rattle.proto_wire.specs.Faults.{IsFaultOrMemory, HasOutcome}
 use Rattle.proto_wire.specs.Records.{PayloadRecord}
 use Rattle.proto_wire.specs.Readings.{payload_records}
 use Rattle.proto_wire.specs.Messages.{fault_of}
@@ -36,14 +36,14 @@ same_fault x y e = cc
 apart : (fault : WireFault) → ◌≡◌ {A = Option WireFault} None (Some fault) → ⊥
 apart fault e = absurd cc
 
-pub one_outcome : (bytes : List ℕ) (o p : Result IndexModel WireFault) → IsIndexOutcome bytes o → IsIndexOutcome bytes p → o ≡ p
-one_outcome bytes (Ok i) (Ok j) m n = ap (λ (x : IndexModel). Ok x) (one_meaning bytes i j m n)
-one_outcome bytes (Ok i) (Err f) m n = absurd (apart f (sym (no_fault bytes i m) ∙ (first_fault_iff index_fault 0 bytes f).1 n))
-one_outcome bytes (Err f) (Ok j) m n = absurd (apart f (sym (no_fault bytes j n) ∙ (first_fault_iff index_fault 0 bytes f).1 m))
-one_outcome bytes (Err f) (Err g) m n = ap (λ (x : WireFault). Err x) (same_fault f g (sym ((first_fault_iff index_fault 0 bytes f).1 m) ∙ (first_fault_iff index_fault 0 bytes g).1 n))
+pub outcome_is_unique : (bytes : List ℕ) (o p : Result IndexModel WireFault) → IsIndexOutcome bytes o → IsIndexOutcome bytes p → o ≡ p
+outcome_is_unique bytes (Ok i) (Ok j) m n = ap (λ (x : IndexModel). Ok x) (one_meaning bytes i j m n)
+outcome_is_unique bytes (Ok i) (Err f) m n = absurd (apart f (sym (no_fault bytes i m) ∙ (first_fault_iff index_fault 0 bytes f).1 n))
+outcome_is_unique bytes (Err f) (Ok j) m n = absurd (apart f (sym (no_fault bytes j n) ∙ (first_fault_iff index_fault 0 bytes f).1 m))
+outcome_is_unique bytes (Err f) (Err g) m n = ap (λ (x : WireFault). Err x) (same_fault f g (sym ((first_fault_iff index_fault 0 bytes f).1 m) ∙ (first_fault_iff index_fault 0 bytes g).1 n))
 
-pub some_outcome : (bytes : List ℕ) → (o : Result IndexModel WireFault) × IsIndexOutcome bytes o
-some_outcome bytes = told (fault_of index_fault 0 bytes) refl
+pub outcome_exists : (bytes : List ℕ) → (o : Result IndexModel WireFault) × IsIndexOutcome bytes o
+outcome_exists bytes = told (fault_of index_fault 0 bytes) refl
   where
     told : (found : Option WireFault) → fault_of index_fault 0 bytes ≡ found → (o : Result IndexModel WireFault) × IsIndexOutcome bytes o
     told None clean = (Ok (index_of (payload_records 0 bytes).0), means_from bytes (index_of (payload_records 0 bytes).0) clean refl)
@@ -54,7 +54,7 @@ tells-then view (Ok x) P Q h go = go (Ok (view x)) h
 tells-then view (Err fault) P Q h go = UnlessMemory-then fault h (go (Err fault))
 
 -- the result of the loop over the records is the outcome of the bytes
-pub index_told : (bytes : List ℕ) (result : Result Index WireFault) → OnOk result (fault_of index_fault 0 bytes ≡ None) → IfOk result (λ i. index_model i ≡ index_of (payload_records 0 bytes).0) → IfErr result (λ e. Stops e (fault_of index_fault 0 bytes))
+pub index_told : (bytes : List ℕ) (result : Result Index WireFault) → OnOk result (fault_of index_fault 0 bytes ≡ None) → IfOk result (λ i. index_model i ≡ index_of (payload_records 0 bytes).0) → IfErr result (λ e. IsFaultOrMemory e (fault_of index_fault 0 bytes))
     → HasOutcome index_model result (IsIndexOutcome bytes)
 index_told bytes (Ok i) clean index_is err = means_from bytes (index_model i) clean index_is
 index_told bytes (Err fault) clean index_is err = UnlessMemory-then fault err (λ e. (first_fault_iff index_fault 0 bytes fault).0 e)

@@ -6,7 +6,7 @@ use Rattle.std.proofs.lemmas.Bool.{cases_Bool, eq-eqb}
 use Rattle.std.proofs.lemmas.List.{append-nil}
 use Rattle.proto_wire.specs.Records.{PayloadRecord}
 use Rattle.proto_wire.specs.Readings.{payload_records}
-use Rattle.proto_wire.specs.Messages.{each_of, if_field, nested_records}
+use Rattle.proto_wire.specs.Messages.{field_values, if_field, nested_records}
 use Rattle.proto_wire.specs.Writing.{Field, payload_field, payload_fields, Carries, CarryAll}
 use Rattle.proto_wire.proofs.GivenLaws.{if_field-hit}
 use Rattle.proto_wire.proofs.MessageSteps.{HaveNumber, Restores}
@@ -33,8 +33,8 @@ carry_picked k (p ∷ ps) (f ∷ fs) h =
       | inr e ↦ rw (ap (λ (n : ℕ). n == k) h.0.number ∙ e, e) (carry_picked k ps fs h.1)
     ]
 
-each_of_picked : {X : Type 0} (k : ℕ) (gives : PayloadRecord → List X) (ps : List PayloadRecord) → each_of k gives ps ≡ each_of k gives (picked k ps)
-unfolding each_of if_field picked
+each_of_picked : {X : Type 0} (k : ℕ) (gives : PayloadRecord → List X) (ps : List PayloadRecord) → field_values k gives ps ≡ field_values k gives (picked k ps)
+unfolding field_values if_field picked
 each_of_picked k gives [] = refl
 each_of_picked k gives (p ∷ ps) =
     elim (cases_Bool (p.wire.field == k)) [
@@ -43,7 +43,7 @@ each_of_picked k gives (p ∷ ps) =
     ]
 
 -- the values of a field in the records of a message are those of the fields with its number
-pub row_said : {X Y : Type 0} (f : List X → Y) (k : ℕ) (gives : PayloadRecord → List X) (fs row : List Field) (ps : List PayloadRecord) (v : Y) → CarryAll ps fs → select k fs ≡ row → ((qs : List PayloadRecord) → CarryAll qs row → f (each_of k gives qs) ≡ v) → f (each_of k gives ps) ≡ v
+pub row_said : {X Y : Type 0} (f : List X → Y) (k : ℕ) (gives : PayloadRecord → List X) (fs row : List Field) (ps : List PayloadRecord) (v : Y) → CarryAll ps fs → select k fs ≡ row → ((qs : List PayloadRecord) → CarryAll qs row → f (field_values k gives qs) ≡ v) → f (field_values k gives ps) ≡ v
 row_said f k gives fs row ps v h e given =
     ap f (each_of_picked k gives ps) ∙ given (picked k ps) (subst (λ (gs : List Field). CarryAll (picked k ps) gs) e (carry_picked k ps fs h))
 
@@ -79,16 +79,16 @@ payload_number k [] = tt
 payload_number k (x ∷ xs) = (refl, payload_number k xs)
 
 -- the records of a message that was written, in the one record that carries it
-one_inside : (k : ℕ) (p : PayloadRecord) (bytes : List ℕ) → Carries p (payload_field k bytes) → each_of k nested_records (p ∷ []) ≡ (payload_records p.wire.body bytes).0 ∷ []
-unfolding each_of
+one_inside : (k : ℕ) (p : PayloadRecord) (bytes : List ℕ) → Carries p (payload_field k bytes) → field_values k nested_records (p ∷ []) ≡ (payload_records p.wire.body bytes).0 ∷ []
+unfolding field_values
 one_inside k p bytes h = rw (if_field-hit k p (nested_records p) h.number, h.content.0, h.content.1) refl
 
-each_of_none : {X : Type 0} (k : ℕ) (gives : PayloadRecord → List X) → each_of k gives [] ≡ []
-unfolding each_of
+each_of_none : {X : Type 0} (k : ℕ) (gives : PayloadRecord → List X) → field_values k gives [] ≡ []
+unfolding field_values
 each_of_none k gives = refl
 
 -- a singular message that was written is read back
-pub merged_given : {V : Type 0} (k : ℕ) (of : List PayloadRecord → V) (written : V → List ℕ) (o : Option V) (qs : List PayloadRecord) → IfSome o (λ v. Restores of v (written v)) → CarryAll qs (payload_fields k (map written (option_to_list o))) → merged of (each_of k nested_records qs) ≡ o
+pub merged_given : {V : Type 0} (k : ℕ) (of : List PayloadRecord → V) (written : V → List ℕ) (o : Option V) (qs : List PayloadRecord) → IfSome o (λ v. Restores of v (written v)) → CarryAll qs (payload_fields k (map written (option_to_list o))) → merged of (field_values k nested_records qs) ≡ o
 merged_given k of written None [] r h = ap (merged of) (each_of_none k nested_records)
 merged_given k of written None (p ∷ qs) r h = absurd h
 merged_given k of written (Some v) [] r h = absurd h

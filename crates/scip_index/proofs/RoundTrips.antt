@@ -2,7 +2,7 @@
 use Rattle.std.proofs.Common.{◌≡◌, ℕ, ◌^◌, ◌<◌, pos, List, [], ◌++◌, length, map, None, refl, sym, subst, arith}
 use Rattle.std.specs.Option.{option_to_list}
 use Rattle.proto_wire.specs.Records.{PayloadRecord}
-use Rattle.proto_wire.specs.Messages.{each_of, field_fault, latest, number_in, numbers_in, numbers_fault, bytes_in, text_fault, message_fault, nested_records}
+use Rattle.proto_wire.specs.Messages.{field_values, field_fault, latest, number_in, numbers_in, numbers_fault, bytes_in, text_fault, message_fault, nested_records}
 use Rattle.proto_wire.specs.Writing.{CarryAll, number_fields, text_fields, packed_fields, payload_fields}
 use Rattle.proto_wire.proofs.GivenLaws.{text-given, number-given, packed-given, payloads-given}
 use Rattle.proto_wire.proofs.MessageSteps.{messages-given}
@@ -58,19 +58,19 @@ occurrence_said o fits ps h =
     let nc = number_number 3 o.symbol_roles in
     let nd = packed_number 7 o.enclosing_range in
     let fs = occurrence_fields o in
-    let range : each_of 1 numbers_in ps ≡ o.range =
+    let range : field_values 1 numbers_in ps ≡ o.range =
     row_said (λ xs. xs) 1 numbers_in fs a ps o.range h
     (left 1 ((a ++ b) ++ c) d a (left 1 (a ++ b) c a (left 1 a b a (hit 1 a na) (miss 1 2 b nb refl)) (miss 1 3 c nc refl)) (miss 1 7 d nd refl))
     (λ qs k. packed-given 1 o.range qs fits.range k) in
-    let symbol : latest [] (each_of 2 bytes_in ps) ≡ o.symbol =
+    let symbol : latest [] (field_values 2 bytes_in ps) ≡ o.symbol =
     row_said (latest []) 2 bytes_in fs b ps o.symbol h
     (left 2 ((a ++ b) ++ c) d b (left 2 (a ++ b) c b (right 2 a b b (miss 2 1 a na refl) (hit 2 b nb)) (miss 2 3 c nc refl)) (miss 2 7 d nd refl))
     (λ qs k. text-given 2 o.symbol qs k) in
-    let roles : latest (pos 0) (each_of 3 number_in ps) ≡ o.symbol_roles =
+    let roles : latest (pos 0) (field_values 3 number_in ps) ≡ o.symbol_roles =
     row_said (latest (pos 0)) 3 number_in fs c ps o.symbol_roles h
     (left 3 ((a ++ b) ++ c) d c (right 3 (a ++ b) c c (left 3 a b [] (miss 3 1 a na refl) (miss 3 2 b nb refl)) (hit 3 c nc)) (miss 3 7 d nd refl))
     (λ qs k. number-given 3 o.symbol_roles qs fits.symbol_roles k) in
-    let enclosing : each_of 7 numbers_in ps ≡ o.enclosing_range =
+    let enclosing : field_values 7 numbers_in ps ≡ o.enclosing_range =
     row_said (λ xs. xs) 7 numbers_in fs d ps o.enclosing_range h
     (right 7 ((a ++ b) ++ c) d d (left 7 (a ++ b) c [] (left 7 a b [] (miss 7 1 a na refl) (miss 7 2 b nb refl)) (miss 7 3 c nc refl)) (hit 7 d nd))
     (λ qs k. packed-given 7 o.enclosing_range qs fits.enclosing_range k) in
@@ -96,8 +96,8 @@ symbol_said s ps h =
     let b = text_fields 6 s.display_name in
     let na = text_number 1 s.symbol in
     let nb = text_number 6 s.display_name in
-    let symbol : latest [] (each_of 1 bytes_in ps) ≡ s.symbol = row_said (latest []) 1 bytes_in (a ++ b) a ps s.symbol h (left 1 a b a (hit 1 a na) (miss 1 6 b nb refl)) (λ qs k. text-given 1 s.symbol qs k) in
-    let name : latest [] (each_of 6 bytes_in ps) ≡ s.display_name = row_said (latest []) 6 bytes_in (a ++ b) b ps s.display_name h (right 6 a b b (miss 6 1 a na refl) (hit 6 b nb)) (λ qs k. text-given 6 s.display_name qs k) in
+    let symbol : latest [] (field_values 1 bytes_in ps) ≡ s.symbol = row_said (latest []) 1 bytes_in (a ++ b) a ps s.symbol h (left 1 a b a (hit 1 a na) (miss 1 6 b nb refl)) (λ qs k. text-given 1 s.symbol qs k) in
+    let name : latest [] (field_values 6 bytes_in ps) ≡ s.display_name = row_said (latest []) 6 bytes_in (a ++ b) b ps s.display_name h (right 6 a b b (miss 6 1 a na refl) (hit 6 b nb)) (λ qs k. text-given 6 s.display_name qs k) in
     rw (symbol, name) refl
 
 pub symbol_again : (s : SymbolModel) → SymbolFits s → length (written_symbol s) < 2 ^ 64 → IsAgain symbol_fault symbol_of s (written_symbol s)
@@ -160,23 +160,23 @@ document_again d fits short =
     (number_good inside 6 d.position_encoding (omega arith) (omega arith) fits.position_encoding document_encoding_passes) in
     again_from inside document_of d fs good short
     (λ ps h.
-    let path : latest [] (each_of 1 bytes_in ps) ≡ d.relative_path =
+    let path : latest [] (field_values 1 bytes_in ps) ≡ d.relative_path =
     row_said (latest []) 1 bytes_in fs a ps d.relative_path h
     (left 1 (((a ++ b) ++ c) ++ e) f a (left 1 ((a ++ b) ++ c) e a (left 1 (a ++ b) c a (left 1 a b a (hit 1 a na) (miss 1 2 b nb refl)) (miss 1 3 c nc refl)) (miss 1 4 e ne refl)) (miss 1 6 f nf refl))
     (λ qs k. text-given 1 d.relative_path qs k) in
-    let found : map occurrence_of (each_of 2 nested_records ps) ≡ d.occurrences =
+    let found : map occurrence_of (field_values 2 nested_records ps) ≡ d.occurrences =
     row_said (map occurrence_of) 2 nested_records fs b ps d.occurrences h
     (left 2 (((a ++ b) ++ c) ++ e) f b (left 2 ((a ++ b) ++ c) e b (left 2 (a ++ b) c b (right 2 a b b (miss 2 1 a na refl) (hit 2 b nb)) (miss 2 3 c nc refl)) (miss 2 4 e ne refl)) (miss 2 6 f nf refl))
     (λ qs k. messages-given 2 occurrence_of written_occurrence d.occurrences qs (restores occurrence_fault occurrence_of written_occurrence d.occurrences occurrences) k) in
-    let told : map symbol_of (each_of 3 nested_records ps) ≡ d.symbols =
+    let told : map symbol_of (field_values 3 nested_records ps) ≡ d.symbols =
     row_said (map symbol_of) 3 nested_records fs c ps d.symbols h
     (left 3 (((a ++ b) ++ c) ++ e) f c (left 3 ((a ++ b) ++ c) e c (right 3 (a ++ b) c c (left 3 a b [] (miss 3 1 a na refl) (miss 3 2 b nb refl)) (hit 3 c nc)) (miss 3 4 e ne refl)) (miss 3 6 f nf refl))
     (λ qs k. messages-given 3 symbol_of written_symbol d.symbols qs (restores symbol_fault symbol_of written_symbol d.symbols symbols) k) in
-    let language : latest [] (each_of 4 bytes_in ps) ≡ d.language =
+    let language : latest [] (field_values 4 bytes_in ps) ≡ d.language =
     row_said (latest []) 4 bytes_in fs e ps d.language h
     (left 4 (((a ++ b) ++ c) ++ e) f e (right 4 ((a ++ b) ++ c) e e (left 4 (a ++ b) c [] (left 4 a b [] (miss 4 1 a na refl) (miss 4 2 b nb refl)) (miss 4 3 c nc refl)) (hit 4 e ne)) (miss 4 6 f nf refl))
     (λ qs k. text-given 4 d.language qs k) in
-    let encoding : latest (pos 0) (each_of 6 number_in ps) ≡ d.position_encoding =
+    let encoding : latest (pos 0) (field_values 6 number_in ps) ≡ d.position_encoding =
     row_said (latest (pos 0)) 6 number_in fs f ps d.position_encoding h
     (right 6 (((a ++ b) ++ c) ++ e) f f (left 6 ((a ++ b) ++ c) e [] (left 6 (a ++ b) c [] (left 6 a b [] (miss 6 1 a na refl) (miss 6 2 b nb refl)) (miss 6 3 c nc refl)) (miss 6 4 e ne refl)) (hit 6 f nf))
     (λ qs k. number-given 6 d.position_encoding qs fits.position_encoding k) in
@@ -205,9 +205,9 @@ tool_said t ps h =
     let nb = text_number 2 t.version in
     let nc = payload_number 3 t.arguments in
     let fs = tool_fields t in
-    let name : latest [] (each_of 1 bytes_in ps) ≡ t.name = row_said (latest []) 1 bytes_in fs a ps t.name h (left 1 (a ++ b) c a (left 1 a b a (hit 1 a na) (miss 1 2 b nb refl)) (miss 1 3 c nc refl)) (λ qs k. text-given 1 t.name qs k) in
-    let version : latest [] (each_of 2 bytes_in ps) ≡ t.version = row_said (latest []) 2 bytes_in fs b ps t.version h (left 2 (a ++ b) c b (right 2 a b b (miss 2 1 a na refl) (hit 2 b nb)) (miss 2 3 c nc refl)) (λ qs k. text-given 2 t.version qs k) in
-    let arguments : each_of 3 bytes_in ps ≡ t.arguments = row_said (λ xs. xs) 3 bytes_in fs c ps t.arguments h (right 3 (a ++ b) c c (left 3 a b [] (miss 3 1 a na refl) (miss 3 2 b nb refl)) (hit 3 c nc)) (λ qs k. payloads-given 3 t.arguments qs k) in
+    let name : latest [] (field_values 1 bytes_in ps) ≡ t.name = row_said (latest []) 1 bytes_in fs a ps t.name h (left 1 (a ++ b) c a (left 1 a b a (hit 1 a na) (miss 1 2 b nb refl)) (miss 1 3 c nc refl)) (λ qs k. text-given 1 t.name qs k) in
+    let version : latest [] (field_values 2 bytes_in ps) ≡ t.version = row_said (latest []) 2 bytes_in fs b ps t.version h (left 2 (a ++ b) c b (right 2 a b b (miss 2 1 a na refl) (hit 2 b nb)) (miss 2 3 c nc refl)) (λ qs k. text-given 2 t.version qs k) in
+    let arguments : field_values 3 bytes_in ps ≡ t.arguments = row_said (λ xs. xs) 3 bytes_in fs c ps t.arguments h (right 3 (a ++ b) c c (left 3 a b [] (miss 3 1 a na refl) (miss 3 2 b nb refl)) (hit 3 c nc)) (λ qs k. payloads-given 3 t.arguments qs k) in
     rw (name, version, arguments) refl
 
 pub tool_again : (t : ToolModel) → ToolFits t → length (written_tool t) < 2 ^ 64 → IsAgain tool_fault tool_of t (written_tool t)
@@ -265,19 +265,19 @@ metadata_again m fits short =
     (number_good inside 4 m.text_document_encoding (omega arith) (omega arith) fits.text_document_encoding metadata_encoding_passes) in
     again_from inside metadata_of m fs good short
     (λ ps h.
-    let version : latest (pos 0) (each_of 1 number_in ps) ≡ m.version =
+    let version : latest (pos 0) (field_values 1 number_in ps) ≡ m.version =
     row_said (latest (pos 0)) 1 number_in fs a ps m.version h
     (left 1 ((a ++ b) ++ c) d a (left 1 (a ++ b) c a (left 1 a b a (hit 1 a na) (miss 1 2 b nb refl)) (miss 1 3 c nc refl)) (miss 1 4 d nd refl))
     (λ qs k. number-given 1 m.version qs fits.version k) in
-    let tool : merged tool_of (each_of 2 nested_records ps) ≡ m.tool_info =
+    let tool : merged tool_of (field_values 2 nested_records ps) ≡ m.tool_info =
     row_said (merged tool_of) 2 nested_records fs b ps m.tool_info h
     (left 2 ((a ++ b) ++ c) d b (left 2 (a ++ b) c b (right 2 a b b (miss 2 1 a na refl) (hit 2 b nb)) (miss 2 3 c nc refl)) (miss 2 4 d nd refl))
     (λ qs k. merged_given 2 tool_of written_tool m.tool_info qs (option_restores tool_fault tool_of written_tool m.tool_info again) k) in
-    let root : latest [] (each_of 3 bytes_in ps) ≡ m.project_root =
+    let root : latest [] (field_values 3 bytes_in ps) ≡ m.project_root =
     row_said (latest []) 3 bytes_in fs c ps m.project_root h
     (left 3 ((a ++ b) ++ c) d c (right 3 (a ++ b) c c (left 3 a b [] (miss 3 1 a na refl) (miss 3 2 b nb refl)) (hit 3 c nc)) (miss 3 4 d nd refl))
     (λ qs k. text-given 3 m.project_root qs k) in
-    let encoding : latest (pos 0) (each_of 4 number_in ps) ≡ m.text_document_encoding =
+    let encoding : latest (pos 0) (field_values 4 number_in ps) ≡ m.text_document_encoding =
     row_said (latest (pos 0)) 4 number_in fs d ps m.text_document_encoding h
     (right 4 ((a ++ b) ++ c) d d (left 4 (a ++ b) c [] (left 4 a b [] (miss 4 1 a na refl) (miss 4 2 b nb refl)) (miss 4 3 c nc refl)) (hit 4 d nd))
     (λ qs k. number-given 4 m.text_document_encoding qs fits.text_document_encoding k) in
@@ -321,15 +321,15 @@ index_again i fits short =
     (messages_good inside symbol_fault symbol_of 3 written_symbol i.external_symbols (omega arith) (omega arith) symbols index_symbols_pass) in
     again_from inside index_of i fs good short
     (λ ps h.
-    let one : merged metadata_of (each_of 1 nested_records ps) ≡ i.metadata =
+    let one : merged metadata_of (field_values 1 nested_records ps) ≡ i.metadata =
     row_said (merged metadata_of) 1 nested_records fs a ps i.metadata h
     (left 1 (a ++ b) c a (left 1 a b a (hit 1 a na) (miss 1 2 b nb refl)) (miss 1 3 c nc refl))
     (λ qs k. merged_given 1 metadata_of written_metadata i.metadata qs (option_restores metadata_fault metadata_of written_metadata i.metadata first) k) in
-    let two : map document_of (each_of 2 nested_records ps) ≡ i.documents =
+    let two : map document_of (field_values 2 nested_records ps) ≡ i.documents =
     row_said (map document_of) 2 nested_records fs b ps i.documents h
     (left 2 (a ++ b) c b (right 2 a b b (miss 2 1 a na refl) (hit 2 b nb)) (miss 2 3 c nc refl))
     (λ qs k. messages-given 2 document_of written_document i.documents qs (restores document_fault document_of written_document i.documents documents) k) in
-    let three : map symbol_of (each_of 3 nested_records ps) ≡ i.external_symbols =
+    let three : map symbol_of (field_values 3 nested_records ps) ≡ i.external_symbols =
     row_said (map symbol_of) 3 nested_records fs c ps i.external_symbols h
     (right 3 (a ++ b) c c (left 3 a b [] (miss 3 1 a na refl) (miss 3 2 b nb refl)) (hit 3 c nc))
     (λ qs k. messages-given 3 symbol_of written_symbol i.external_symbols qs (restores symbol_fault symbol_of written_symbol i.external_symbols symbols) k) in

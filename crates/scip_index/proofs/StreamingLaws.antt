@@ -10,7 +10,7 @@ use Rattle.proto_wire.specs.declared.record.WireValue.{WireValue}
 use Rattle.proto_wire.specs.declared.record.WireValue.TheVariants.{Varint, Eight, Bytes, Four}
 use Rattle.proto_wire.specs.Records.{PayloadRecord, IsSplit}
 use Rattle.proto_wire.specs.Readings.{payload_records}
-use Rattle.proto_wire.specs.Messages.{AddsMessages, each_of, if_field, nested_records, value_records, IsClean, MeansEach}
+use Rattle.proto_wire.specs.Messages.{AddsMessages, field_values, if_field, nested_records, value_records, IsClean, MeansEach}
 use Rattle.proto_wire.proofs.PieceReadings.{records_found}
 use Rattle.proto_wire.proofs.RowLaws.{IsSplit-start, IsSplit-end}
 use Rattle.scip_index.specs.declared.index.Document.{Document}
@@ -95,7 +95,7 @@ onward bytes front more at next rest after (Some x) r s h =
 
 -- a reader that has read nothing
 pub fresh : (bytes : List ℕ) → IsReaderAt bytes [] 0 bytes None []
-unfolding each_of
+unfolding field_values
 fresh bytes = record { reached = IsSplit-start 0 bytes; clean = tt; metadata_is = refl; externals_are = refl }
 
 -- if there is no further document, all documents were returned
@@ -107,5 +107,5 @@ all_given bytes front more at rest metadata externals None before s d none b =
 all_given bytes front more at rest metadata externals (Some x) before s d none b = tt
 
 pub none_given : (bytes : List ℕ) → given (record { bytes = bytes; at = 0; error = None }) ≡ []
-unfolding each_of
+unfolding field_values
 none_given bytes = given_is bytes 0 None [] bytes (IsSplit-start 0 bytes)

@@ -4,16 +4,16 @@ use Rattle.std.specs.Prelude.{◌≡◌, ℕ, pos, List, [], ◌∷◌, map, Opt
 use Rattle.std.specs.List.{flat_map}
 use Rattle.proto_wire.specs.declared.fault.WireFault.{WireFault}
 use Rattle.proto_wire.specs.Records.{PayloadRecord, AreRecords}
-use Rattle.proto_wire.specs.Messages.{each_of, field_fault, first_of, latest, number_in, numbers_in, numbers_fault, bytes_in, text_fault, nested_records, message_fault, IsClean, IsFirstFault}
+use Rattle.proto_wire.specs.Messages.{field_values, field_fault, first_of, latest, number_in, numbers_in, numbers_fault, bytes_in, text_fault, nested_records, message_fault, IsClean, IsFirstFault}
 use Rattle.scip_index.specs.Plain.{OccurrenceModel, SymbolModel, DocumentModel, ToolModel, MetadataModel, IndexModel}
 
 -- an occurrence by its records: all numbers of fields 1 and 7, the last string of field 2, and the last number of field 3
 abbrev pub occurrence_of : List PayloadRecord → OccurrenceModel
 occurrence_of pieces = record {
-  range = each_of 1 numbers_in pieces;
-  symbol = latest [] (each_of 2 bytes_in pieces);
-  symbol_roles = latest (pos 0) (each_of 3 number_in pieces);
-  enclosing_range = each_of 7 numbers_in pieces;
+  range = field_values 1 numbers_in pieces;
+  symbol = latest [] (field_values 2 bytes_in pieces);
+  symbol_roles = latest (pos 0) (field_values 3 number_in pieces);
+  enclosing_range = field_values 7 numbers_in pieces;
 }
 
 -- the first fault inside one record of an occurrence
@@ -23,8 +23,8 @@ occurrence_fault p = first_of (field_fault 1 p.wire (numbers_fault p)) (first_of
 -- symbol information by its records: the last strings of fields 1 and 6
 abbrev pub symbol_of : List PayloadRecord → SymbolModel
 symbol_of pieces = record {
-  symbol = latest [] (each_of 1 bytes_in pieces);
-  display_name = latest [] (each_of 6 bytes_in pieces);
+  symbol = latest [] (field_values 1 bytes_in pieces);
+  display_name = latest [] (field_values 6 bytes_in pieces);
 }
 
 -- the first fault inside one record of symbol information
@@ -34,11 +34,11 @@ symbol_fault p = first_of (field_fault 1 p.wire (text_fault p)) (field_fault 6 p
 -- a document by its records: the last strings of fields 1 and 4, all messages of fields 2 and 3, and the last number of field 6
 abbrev pub document_of : List PayloadRecord → DocumentModel
 document_of pieces = record {
-  relative_path = latest [] (each_of 1 bytes_in pieces);
-  occurrences = map occurrence_of (each_of 2 nested_records pieces);
-  symbols = map symbol_of (each_of 3 nested_records pieces);
-  language = latest [] (each_of 4 bytes_in pieces);
-  position_encoding = latest (pos 0) (each_of 6 number_in pieces);
+  relative_path = latest [] (field_values 1 bytes_in pieces);
+  occurrences = map occurrence_of (field_values 2 nested_records pieces);
+  symbols = map symbol_of (field_values 3 nested_records pieces);
+  language = latest [] (field_values 4 bytes_in pieces);
+  position_encoding = latest (pos 0) (field_values 6 number_in pieces);
 }
 
 -- the first fault inside one record of a document
@@ -50,9 +50,9 @@ document_fault p =
 -- a tool by its records: the last strings of fields 1 and 2, and all strings of field 3
 abbrev pub tool_of : List PayloadRecord → ToolModel
 tool_of pieces = record {
-  name = latest [] (each_of 1 bytes_in pieces);
-  version = latest [] (each_of 2 bytes_in pieces);
-  arguments = each_of 3 bytes_in pieces;
+  name = latest [] (field_values 1 bytes_in pieces);
+  version = latest [] (field_values 2 bytes_in pieces);
+  arguments = field_values 3 bytes_in pieces;
 }
 
 -- the first fault inside one record of a tool
@@ -67,10 +67,10 @@ merged of (pieces ∷ others) = Some (of (flat_map (λ x. x) (pieces ∷ others)
 -- metadata by their records: the last numbers of fields 1 and 4, the merged message of field 2, and the last string of field 3
 abbrev pub metadata_of : List PayloadRecord → MetadataModel
 metadata_of pieces = record {
-  version = latest (pos 0) (each_of 1 number_in pieces);
-  tool_info = merged tool_of (each_of 2 nested_records pieces);
-  project_root = latest [] (each_of 3 bytes_in pieces);
-  text_document_encoding = latest (pos 0) (each_of 4 number_in pieces);
+  version = latest (pos 0) (field_values 1 number_in pieces);
+  tool_info = merged tool_of (field_values 2 nested_records pieces);
+  project_root = latest [] (field_values 3 bytes_in pieces);
+  text_document_encoding = latest (pos 0) (field_values 4 number_in pieces);
 }
 
 -- the first fault inside one record of metadata
@@ -80,9 +80,9 @@ metadata_fault p = first_of (field_fault 2 p.wire (message_fault tool_fault p)) 
 -- an index by its records: the merged message of field 1, and all messages of fields 2 and 3
 abbrev pub index_of : List PayloadRecord → IndexModel
 index_of pieces = record {
-  metadata = merged metadata_of (each_of 1 nested_records pieces);
-  documents = map document_of (each_of 2 nested_records pieces);
-  external_symbols = map symbol_of (each_of 3 nested_records pieces);
+  metadata = merged metadata_of (field_values 1 nested_records pieces);
+  documents = map document_of (field_values 2 nested_records pieces);
+  external_symbols = map symbol_of (field_values 3 nested_records pieces);
 }
 
 -- the first fault inside one record of an index

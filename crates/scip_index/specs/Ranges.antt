@@ -1,9 +1,9 @@
 -- Ranges as numbers, and occurrences and symbol information before they are written.
 use Rattle.std.specs.Prelude.{◌≡◌, ◌+◌, ◌<◌, ◌^◌, ◌==◌, if◌then◌else◌, false, ℕ, ℤ, pos, List, [], ◌∷◌, ◌++◌, length}
-use Rattle.proto_wire.specs.Writing.{head_of, packing, payload_field, spelled}
+use Rattle.proto_wire.specs.Writing.{head_of, packed_payload, payload_field, spelled}
 use Rattle.scip_index.specs.Plain.{OccurrenceModel, SymbolModel as SymbolRow}
 use Rattle.scip_index.specs.declared.range.Range.{Range}
-use Rattle.scip_index.specs.declared.range.Range.TheVariants.{Nowhere, OnLine, OverLines}
+use Rattle.scip_index.specs.declared.range.Range.TheVariants.{Nowhere, SingleLine, MultiLine}
 use Rattle.scip_index.specs.declared.range.TokenSpan.{TokenSpan}
 use Rattle.scip_index.specs.declared.borrowed.BorrowedOccurrence.{BorrowedOccurrence}
 use Rattle.scip_index.specs.declared.borrowed.BorrowedSymbol.{BorrowedSymbol}
@@ -15,8 +15,8 @@ range_between line column last end = if line == last then pos line ∷ pos colum
 -- the numbers of a `Range`
 abbrev pub numbers_of : Range → List ℤ
 numbers_of Nowhere = []
-numbers_of (OnLine numbers) = numbers
-numbers_of (OverLines numbers) = numbers
+numbers_of (SingleLine numbers) = numbers
+numbers_of (MultiLine numbers) = numbers
 
 -- the numbers of the range with this start and end
 abbrev pub numbers_in : TokenSpan → List ℤ
@@ -29,15 +29,15 @@ pub record SpanFits (s : TokenSpan) : Type 0 where
   pub last : s.last < 2 ^ 31
   pub end : s.end < 2 ^ 31
 
--- the occurrence of these borrowed data
+-- a borrowed occurrence as contracts describe it
 abbrev pub borrowed_occurrence : BorrowedOccurrence → OccurrenceModel
 borrowed_occurrence p = record { range = numbers_of p.range; symbol = p.symbol.now; symbol_roles = p.symbol_roles; enclosing_range = numbers_of p.enclosing_range }
 
--- the symbol information of these borrowed data
+-- borrowed symbol information as contracts describe it
 abbrev pub borrowed_symbol : BorrowedSymbol → SymbolRow
 borrowed_symbol s = record { symbol = s.symbol.now; display_name = s.display_name.now }
 
--- ---- short occurrences
+-- ---- compact occurrences
 
 -- an occurrence on one line that declares nothing, with this line, start, end, symbol string and role
 abbrev pub compact_occurrence : ℕ → ℕ → ℕ → List ℕ → ℕ → OccurrenceModel
@@ -57,7 +57,7 @@ pub record IsCompact (s : TokenSpan) (size role : ℕ) : Type 0 where
 
 -- the bytes of the field of a range on one line
 abbrev pub range_field : ℕ → ℕ → ℕ → List ℕ
-range_field line column end = spelled (payload_field 1 (packing (pos line ∷ pos column ∷ pos end ∷ [])))
+range_field line column end = spelled (payload_field 1 (packed_payload (pos line ∷ pos column ∷ pos end ∷ [])))
 
 -- the bytes of an occurrence's record before its symbol's field, if this many bytes follow the field of the range
 abbrev pub prefix_of : ℕ → ℕ → ℕ → ℕ → List ℕ

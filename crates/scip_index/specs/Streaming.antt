@@ -2,22 +2,22 @@
 use Rattle.std.specs.Prelude.{◌≡◌, ℕ, List, take, map, Option, Result, Ok, Err}
 use Rattle.proto_wire.specs.declared.fault.WireFault.{WireFault}
 use Rattle.proto_wire.specs.Records.{PayloadRecord, IsSplit}
-use Rattle.proto_wire.specs.Messages.{each_of, nested_records, IsClean, IsNextFault, IsFirstFault}
+use Rattle.proto_wire.specs.Messages.{field_values, nested_records, IsClean, IsNextFault, IsFirstFault}
 use Rattle.proto_wire.specs.Readings.{payload_records}
 use Rattle.scip_index.specs.Plain.{MetadataModel, SymbolModel, DocumentModel, IndexModel}
 use Rattle.scip_index.specs.Meaning.{metadata_of, symbol_of, document_of, merged, index_fault, Means}
 
--- a reader has read these records, none with a fault inside: the offset, the remaining bytes, the metadata and the external symbols are
--- those after these records
+-- the bytes begin with the records front, none with a fault inside, and continue at offset `at` with rest. These records determine the
+-- metadata and the external symbols
 pub record IsReaderAt (bytes : List ℕ) (front : List PayloadRecord) (at : ℕ) (rest : List ℕ) (metadata : Option MetadataModel) (externals : List SymbolModel) : Type 0 where
   pub reached : IsSplit 0 bytes front at rest
   pub clean : IsClean index_fault front
-  pub metadata_is : metadata ≡ merged metadata_of (each_of 1 nested_records front)
-  pub externals_are : externals ≡ map symbol_of (each_of 3 nested_records front)
+  pub metadata_is : metadata ≡ merged metadata_of (field_values 1 nested_records front)
+  pub externals_are : externals ≡ map symbol_of (field_values 3 nested_records front)
 
 -- the documents in these records
 abbrev pub documents_in : List PayloadRecord → List DocumentModel
-documents_in pieces = map document_of (each_of 2 nested_records pieces)
+documents_in pieces = map document_of (field_values 2 nested_records pieces)
 
 -- a reader as contracts describe it: the bytes, the number of bytes that are read, and the error that the reader has returned, if any
 pub record ReaderState : Type 0 where

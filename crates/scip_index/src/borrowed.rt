@@ -25,7 +25,7 @@ pub struct BorrowedSymbol<'a> {
     pub display_name: &'a [u8],
 }
 
-/// Appends the numbers of a range as a packed field, unless there are none.
+/// Appends the numbers of a range as a packed field with the field number `field`, unless it is `Range::Nowhere`.
 fn append_range_field(
     scratch: &mut Scratch,
     out: &mut Vec<u8>,
@@ -38,8 +38,8 @@ fn append_range_field(
 {
     match range {
         Range::Nowhere => Ok(()),
-        Range::OnLine(numbers) => append_numbers_field(scratch, out, field, numbers),
-        Range::OverLines(numbers) => append_numbers_field(scratch, out, field, numbers),
+        Range::SingleLine(numbers) => append_numbers_field(scratch, out, field, numbers),
+        Range::MultiLine(numbers) => append_numbers_field(scratch, out, field, numbers),
     }
 }
 
@@ -49,7 +49,7 @@ impl Written for BorrowedOccurrence<'_> {
     ghost fits = { λ _. Unit {0} };
 
     #[tactic(auto, unfolding(crate::specs::Written::written_occurrence))]
-    fn push_into(&self, scratch: &mut Scratch, out: &mut Vec<u8>) -> Result<(), AllocError> {
+    fn encode_into(&self, scratch: &mut Scratch, out: &mut Vec<u8>) -> Result<(), AllocError> {
         append_range_field(scratch, out, 1, &self.range)?;
         append_bytes_field(out, 2, self.symbol.as_bytes())?;
         append_number(out, 3, self.symbol_roles)?;
@@ -63,7 +63,7 @@ impl Written for BorrowedSymbol<'_> {
     ghost fits = { λ _. Unit {0} };
 
     #[tactic(auto, unfolding(crate::specs::Written::written_symbol))]
-    fn push_into(&self, _scratch: &mut Scratch, out: &mut Vec<u8>) -> Result<(), AllocError> {
+    fn encode_into(&self, _scratch: &mut Scratch, out: &mut Vec<u8>) -> Result<(), AllocError> {
         append_bytes_field(out, 1, self.symbol.as_bytes())?;
         append_bytes_field(out, 6, self.display_name)
     }

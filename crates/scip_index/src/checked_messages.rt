@@ -1,6 +1,6 @@
 //! Checks whether bytes encode an index: validates each message record by record, and builds none.
 ghost use Rattle.std.specs.Prelude.{◌≡◌, ◌+◌, ◌<◌, ◌^◌, length, true, IfErr, OnOk, None};
-ghost use Rattle.proto_wire.specs.Faults.{Stops, UnlessMemory};
+ghost use Rattle.proto_wire.specs.Faults.{IsFaultOrMemory, UnlessMemory};
 ghost use Rattle.proto_wire.specs.Messages.{fault_of, field_fault, message_fault, payload_record, IsFirstFault};
 ghost use Rattle.proto_wire.specs.Readings.{payload_records};
 ghost use Rattle.scip_index.specs.Meaning.{document_fault, index_fault, index_of, metadata_fault, occurrence_fault, symbol_fault, tool_fault, Means};
@@ -24,19 +24,24 @@ impl Message for CheckedOccurrence {
         CheckedOccurrence
     }
 
-    fn take(&mut self, _alloc: Global, wire: &WireRecord, payload: &[u8]) -> Result<(), WireFault> {
+    fn decode_record(
+        &mut self,
+        _alloc: Global,
+        wire: &WireRecord,
+        payload: &[u8],
+    ) -> Result<(), WireFault> {
         check_numbers(1, wire, payload)?;
         check_text(2, wire, payload)?;
         check_numbers(7, wire, payload)
     }
 }
 
-/// An occurrence with this many or more records after its range and its symbol isn't accepted by `is_clean_occurrence`.
+/// The number of records after its range and its symbol from which `is_simple_valid_occurrence` doesn't accept an occurrence.
 const MAX_EXTRA: usize = 4;
 
-/// Whether the rest of an occurrence is fewer than `MAX_EXTRA` records without a fault, each with a key and a number or length of one
-/// byte. None is another range or symbol. With `false` the rest may still have no fault.
-fn is_clean_rest(left: MessageBytes<'_>) -> bool
+/// Whether the rest of an occurrence is fewer than `MAX_EXTRA` records without a fault, none of them a range or a symbol. Each has a key of
+/// one byte, and a number or length of one byte. With `false` the rest may still have no fault.
+fn is_simple_valid_rest(left: MessageBytes<'_>) -> bool
     requires { left.start + length left.bytes.now < 2 ^ 64 }
     ensures { result ≡ true → fault_of occurrence_fault left.entry.start left.entry.bytes.now ≡ None }
 {
@@ -56,10 +61,9 @@ fn is_clean_rest(left: MessageBytes<'_>) -> bool
 }
 
 /// Whether an occurrence has no fault and is a range, a symbol and fewer than `MAX_EXTRA` other records, each with a key and a number or
-/// length of one byte.
-/// Most producers write occurrences in this form. It needs fewer tests per record than the general validation, which is left to the other
-/// occurrences.
-fn is_clean_occurrence(occurrence: MessageBytes<'_>) -> bool
+/// length of one byte. With `false` it may still have no fault.
+/// Most producers write occurrences in this form, and it is validated faster than the general form.
+fn is_simple_valid_occurrence(occurrence: MessageBytes<'_>) -> bool
     requires { occurrence.start + length occurrence.bytes.now < 2 ^ 64 }
     ensures { result ≡ true → fault_of occurrence_fault occurrence.entry.start occurrence.entry.bytes.now ≡ None }
 {
@@ -70,7 +74,7 @@ fn is_clean_occurrence(occurrence: MessageBytes<'_>) -> bool
     let Some((symbol, text)) = next_compact_record(&mut rest) else {
         return false;
     };
-    if range.field != 1 || symbol.field != 2 || !is_clean_rest(rest) {
+    if range.field != 1 || symbol.field != 2 || !is_simple_valid_rest(rest) {
         return false;
     }
     check_numbers(1, &range, numbers).is_ok() && check_text(2, &symbol, text).is_ok()
@@ -80,13 +84,13 @@ fn is_clean_occurrence(occurrence: MessageBytes<'_>) -> bool
 fn check_occurrence(alloc: Global, wire: &WireRecord, payload: &[u8]) -> Result<(), WireFault>
     requires { wire.now.body + length payload.now < 2 ^ 64 }
     ensures clean { let p = payload_record wire.now payload.now in OnOk result (field_fault 2 wire.now (message_fault occurrence_fault p) ≡ None) }
-    ensures err { let p = payload_record wire.now payload.now in IfErr result (λ e. Stops e (field_fault 2 wire.now (message_fault occurrence_fault p))) }
+    ensures err { let p = payload_record wire.now payload.now in IfErr result (λ e. IsFaultOrMemory e (field_fault 2 wire.now (message_fault occurrence_fault p))) }
 {
     let occurrence = MessageBytes {
         start: wire.body,
         bytes: payload,
     };
-    if wire.field == 2 && is_clean_occurrence(occurrence) {
+    if wire.field == 2 && is_simple_valid_occurrence(occurrence) {
         return Ok(());
     }
     check_message::<CheckedOccurrence>(alloc, 2, wire, payload)
@@ -105,7 +109,12 @@ impl Message for CheckedSymbol {
         CheckedSymbol
     }
 
-    fn take(&mut self, _alloc: Global, wire: &WireRecord, payload: &[u8]) -> Result<(), WireFault> {
+    fn decode_record(
+        &mut self,
+        _alloc: Global,
+        wire: &WireRecord,
+        payload: &[u8],
+    ) -> Result<(), WireFault> {
         check_text(1, wire, payload)?;
         check_text(6, wire, payload)
     }
@@ -124,7 +133,12 @@ impl Message for CheckedDocument {
         CheckedDocument
     }
 
-    fn take(&mut self, alloc: Global, wire: &WireRecord, payload: &[u8]) -> Result<(), WireFault> {
+    fn decode_record(
+        &mut self,
+        alloc: Global,
+        wire: &WireRecord,
+        payload: &[u8],
+    ) -> Result<(), WireFault> {
         // the later fields have nothing to validate
         if wire.field > 4 {
             return Ok(());
@@ -149,7 +163,12 @@ impl Message for CheckedTool {
         CheckedTool
     }
 
-    fn take(&mut self, _alloc: Global, wire: &WireRecord, payload: &[u8]) -> Result<(), WireFault> {
+    fn decode_record(
+        &mut self,
+        _alloc: Global,
+        wire: &WireRecord,
+        payload: &[u8],
+    ) -> Result<(), WireFault> {
         check_text(1, wire, payload)?;
         check_text(2, wire, payload)?;
         check_text(3, wire, payload)
@@ -169,7 +188,12 @@ impl Message for CheckedMetadata {
         CheckedMetadata
     }
 
-    fn take(&mut self, alloc: Global, wire: &WireRecord, payload: &[u8]) -> Result<(), WireFault> {
+    fn decode_record(
+        &mut self,
+        alloc: Global,
+        wire: &WireRecord,
+        payload: &[u8],
+    ) -> Result<(), WireFault> {
         check_message::<CheckedTool>(alloc, 2, wire, payload)?;
         check_text(3, wire, payload)
     }
@@ -188,7 +212,12 @@ impl Message for CheckedIndex {
         CheckedIndex
     }
 
-    fn take(&mut self, alloc: Global, wire: &WireRecord, payload: &[u8]) -> Result<(), WireFault> {
+    fn decode_record(
+        &mut self,
+        alloc: Global,
+        wire: &WireRecord,
+        payload: &[u8],
+    ) -> Result<(), WireFault> {
         check_message::<CheckedMetadata>(alloc, 1, wire, payload)?;
         check_message::<CheckedDocument>(alloc, 2, wire, payload)?;
         check_message::<CheckedSymbol>(alloc, 3, wire, payload)
@@ -198,7 +227,7 @@ impl Message for CheckedIndex {
 /// Validates the bytes. The contract of `check` follows from this one.
 fn check_index(alloc: Global, bytes: &[u8]) -> Result<(), WireFault>
     ensures clean { OnOk result (fault_of index_fault 0 bytes.now ≡ None) }
-    ensures err { IfErr result (λ e. Stops e (fault_of index_fault 0 bytes.now)) }
+    ensures err { IfErr result (λ e. IsFaultOrMemory e (fault_of index_fault 0 bytes.now)) }
 {
     let _index: CheckedIndex = read_message(alloc, 0, bytes)?;
     Ok(())

@@ -1,5 +1,5 @@
-//! Compact occurrences, as most are: on one line and without a declaration. Appended without a buffer, byte for byte as `borrowed` writes
-//! them.
+//! Appends compact occurrences: those on one line that declare nothing, as most do. The bytes are those that `BorrowedOccurrence` has, but
+//! no buffer is needed.
 ghost use Rattle.std.specs.Prelude.{◌≡◌, ◌++◌, ◌<◌, ◌==◌, ◌+◌, ◌∷◌, [], OnOk, length, pos, if◌then◌else◌};
 ghost use Rattle.std.specs.Bool.{OnTrue};
 ghost use Rattle.proto_wire.specs.Writing.{number_fields, payload_field, spelled, spelled_fields};
@@ -9,8 +9,8 @@ ghost use Rattle.scip_index.specs.Ranges.{prefix_of, compact_occurrence, IsCompa
 use crate::range::TokenSpan;
 use std::alloc::AllocError;
 
-/// Whether an occurrence is short: it declares nothing, and its line, columns, symbol string and role take few bytes.
-/// The length of a short occurrence's record is known before the record is written.
+/// Whether an occurrence is compact: it is on one line, declares nothing, and its line, columns, symbol string and role take few bytes.
+/// The length of a compact occurrence's record is known before the record is written.
 pub fn is_compact(span: &TokenSpan, symbol: &str, role: u8) -> bool
     ensures { OnTrue result (IsCompact span.now (length symbol.now) role) }
 {
@@ -38,8 +38,8 @@ pub fn is_compact(span: &TokenSpan, symbol: &str, role: u8) -> bool
     role != 1
 }
 
-/// Appends the bytes of a short occurrence's record that precede the symbol string of `size` bytes; `rest` bytes follow the field of the
-/// range.
+/// Appends the bytes of a compact occurrence's record up to its symbol string, which has `size` bytes. After the field of the range the
+/// record has `rest` bytes.
 #[tactic(auto, using(crate::proofs::CompactOccurrences::front_low, crate::proofs::CompactOccurrences::front_high))]
 fn append_record_prefix(
     out: &mut Vec<u8>,
@@ -80,7 +80,7 @@ fn append_record_prefix(
     }
 }
 
-/// The number of bytes of a role's field.
+/// The number of bytes of a role's field: 0 for the role 0, which isn't written.
 fn role_size(role: u8) -> u8
     ensures { result ≡ (if role == 0 then 0 else 2) }
 {
@@ -98,7 +98,7 @@ fn append_role_field(out: &mut Vec<u8>, role: u8) -> Result<(), AllocError>
     out.extend_from_slice(&[24, role])
 }
 
-/// Appends the record of a short occurrence.
+/// Appends the record of a compact occurrence.
 pub fn append_compact_occurrence(
     out: &mut Vec<u8>,
     span: &TokenSpan,

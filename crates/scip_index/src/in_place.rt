@@ -1,13 +1,13 @@
-//! Length-delimited fields appended without a buffer, byte for byte as `append_message` and `append_packed` of `proto_wire` append them.
+//! Appends length-delimited fields without a buffer. The bytes are those that `append_message` and `append_packed` of `proto_wire` append.
 ghost use Rattle.std.specs.Prelude.{◌≡◌, ◌<◌, ◌+◌, ◌++◌, ◌∷◌, [], ℕ, List, OnOk, length, vec_len};
 ghost use Rattle.proto_wire.specs.Varints.{varint};
-ghost use Rattle.proto_wire.specs.Writing.{packed_fields, packing, payload_field, spelled, spelled_fields, text_fields};
+ghost use Rattle.proto_wire.specs.Writing.{packed_fields, packed_payload, payload_field, spelled, spelled_fields, text_fields};
 
 use proto_wire::{Scratch, Written, append_message, append_varint};
 use std::alloc::AllocError;
 
-/// Stores the length `size` of a payload in the free byte after its key, which is at index `start`. Inserts a second byte if the length
-/// needs two.
+/// Stores the length `size` of a payload after its key. The key is at index `start`, followed by one reserved byte and the payload. Inserts
+/// a second byte if the length needs two.
 fn store_length(out: &mut Vec<u8>, start: usize, size: usize) -> Result<(), AllocError>
     requires there { start + 1 < vec_len out.old }
     requires few { size < 16384 }
@@ -24,7 +24,7 @@ fn store_length(out: &mut Vec<u8>, start: usize, size: usize) -> Result<(), Allo
 }
 
 /// Appends a message as a field of this number, as `append_message` does. Stores the message's length once its bytes are appended.
-pub fn append_in_place<M: Written>(
+pub fn append_message_in_place<M: Written>(
     scratch: &mut Scratch,
     out: &mut Vec<u8>,
     field: u32,
@@ -38,7 +38,7 @@ pub fn append_in_place<M: Written>(
     const LONG: usize = 16_384;
     let start = out.len();
     out.extend_from_slice(&[field as u8 * 8 + 2, 0])?;
-    message.push_into(scratch, out)?;
+    message.encode_into(scratch, out)?;
     let size = out.len() - start - 2;
     if size < LONG {
         return store_length(out, start, size);
@@ -72,11 +72,11 @@ struct PackedNumbers<'a> {
 }
 
 impl Written for PackedNumbers<'_> {
-    ghost written = { λ n. packing n.numbers.now };
+    ghost written = { λ n. packed_payload n.numbers.now };
 
     ghost fits = { λ _. Unit {0} };
 
-    fn push_into(&self, _scratch: &mut Scratch, out: &mut Vec<u8>) -> Result<(), AllocError> {
+    fn encode_into(&self, _scratch: &mut Scratch, out: &mut Vec<u8>) -> Result<(), AllocError> {
         for number in self.numbers {
             append_varint(out, i64::from(*number).cast_unsigned())?;
         }
@@ -84,7 +84,7 @@ impl Written for PackedNumbers<'_> {
     }
 }
 
-/// Appends numbers as one packed field of this number, unless there are none, as `append_packed` does.
+/// Appends `numbers` as one packed field with the field number `field`, unless the list is empty, as `append_packed` does.
 pub(crate) fn append_numbers_field(
     scratch: &mut Scratch,
     out: &mut Vec<u8>,
@@ -98,5 +98,5 @@ pub(crate) fn append_numbers_field(
     if numbers.is_empty() {
         return Ok(());
     }
-    append_in_place(scratch, out, field, &PackedNumbers { numbers })
+    append_message_in_place(scratch, out, field, &PackedNumbers { numbers })
 }

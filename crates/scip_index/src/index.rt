@@ -10,7 +10,7 @@ pub struct Occurrence {
     pub symbol: String,
     /// Field 3: a bit set of `SymbolRole`, with Definition 1, Import 2, WriteAccess 4, ReadAccess 8 and others.
     pub symbol_roles: i32,
-    /// Field 7: the range of the whole declaration, in the form of `range`, or empty.
+    /// Field 7: for a definition the range of its whole declaration, in the form of `range`; may be empty.
     pub enclosing_range: Vec<i32>,
 }
 

@@ -7,13 +7,13 @@ ghost use Rattle.scip_index.specs.Fits.{IndexFits};
 ghost use Rattle.scip_index.specs.Written.{documents_part, externals_part, metadata_part, written};
 
 /// Bytes have at most one outcome: they encode one index, or have one first fault, and never both.
-pub fn one_outcome()
+pub fn outcome_is_unique()
     // Two outcomes of one list of bytes are equal.
     ensures { (bytes : List ℕ) (o p : Result IndexModel WireFault) → IsIndexOutcome bytes o → IsIndexOutcome bytes p → o ≡ p }
 {}
 
 /// Any bytes encode an index or have a first fault.
-pub fn some_outcome()
+pub fn outcome_exists()
     // Each list of bytes has an outcome.
     ensures { (bytes : List ℕ) → (o : Result IndexModel WireFault) × IsIndexOutcome bytes o }
 {}
@@ -27,8 +27,8 @@ pub fn what_is_written_is_read()
     ensures only { (i : IndexModel) (o : Result IndexModel WireFault) → IndexFits i → length (written i) < 2 ^ 64 → IsIndexOutcome (written i) o → o ≡ Ok i }
 {}
 
-/// The written form of an index is the concatenation of what the calls of an `IndexWriter` write, in order.
-pub fn written_form_has_parts()
+/// The written form of an index is the concatenation of what `metadata`, `document` and `end` of an `IndexWriter` write, in order.
+pub fn written_form_is_concatenation()
     // The written form is the metadata's record, then the documents' records, then the external symbols' records.
     ensures { (i : IndexModel) → written i ≡ metadata_part i.metadata ++ documents_part i.documents ++ externals_part i.external_symbols }
 {}

@@ -1,7 +1,7 @@
 //! The decoding of the messages of an index, record by record.
 ghost use Rattle.std.specs.Prelude.{◌≡◌, IfErr, IfOk, None, OnOk, Result};
 ghost use Rattle.proto_wire.specs.declared.fault.WireFault.{WireFault};
-ghost use Rattle.proto_wire.specs.Faults.{Stops, HasOutcome};
+ghost use Rattle.proto_wire.specs.Faults.{IsFaultOrMemory, HasOutcome};
 ghost use Rattle.proto_wire.specs.Messages.{fault_of};
 ghost use Rattle.proto_wire.specs.Readings.{payload_records};
 ghost use Rattle.scip_index.specs.Plain.{document_model, index_model, metadata_model, occurrence_model, symbol_model, tool_model, IndexModel};
@@ -9,8 +9,8 @@ ghost use Rattle.scip_index.specs.Meaning.{document_fault, document_of, index_fa
 
 use crate::{Document, Index, Metadata, Occurrence, SymbolInfo, ToolInfo};
 use proto_wire::{
-    Message, WireFault, WireRecord, merge_message, read_message, take_messages, take_number,
-    take_numbers, take_text, take_texts,
+    Message, WireFault, WireRecord, decode_messages, decode_number, decode_numbers, decode_text,
+    decode_texts, merge_message, read_message,
 };
 use std::alloc::Global;
 
@@ -19,7 +19,7 @@ impl Message for Occurrence {
 
     ghost fault_in = { occurrence_fault };
 
-    #[tactic(auto, unfolding(proto_wire::specs::Messages::each_of))]
+    #[tactic(auto, unfolding(proto_wire::specs::Messages::field_values))]
     fn blank(alloc: Global) -> Occurrence {
         Occurrence {
             range: Vec::new(alloc),
@@ -29,11 +29,16 @@ impl Message for Occurrence {
         }
     }
 
-    fn take(&mut self, alloc: Global, wire: &WireRecord, payload: &[u8]) -> Result<(), WireFault> {
-        take_numbers(1, &mut self.range, wire, payload)?;
-        take_text(alloc, 2, &mut self.symbol, wire, payload)?;
-        take_number(3, &mut self.symbol_roles, wire);
-        take_numbers(7, &mut self.enclosing_range, wire, payload)?;
+    fn decode_record(
+        &mut self,
+        alloc: Global,
+        wire: &WireRecord,
+        payload: &[u8],
+    ) -> Result<(), WireFault> {
+        decode_numbers(1, &mut self.range, wire, payload)?;
+        decode_text(alloc, 2, &mut self.symbol, wire, payload)?;
+        decode_number(3, &mut self.symbol_roles, wire);
+        decode_numbers(7, &mut self.enclosing_range, wire, payload)?;
         Ok(())
     }
 }
@@ -43,7 +48,7 @@ impl Message for SymbolInfo {
 
     ghost fault_in = { symbol_fault };
 
-    #[tactic(auto, unfolding(proto_wire::specs::Messages::each_of))]
+    #[tactic(auto, unfolding(proto_wire::specs::Messages::field_values))]
     fn blank(alloc: Global) -> SymbolInfo {
         SymbolInfo {
             symbol: String::new(alloc),
@@ -51,9 +56,14 @@ impl Message for SymbolInfo {
         }
     }
 
-    fn take(&mut self, alloc: Global, wire: &WireRecord, payload: &[u8]) -> Result<(), WireFault> {
-        take_text(alloc, 1, &mut self.symbol, wire, payload)?;
-        take_text(alloc, 6, &mut self.display_name, wire, payload)?;
+    fn decode_record(
+        &mut self,
+        alloc: Global,
+        wire: &WireRecord,
+        payload: &[u8],
+    ) -> Result<(), WireFault> {
+        decode_text(alloc, 1, &mut self.symbol, wire, payload)?;
+        decode_text(alloc, 6, &mut self.display_name, wire, payload)?;
         Ok(())
     }
 }
@@ -63,7 +73,7 @@ impl Message for Document {
 
     ghost fault_in = { document_fault };
 
-    #[tactic(auto, unfolding(proto_wire::specs::Messages::each_of))]
+    #[tactic(auto, unfolding(proto_wire::specs::Messages::field_values))]
     fn blank(alloc: Global) -> Document {
         Document {
             relative_path: String::new(alloc),
@@ -74,12 +84,17 @@ impl Message for Document {
         }
     }
 
-    fn take(&mut self, alloc: Global, wire: &WireRecord, payload: &[u8]) -> Result<(), WireFault> {
-        take_text(alloc, 1, &mut self.relative_path, wire, payload)?;
-        take_messages(alloc, 2, &mut self.occurrences, wire, payload)?;
-        take_messages(alloc, 3, &mut self.symbols, wire, payload)?;
-        take_text(alloc, 4, &mut self.language, wire, payload)?;
-        take_number(6, &mut self.position_encoding, wire);
+    fn decode_record(
+        &mut self,
+        alloc: Global,
+        wire: &WireRecord,
+        payload: &[u8],
+    ) -> Result<(), WireFault> {
+        decode_text(alloc, 1, &mut self.relative_path, wire, payload)?;
+        decode_messages(alloc, 2, &mut self.occurrences, wire, payload)?;
+        decode_messages(alloc, 3, &mut self.symbols, wire, payload)?;
+        decode_text(alloc, 4, &mut self.language, wire, payload)?;
+        decode_number(6, &mut self.position_encoding, wire);
         Ok(())
     }
 }
@@ -89,7 +104,7 @@ impl Message for ToolInfo {
 
     ghost fault_in = { tool_fault };
 
-    #[tactic(auto, unfolding(proto_wire::specs::Messages::each_of))]
+    #[tactic(auto, unfolding(proto_wire::specs::Messages::field_values))]
     fn blank(alloc: Global) -> ToolInfo {
         ToolInfo {
             name: String::new(alloc),
@@ -98,10 +113,15 @@ impl Message for ToolInfo {
         }
     }
 
-    fn take(&mut self, alloc: Global, wire: &WireRecord, payload: &[u8]) -> Result<(), WireFault> {
-        take_text(alloc, 1, &mut self.name, wire, payload)?;
-        take_text(alloc, 2, &mut self.version, wire, payload)?;
-        take_texts(alloc, 3, &mut self.arguments, wire, payload)?;
+    fn decode_record(
+        &mut self,
+        alloc: Global,
+        wire: &WireRecord,
+        payload: &[u8],
+    ) -> Result<(), WireFault> {
+        decode_text(alloc, 1, &mut self.name, wire, payload)?;
+        decode_text(alloc, 2, &mut self.version, wire, payload)?;
+        decode_texts(alloc, 3, &mut self.arguments, wire, payload)?;
         Ok(())
     }
 }
@@ -111,7 +131,7 @@ impl Message for Metadata {
 
     ghost fault_in = { metadata_fault };
 
-    #[tactic(auto, unfolding(proto_wire::specs::Messages::each_of))]
+    #[tactic(auto, unfolding(proto_wire::specs::Messages::field_values))]
     fn blank(alloc: Global) -> Metadata {
         Metadata {
             version: 0,
@@ -121,11 +141,16 @@ impl Message for Metadata {
         }
     }
 
-    fn take(&mut self, alloc: Global, wire: &WireRecord, payload: &[u8]) -> Result<(), WireFault> {
-        take_number(1, &mut self.version, wire);
+    fn decode_record(
+        &mut self,
+        alloc: Global,
+        wire: &WireRecord,
+        payload: &[u8],
+    ) -> Result<(), WireFault> {
+        decode_number(1, &mut self.version, wire);
         merge_message(alloc, 2, &mut self.tool_info, wire, payload)?;
-        take_text(alloc, 3, &mut self.project_root, wire, payload)?;
-        take_number(4, &mut self.text_document_encoding, wire);
+        decode_text(alloc, 3, &mut self.project_root, wire, payload)?;
+        decode_number(4, &mut self.text_document_encoding, wire);
         Ok(())
     }
 }
@@ -135,7 +160,7 @@ impl Message for Index {
 
     ghost fault_in = { index_fault };
 
-    #[tactic(auto, unfolding(proto_wire::specs::Messages::each_of))]
+    #[tactic(auto, unfolding(proto_wire::specs::Messages::field_values))]
     fn blank(alloc: Global) -> Index {
         Index {
             metadata: None,
@@ -144,10 +169,15 @@ impl Message for Index {
         }
     }
 
-    fn take(&mut self, alloc: Global, wire: &WireRecord, payload: &[u8]) -> Result<(), WireFault> {
+    fn decode_record(
+        &mut self,
+        alloc: Global,
+        wire: &WireRecord,
+        payload: &[u8],
+    ) -> Result<(), WireFault> {
         merge_message(alloc, 1, &mut self.metadata, wire, payload)?;
-        take_messages(alloc, 2, &mut self.documents, wire, payload)?;
-        take_messages(alloc, 3, &mut self.external_symbols, wire, payload)?;
+        decode_messages(alloc, 2, &mut self.documents, wire, payload)?;
+        decode_messages(alloc, 3, &mut self.external_symbols, wire, payload)?;
         Ok(())
     }
 }
@@ -156,7 +186,7 @@ impl Message for Index {
 fn decode_index(alloc: Global, bytes: &[u8]) -> Result<Index, WireFault>
     ensures clean { OnOk result (fault_of index_fault 0 bytes.now ≡ None) }
     ensures means { IfOk result (λ i. index_model i ≡ index_of (payload_records 0 bytes.now).0) }
-    ensures err { IfErr result (λ e. Stops e (fault_of index_fault 0 bytes.now)) }
+    ensures err { IfErr result (λ e. IsFaultOrMemory e (fault_of index_fault 0 bytes.now)) }
 {
     read_message(alloc, 0, bytes)
 }

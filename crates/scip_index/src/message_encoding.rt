@@ -19,7 +19,7 @@ impl Written for Occurrence {
     ghost fits = { λ o. OccurrenceFits (occurrence_model o) };
 
     #[tactic(auto, unfolding(crate::specs::Written::written_occurrence))]
-    fn push_into(&self, scratch: &mut Scratch, out: &mut Vec<u8>) -> Result<(), AllocError> {
+    fn encode_into(&self, scratch: &mut Scratch, out: &mut Vec<u8>) -> Result<(), AllocError> {
         append_packed(scratch, out, 1, &self.range)?;
         append_text(out, 2, self.symbol.as_str())?;
         append_number(out, 3, self.symbol_roles)?;
@@ -33,7 +33,7 @@ impl Written for SymbolInfo {
     ghost fits = { λ s. SymbolFits (symbol_model s) };
 
     #[tactic(auto, unfolding(crate::specs::Written::written_symbol))]
-    fn push_into(&self, _scratch: &mut Scratch, out: &mut Vec<u8>) -> Result<(), AllocError> {
+    fn encode_into(&self, _scratch: &mut Scratch, out: &mut Vec<u8>) -> Result<(), AllocError> {
         append_text(out, 1, self.symbol.as_str())?;
         append_text(out, 6, self.display_name.as_str())
     }
@@ -44,7 +44,7 @@ impl Written for Document {
 
     ghost fits = { λ d. DocumentFits (document_model d) };
 
-    fn push_into(&self, scratch: &mut Scratch, out: &mut Vec<u8>) -> Result<(), AllocError> {
+    fn encode_into(&self, scratch: &mut Scratch, out: &mut Vec<u8>) -> Result<(), AllocError> {
         append_text(out, 1, self.relative_path.as_str())?;
         append_messages(scratch, out, 2, &self.occurrences)?;
         append_messages(scratch, out, 3, &self.symbols)?;
@@ -59,7 +59,7 @@ impl Written for ToolInfo {
     ghost fits = { λ t. ToolFits (tool_model t) };
 
     #[tactic(auto, using(crate::proofs::WritingSteps::steps), unfolding(crate::specs::Written::written_tool))]
-    fn push_into(&self, _scratch: &mut Scratch, out: &mut Vec<u8>) -> Result<(), AllocError> {
+    fn encode_into(&self, _scratch: &mut Scratch, out: &mut Vec<u8>) -> Result<(), AllocError> {
         append_text(out, 1, self.name.as_str())?;
         append_text(out, 2, self.version.as_str())?;
         append_texts(out, 3, &self.arguments)
@@ -71,7 +71,7 @@ impl Written for Metadata {
 
     ghost fits = { λ m. MetadataFits (metadata_model m) };
 
-    fn push_into(&self, scratch: &mut Scratch, out: &mut Vec<u8>) -> Result<(), AllocError> {
+    fn encode_into(&self, scratch: &mut Scratch, out: &mut Vec<u8>) -> Result<(), AllocError> {
         append_number(out, 1, self.version)?;
         append_optional_message(scratch, out, 2, &self.tool_info)?;
         append_text(out, 3, self.project_root.as_str())?;

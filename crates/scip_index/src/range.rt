@@ -8,12 +8,12 @@ pub enum Range {
     /// No range.
     Nowhere,
     /// On one line: the line, and the columns of the start and of the end.
-    OnLine([i32; 3]),
+    SingleLine([i32; 3]),
     /// Over several lines: line and column of the start, line and column of the end.
-    OverLines([i32; 4]),
+    MultiLine([i32; 4]),
 }
 
-/// The line and the column of a start, and the line (`last`) and the column (`end`) of an end.
+/// The range of a token: it starts at `line` and `column`, and ends at the line `last` before the column `end`. All count from 0.
 #[derive(Clone, Copy)]
 pub struct TokenSpan {
     pub line: u32,
@@ -31,9 +31,9 @@ impl TokenSpan {
     {
         let (line, column, last, end) = (self.line, self.column, self.last, self.end);
         if line == last {
-            Range::OnLine([line as i32, column as i32, end as i32])
+            Range::SingleLine([line as i32, column as i32, end as i32])
         } else {
-            Range::OverLines([line as i32, column as i32, last as i32, end as i32])
+            Range::MultiLine([line as i32, column as i32, last as i32, end as i32])
         }
     }
 }

@@ -11,7 +11,7 @@ ghost use Rattle.scip_index.specs.Meaning.{index_fault};
 ghost use Rattle.scip_index.specs.Streaming.{documents_in, given, HasDocuments, IsFaultAfter, IsRestOutcome, IsReaderAt};
 
 use crate::{Document, Metadata, SymbolInfo};
-use proto_wire::{WireFault, merge_message, read_record, take_messages};
+use proto_wire::{WireFault, decode_messages, merge_message, read_record};
 use std::alloc::Global;
 use std::marker::Model;
 
@@ -45,8 +45,8 @@ fn decode_first_record<'a>(
     let (wire, payload, after) = read_record(at, rest)?;
     let mut documents = Vec::new(alloc);
     merge_message(alloc, 1, metadata, &wire, payload)?;
-    take_messages(alloc, 2, &mut documents, &wire, payload)?;
-    take_messages(alloc, 3, externals, &wire, payload)?;
+    decode_messages(alloc, 2, &mut documents, &wire, payload)?;
+    decode_messages(alloc, 3, externals, &wire, payload)?;
     Ok((
         only_document(documents),
         at + (rest.len() - after.len()),
@@ -86,7 +86,7 @@ fn next_document<'a>(
     Ok((None, place, left))
 }
 
-/// Reads the records up to the end of the bytes.
+/// Reads the records up to the end of the bytes, and drops the documents among them.
 fn read_rest(
     alloc: Global,
     at: usize,

@@ -3,7 +3,7 @@ ghost use Rattle.std.specs.Prelude.{◌≡◌, IfNone, IfSome, None, OnOk, Some,
 ghost use Rattle.std.specs.List.{AllByRecursion};
 ghost use Rattle.std.specs.Result.{result_err};
 ghost use Rattle.byte_sink.specs.Sinks.{failures_after, failures_by, Writes};
-ghost use Rattle.proto_wire.specs.Writers.{answer_of, is_failure, WritesRecord};
+ghost use Rattle.proto_wire.specs.Writers.{result_of_error, is_failure, WritesRecord};
 ghost use Rattle.scip_index.specs.declared.writer.Stage.TheVariants.{Fresh, Open, Ended};
 ghost use Rattle.scip_index.specs.Fits.{DocumentFits, MetadataFits, SymbolFits};
 ghost use Rattle.scip_index.specs.Plain.{document_model, metadata_model, symbol_model};
@@ -59,7 +59,7 @@ fn write_document<S: Sink>(
     write_fully(sink, bytes)
 }
 
-/// Encodes the records of the external symbols in the buffer.
+/// Replaces the content of the buffer by the records of the external symbols.
 fn encode_externals(
     scratch: &mut Scratch,
     bytes: &mut Vec<u8>,
@@ -123,7 +123,7 @@ impl IndexWriter {
 
     /// Fails with the writer's error, if the writer has failed.
     fn ensure_ok(&self) -> Result<(), WireFault>
-        ensures { result ≡ answer_of self.now.error }
+        ensures { result ≡ result_of_error self.now.error }
     {
         match self.error {
             None => Ok(()),
@@ -131,11 +131,11 @@ impl IndexWriter {
         }
     }
 
-    /// Advances to the next stage, or stores the error of a write.
+    /// Advances to the stage `next` if the write that returned `put` succeeded, and otherwise stores its error.
     fn store_error(&mut self, put: Result<(), SinkFault>, next: Stage) -> Result<(), WireFault>
         requires { self.old.error ≡ None }
         ensures retained { self.new ≡ after_write self.old put next }
-        ensures answer { result ≡ answer_of (result_err put) }
+        ensures answer { result ≡ result_of_error (result_err put) }
     {
         match put {
             Ok(()) => {
@@ -161,7 +161,7 @@ impl IndexWriter {
         // If the writer hadn't failed before, the sink counts a failure if and only if the result is `Device`.
         ensures failures { IfNone self.old.error (S.failures sink.new ≡ failures_by is_failure result (S.failures sink.old)) }
         // The result is the error that the writer now has, or `Ok` if it has none.
-        ensures retained { result ≡ answer_of self.new.error }
+        ensures retained { result ≡ result_of_error self.new.error }
         // If the writer had failed before, the writer and the sink are unchanged.
         ensures again { IfSome self.old.error (λ _. (self.new ≡ self.old) × (sink.new ≡ sink.old)) }
         // With `Ok` the writer is at stage `Open`.
@@ -184,7 +184,7 @@ impl IndexWriter {
         // If the writer hadn't failed before, the sink counts a failure if and only if the result is `Device`.
         ensures failures { IfNone self.old.error (S.failures sink.new ≡ failures_by is_failure result (S.failures sink.old)) }
         // The result is the error that the writer now has, or `Ok` if it has none.
-        ensures retained { result ≡ answer_of self.new.error }
+        ensures retained { result ≡ result_of_error self.new.error }
         // If the writer had failed before, the writer and the sink are unchanged.
         ensures again { IfSome self.old.error (λ _. (self.new ≡ self.old) × (sink.new ≡ sink.old)) }
         // With `Ok` the writer is at stage `Open`.
@@ -207,7 +207,7 @@ impl IndexWriter {
         // If the writer hadn't failed before, the sink counts a failure if and only if the result is `Device`.
         ensures failures { IfNone self.old.error (S.failures sink.new ≡ failures_by is_failure result (S.failures sink.old)) }
         // The result is the error that the writer now has, or `Ok` if it has none.
-        ensures retained { result ≡ answer_of self.new.error }
+        ensures retained { result ≡ result_of_error self.new.error }
         // If the writer had failed before, the writer and the sink are unchanged.
         ensures again { IfSome self.old.error (λ _. (self.new ≡ self.old) × (sink.new ≡ sink.old)) }
         // With `Ok` the writer is at stage `Ended`.

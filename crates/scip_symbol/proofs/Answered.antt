@@ -3,7 +3,7 @@ use Rattle.std.proofs.Common.{◌≡◌, ◌≢◌, true, false, eqb, List, [], 
 use Rattle.std.proofs.lemmas.Bool.{eqb-true}
 use Rattle.scip_symbol.specs.declared.fault.SymbolFault.{SymbolFault}
 use Rattle.scip_symbol.specs.declared.fault.SymbolFault.TheVariants.{Empty, BadDescriptor, LocalScheme, OpenQuote, Memory, BadPart}
-use Rattle.scip_symbol.specs.Faults.{UnlessMemory, HasOutcome, Accords}
+use Rattle.scip_symbol.specs.Faults.{UnlessMemory, HasOutcome, MatchesUnlessMemory}
 
 pub UnlessMemory-from : (fault : SymbolFault) {P : Type 0} → P → UnlessMemory fault P
 UnlessMemory-from Empty h = h
@@ -27,8 +27,8 @@ HasOutcome-weaker view (Ok x) P Q p h = h (Ok (view x)) p
 HasOutcome-weaker view (Err e) P Q p h = UnlessMemory-weaker e p (h (Err e))
 
 -- a property of the specified result holds for the result
-pub Accords-tells : {X Y : Type 0} (view : X → Y) (result : Result X SymbolFault) (reading : Result Y SymbolFault) (P : Result Y SymbolFault → Type 0) → Accords view result reading → P reading → HasOutcome view result P
-Accords-tells view result reading P a p = HasOutcome-weaker view result (λ o. reading ≡ o) P a (λ o e. subst P e p)
+pub MatchesUnlessMemory-tells : {X Y : Type 0} (view : X → Y) (result : Result X SymbolFault) (reading : Result Y SymbolFault) (P : Result Y SymbolFault → Type 0) → MatchesUnlessMemory view result reading → P reading → HasOutcome view result P
+MatchesUnlessMemory-tells view result reading P a p = HasOutcome-weaker view result (λ o. reading ≡ o) P a (λ o e. subst P e p)
 
 pub ok_same : {X : Type 0} (x y : X) → ◌≡◌ {A = Result X SymbolFault} (Ok x) (Ok y) → x ≡ y
 ok_same x y e = cc

@@ -10,7 +10,7 @@ use Rattle.scip_symbol.specs.declared.fault.SymbolFault.TheVariants as faults
 use Rattle.scip_symbol.specs.Bytes.{IsUnended}
 use Rattle.scip_symbol.specs.SymbolTexts.{DescriptorModel, are_simple, before_name, closing, IsOfMethod, NameText, DescriptorText}
 use Rattle.scip_symbol.specs.Outcomes.{HasOpenQuote}
-use Rattle.scip_symbol.specs.Reading.{after_byte, after_bytes, simple_prefix, first_name_at, closed_at, method_at, kind_of, suffix_at, one_byte_suffixed_at, suffixed_after_paren, suffixed_at, bare_at, descriptor_after_mark, descriptor_at, ◌>>=◌}
+use Rattle.scip_symbol.specs.Reading.{after_byte, after_bytes, simple_prefix, first_name_at, enclosed_descriptor_at, method_suffix_at, kind_of_suffix, suffix_at, one_byte_suffix_at, suffixed_after_paren, descriptor_suffix_at, bare_descriptor_at, descriptor_after_mark, descriptor_at, ◌>>=◌}
 use Rattle.scip_symbol.proofs.Answered.{ok_same, err_same}
 use Rattle.scip_symbol.proofs.TextCuts.{after_bytes_some}
 use Rattle.scip_symbol.proofs.Ends.{after_some}
@@ -42,8 +42,8 @@ none_of kind = λ ne. refl
 after_word_some : (text rest : List ℕ) → after_bytes (codes ").") text ≡ Some rest → text ≡ 41 ∷ 46 ∷ rest
 after_word_some text rest e = after_bytes_some (codes ").") text rest e
 
-closed_takes : (at : ℕ) (kind : DescriptorKind) (close : ℕ) (inside : List ℕ) (x : DescriptorModel × List ℕ) → closing kind [] ≡ close ∷ [] → closed_at at kind close inside ≡ Ok x → IsRead (before_name kind ++ inside) x
-unfolding closed_at
+closed_takes : (at : ℕ) (kind : DescriptorKind) (close : ℕ) (inside : List ℕ) (x : DescriptorModel × List ℕ) → closing kind [] ≡ close ∷ [] → enclosed_descriptor_at at kind close inside ≡ Ok x → IsRead (before_name kind ++ inside) x
+unfolding enclosed_descriptor_at
 closed_takes at kind close inside x same e = by_name (first_name_at at inside) refl e
   where
     by_rest : (n : List ℕ × List ℕ) (o : Option (List ℕ)) → first_name_at at inside ≡ Ok n → after_byte close n.1 ≡ o
@@ -61,8 +61,8 @@ closed_takes at kind close inside x same e = by_name (first_name_at at inside) r
     by_name (Err fault) h e = absurd cc
     by_name (Ok n) h e = by_rest n (after_byte close n.1) h refl e
 
-method_takes : (at : ℕ) (name written inside : List ℕ) (x : DescriptorModel × List ℕ) → NameText name written → method_at at name inside ≡ Ok x → IsRead (written ++ 40 ∷ inside) x
-unfolding method_at
+method_takes : (at : ℕ) (name written inside : List ℕ) (x : DescriptorModel × List ℕ) → NameText name written → method_suffix_at at name inside ≡ Ok x → IsRead (written ++ 40 ∷ inside) x
+unfolding method_suffix_at
 method_takes at name written inside x t e = go (after_bytes (codes ").") (simple_prefix inside).1) refl e
   where
     go : (o : Option (List ℕ)) → after_bytes (codes ").") (simple_prefix inside).1 ≡ o
@@ -83,7 +83,7 @@ pub record IsTold (b : ℕ) (kind : DescriptorKind) : Type 0 where
 tells : (b n : ℕ) (kind k : DescriptorKind) → closing k [] ≡ n ∷ [] → before_name k ≡ [] → b ≡ n → ◌≡◌ {A = Option DescriptorKind} (Some k) (Some kind) → IsTold b kind
 tells b n kind k c o s e = subst (λ (x : DescriptorKind). IsTold b x) (same_Some k kind e) (record { closes = c ∙ ap (λ (x : ℕ). x ∷ []) (sym s); opens = o })
 
-told_is : (b : ℕ) (kind : DescriptorKind) → kind_of b ≡ Some kind → IsTold b kind
+told_is : (b : ℕ) (kind : DescriptorKind) → kind_of_suffix b ≡ Some kind → IsTold b kind
 told_is b kind e =
     elim (cases_eq b 47) [
       | inl s ↦ tells b 47 kind Namespace refl refl s (rw (eq-eqb b 47 s) at e)
@@ -105,12 +105,12 @@ told_is b kind e =
 abbrev with_rest : List ℕ → DescriptorKind → DescriptorKind × List ℕ
 with_rest rest kind = (kind, rest)
 
-told_takes : (at : ℕ) (name written text : List ℕ) (x : DescriptorModel × List ℕ) → NameText name written → one_byte_suffixed_at at name text ≡ Ok x → IsRead (written ++ text) x
-unfolding one_byte_suffixed_at
+told_takes : (at : ℕ) (name written text : List ℕ) (x : DescriptorModel × List ℕ) → NameText name written → one_byte_suffix_at at name text ≡ Ok x → IsRead (written ++ text) x
+unfolding one_byte_suffix_at
 told_takes at name written [] x t e = absurd cc
-told_takes at name written (b ∷ rest) x t e = go (kind_of b) refl e
+told_takes at name written (b ∷ rest) x t e = go (kind_of_suffix b) refl e
   where
-    go : (o : Option DescriptorKind) → kind_of b ≡ o
+    go : (o : Option DescriptorKind) → kind_of_suffix b ≡ o
         → ok_or (option_map (with_rest rest) o) (faults.BadDescriptor at) >>= (λ y. Ok (record { kind = y.0; name = name; disambiguator = [] }, y.1)) ≡ Ok x → IsRead (written ++ b ∷ rest) x
     go None s e = absurd cc
     go (Some kind) s e =
@@ -120,19 +120,19 @@ told_takes at name written (b ∷ rest) x t e = go (kind_of b) refl e
         subst (λ (v : DescriptorModel × List ℕ). IsRead (written ++ b ∷ rest) v) z
         (subst (λ (xs : List ℕ). IsRead (xs ++ written ++ b ∷ rest) (record { kind = kind; name = name; disambiguator = [] }, rest)) is.opens r)
 
-suffixed_takes : (at : ℕ) (name written text : List ℕ) (x : DescriptorModel × List ℕ) → NameText name written → suffixed_at at name text ≡ Ok x → IsRead (written ++ text) x
-unfolding suffixed_at
+suffixed_takes : (at : ℕ) (name written text : List ℕ) (x : DescriptorModel × List ℕ) → NameText name written → descriptor_suffix_at at name text ≡ Ok x → IsRead (written ++ text) x
+unfolding descriptor_suffix_at
 suffixed_takes at name written text x t e = go (after_byte 40 text) refl e
   where
     go : (o : Option (List ℕ)) → after_byte 40 text ≡ o → suffixed_after_paren at name o text ≡ Ok x → IsRead (written ++ text) x
     go None s e = told_takes at name written text x t e
     go (Some inside) s e = subst (λ (xs : List ℕ). IsRead (written ++ xs) x) (sym (after_some 40 text inside s)) (method_takes at name written inside x t e)
 
-bare_takes : (at : ℕ) (text : List ℕ) (x : DescriptorModel × List ℕ) → bare_at at text ≡ Ok x → IsRead text x
-unfolding bare_at
+bare_takes : (at : ℕ) (text : List ℕ) (x : DescriptorModel × List ℕ) → bare_descriptor_at at text ≡ Ok x → IsRead text x
+unfolding bare_descriptor_at
 bare_takes at text x e = go (first_name_at at text) refl e
   where
-    go : (o : Result (List ℕ × List ℕ) SymbolFault) → first_name_at at text ≡ o → o >>= (λ n. suffixed_at at n.0 n.1) ≡ Ok x → IsRead text x
+    go : (o : Result (List ℕ × List ℕ) SymbolFault) → first_name_at at text ≡ o → o >>= (λ n. descriptor_suffix_at at n.0 n.1) ≡ Ok x → IsRead text x
     go (Err fault) s e = absurd cc
     go (Ok n) s e =
         let t = name_takes at text n s in
@@ -168,29 +168,29 @@ descriptor_shortens at text d rest e =
 
 -- ---- a descriptor that is written is read back
 
-after_name : (at : ℕ) (kind : DescriptorKind) (name written others : List ℕ) → NameText name written → EndsName others → bare_at at (written ++ others) ≡ suffixed_at at name others
-unfolding bare_at
+after_name : (at : ℕ) (kind : DescriptorKind) (name written others : List ℕ) → NameText name written → EndsName others → bare_descriptor_at at (written ++ others) ≡ descriptor_suffix_at at name others
+unfolding bare_descriptor_at
 after_name at kind name written others t h = rw (name_again at name written others t h) refl
 
-bare_first : (at : ℕ) (name written rest : List ℕ) → NameText name written → descriptor_at at (written ++ rest) ≡ bare_at at (written ++ rest)
+bare_first : (at : ℕ) (name written rest : List ℕ) → NameText name written → descriptor_at at (written ++ rest) ≡ bare_descriptor_at at (written ++ rest)
 unfolding descriptor_at
 bare_first at name written rest t = rw (name_begins 91 name written rest refl (eqb-false 91 96 refl) t, name_begins 40 name written rest refl (eqb-false 40 96 refl) t) refl
 
-told_again : (at : ℕ) (kind : DescriptorKind) (b : ℕ) (name written others : List ℕ) → NameText name written → EndsName (b ∷ others) → after_byte 40 (b ∷ others) ≡ None → kind_of b ≡ Some kind
+told_again : (at : ℕ) (kind : DescriptorKind) (b : ℕ) (name written others : List ℕ) → NameText name written → EndsName (b ∷ others) → after_byte 40 (b ∷ others) ≡ None → kind_of_suffix b ≡ Some kind
     → descriptor_at at (written ++ b ∷ others) ≡ Ok (record { kind = kind; name = name; disambiguator = [] }, others)
-unfolding suffixed_at one_byte_suffixed_at
+unfolding descriptor_suffix_at one_byte_suffix_at
 told_again at kind b name written others t h n k = bare_first at name written (b ∷ others) t ∙ after_name at kind name written (b ∷ others) t h ∙ rw (n, k) refl
 
 method_again : (at : ℕ) (name disambiguator written others : List ℕ) → NameText name written → are_simple disambiguator ≡ true
     → descriptor_at at (written ++ (40 ∷ (disambiguator ++ 41 ∷ 46 ∷ others))) ≡ Ok (record { kind = Method; name = name; disambiguator = disambiguator }, others)
-unfolding suffixed_at method_at
+unfolding descriptor_suffix_at method_suffix_at
 method_again at name disambiguator written others t s =
     bare_first at name written (40 ∷ (disambiguator ++ 41 ∷ 46 ∷ others)) t ∙ after_name at Method name written (40 ∷ (disambiguator ++ 41 ∷ 46 ∷ others)) t (refl, eqb-false 40 96 refl)
     ∙ rw (front-again disambiguator (41 ∷ 46 ∷ others) s refl) refl
 
 closed_again : (at : ℕ) (kind : DescriptorKind) (close : ℕ) (name written others : List ℕ) → NameText name written → EndsName (close ∷ others) → after_byte close (close ∷ others) ≡ Some others
-    → closed_at at kind close (written ++ close ∷ others) ≡ Ok (record { kind = kind; name = name; disambiguator = [] }, others)
-unfolding closed_at
+    → enclosed_descriptor_at at kind close (written ++ close ∷ others) ≡ Ok (record { kind = kind; name = name; disambiguator = [] }, others)
+unfolding enclosed_descriptor_at
 closed_again at kind close name written others t h n = rw (name_again at name written (close ∷ others) t h, n) refl
 
 type_parameter_again : (at : ℕ) (name written others : List ℕ) → NameText name written → descriptor_at at (91 ∷ (written ++ 93 ∷ others)) ≡ Ok (record { kind = TypeParameter; name = name; disambiguator = [] }, others)
@@ -242,12 +242,12 @@ descriptor_again at d first others t =
 
 -- ---- bytes that begin with no descriptor
 
-closed_open : (at : ℕ) (kind : DescriptorKind) (close : ℕ) (inside : List ℕ) → IsUnended 96 inside → closed_at at kind close (96 ∷ inside) ≡ Err faults.OpenQuote
-unfolding closed_at
+closed_open : (at : ℕ) (kind : DescriptorKind) (close : ℕ) (inside : List ℕ) → IsUnended 96 inside → enclosed_descriptor_at at kind close (96 ∷ inside) ≡ Err faults.OpenQuote
+unfolding enclosed_descriptor_at
 closed_open at kind close inside u = rw (name_open at inside u) refl
 
 bare_open : (at : ℕ) (inside : List ℕ) → IsUnended 96 inside → descriptor_at at (96 ∷ inside) ≡ Err faults.OpenQuote
-unfolding descriptor_at bare_at
+unfolding descriptor_at bare_descriptor_at
 bare_open at inside u = rw (name_open at inside u) refl
 
 opening_open : (at : ℕ) (kind : DescriptorKind) (inside : List ℕ) → IsUnended 96 inside → descriptor_at at (before_name kind ++ 96 ∷ inside) ≡ Err faults.OpenQuote
@@ -286,8 +286,8 @@ missing : {A B : Type 0} (o : Option A) (d e : SymbolFault) (f : A → B) → ok
 missing None d e f h = cc
 missing (Some x) d e f h = absurd cc
 
-closed_fails : (at : ℕ) (kind : DescriptorKind) (close : ℕ) (inside : List ℕ) (e : SymbolFault) → closed_at at kind close inside ≡ Err e → (e ≡ faults.BadDescriptor at) ⊎ ((e ≡ faults.OpenQuote) × OpensQuote inside)
-unfolding closed_at
+closed_fails : (at : ℕ) (kind : DescriptorKind) (close : ℕ) (inside : List ℕ) (e : SymbolFault) → enclosed_descriptor_at at kind close inside ≡ Err e → (e ≡ faults.BadDescriptor at) ⊎ ((e ≡ faults.OpenQuote) × OpensQuote inside)
+unfolding enclosed_descriptor_at
 closed_fails at kind close inside e h = go (first_name_at at inside) refl h
   where
     go : (o : Result (List ℕ × List ℕ) SymbolFault) → first_name_at at inside ≡ o
@@ -296,19 +296,19 @@ closed_fails at kind close inside e h = go (first_name_at at inside) refl h
     go (Err fault) s h = name_fails at inside e (s ∙ err_as fault e h)
     go (Ok n) s h = inl (missing (after_byte close n.1) (faults.BadDescriptor at) e (closes_to kind n.0) h)
 
-suffixed_fails : (at : ℕ) (name text : List ℕ) (e : SymbolFault) → suffixed_at at name text ≡ Err e → e ≡ faults.BadDescriptor at
-unfolding suffixed_at one_byte_suffixed_at method_at
+suffixed_fails : (at : ℕ) (name text : List ℕ) (e : SymbolFault) → descriptor_suffix_at at name text ≡ Err e → e ≡ faults.BadDescriptor at
+unfolding descriptor_suffix_at one_byte_suffix_at method_suffix_at
 suffixed_fails at name text e h = go (after_byte 40 text) h
   where
     go : (o : Option (List ℕ)) → suffixed_after_paren at name o text ≡ Err e → e ≡ faults.BadDescriptor at
     go None h = missing (suffix_at text) (faults.BadDescriptor at) e (told_as name) h
     go (Some inside) h = missing (after_bytes (codes ").") (simple_prefix inside).1) (faults.BadDescriptor at) e (method_as name (simple_prefix inside).0) h
 
-bare_fails : (at : ℕ) (text : List ℕ) (e : SymbolFault) → bare_at at text ≡ Err e → IsWrong at text e
-unfolding bare_at
+bare_fails : (at : ℕ) (text : List ℕ) (e : SymbolFault) → bare_descriptor_at at text ≡ Err e → IsWrong at text e
+unfolding bare_descriptor_at
 bare_fails at text e h = go (first_name_at at text) refl h
   where
-    go : (o : Result (List ℕ × List ℕ) SymbolFault) → first_name_at at text ≡ o → o >>= (λ n. suffixed_at at n.0 n.1) ≡ Err e → IsWrong at text e
+    go : (o : Result (List ℕ × List ℕ) SymbolFault) → first_name_at at text ≡ o → o >>= (λ n. descriptor_suffix_at at n.0 n.1) ≡ Err e → IsWrong at text e
     go (Err fault) s h = open_behind at Term text text e refl (name_fails at text e (s ∙ err_as fault e h))
     go (Ok n) s h = inl (suffixed_fails at n.0 n.1 e h)
 

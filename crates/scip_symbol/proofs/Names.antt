@@ -6,7 +6,7 @@ use Rattle.scip_symbol.specs.declared.fault.SymbolFault.{SymbolFault}
 use Rattle.scip_symbol.specs.declared.fault.SymbolFault.TheVariants as faults
 use Rattle.scip_symbol.specs.Bytes.{doubled, IsNotFirst, IsUnended}
 use Rattle.scip_symbol.specs.SymbolTexts.{is_simple, are_simple, IsSimple, quoted, NameText}
-use Rattle.scip_symbol.specs.Reading.{after_byte, ended_by, simple_prefix, nonempty_name, simple_name_at, quoted_name_at, name_after_tick, first_name_at, ◌>>=◌}
+use Rattle.scip_symbol.specs.Reading.{after_byte, delimited_prefix, simple_prefix, nonempty_name, simple_name_at, quoted_name_at, name_after_tick, first_name_at, ◌>>=◌}
 use Rattle.scip_symbol.proofs.Ends.{ended-again, ended-said, unended, unended-none, after_some}
 use Rattle.scip_symbol.proofs.TextCuts.{after_byte-other}
 
@@ -91,9 +91,9 @@ simple_takes at text x e =
 
 quoted_takes : (at : ℕ) (inside : List ℕ) (x : List ℕ × List ℕ) → quoted_name_at at inside ≡ Ok x → IsNameRead (96 ∷ inside) x
 unfolding quoted_name_at
-quoted_takes at inside x e = go (ended_by 96 inside) refl e
+quoted_takes at inside x e = go (delimited_prefix 96 inside) refl e
   where
-    go : (o : Option (List ℕ × List ℕ)) → ended_by 96 inside ≡ o → ok_or o faults.OpenQuote >>= (λ y. nonempty_name at y.0 y.1) ≡ Ok x → IsNameRead (96 ∷ inside) x
+    go : (o : Option (List ℕ × List ℕ)) → delimited_prefix 96 inside ≡ o → ok_or o faults.OpenQuote >>= (λ y. nonempty_name at y.0 y.1) ≡ Ok x → IsNameRead (96 ∷ inside) x
     go None s e = absurd cc
     go (Some y) s e =
         let n = named_takes at y.0 y.1 x e in
@@ -164,10 +164,10 @@ pub name_fails : (at : ℕ) (text : List ℕ) (e : SymbolFault) → first_name_a
 unfolding first_name_at simple_name_at quoted_name_at
 name_fails at text e h = go (after_byte 96 text) refl h
   where
-    quote : (inside : List ℕ) (o : Option (List ℕ × List ℕ)) → text ≡ 96 ∷ inside → ended_by 96 inside ≡ o → ok_or o faults.OpenQuote >>= (λ y. nonempty_name at y.0 y.1) ≡ Err e → (e ≡ faults.BadDescriptor at) ⊎ ((e ≡ faults.OpenQuote) × OpensQuote text)
+    quote : (inside : List ℕ) (o : Option (List ℕ × List ℕ)) → text ≡ 96 ∷ inside → delimited_prefix 96 inside ≡ o → ok_or o faults.OpenQuote >>= (λ y. nonempty_name at y.0 y.1) ≡ Err e → (e ≡ faults.BadDescriptor at) ⊎ ((e ≡ faults.OpenQuote) × OpensQuote text)
     quote inside None t s h = inr (cc, record { inside = inside; begins = t; open_is = unended 96 inside s })
     quote inside (Some y) t s h = inl (named_fails at y.0 y.1 e h)
 
     go : (o : Option (List ℕ)) → after_byte 96 text ≡ o → name_after_tick at o text ≡ Err e → (e ≡ faults.BadDescriptor at) ⊎ ((e ≡ faults.OpenQuote) × OpensQuote text)
     go None s h = inl (named_fails at (simple_prefix text).0 (simple_prefix text).1 e h)
-    go (Some inside) s h = quote inside (ended_by 96 inside) (after_some 96 text inside s) refl h
+    go (Some inside) s h = quote inside (delimited_prefix 96 inside) (after_some 96 text inside s) refl h

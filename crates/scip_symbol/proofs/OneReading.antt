@@ -9,7 +9,7 @@ use Rattle.scip_symbol.specs.declared.fault.SymbolFault.TheVariants as faults
 use Rattle.scip_symbol.specs.Bytes.{doubled}
 use Rattle.scip_symbol.specs.SymbolTexts.{DescriptorModel, SymbolModel, Local, Global, before_name, DescriptorTexts, part_shown, ended_part, shown_parts, parts_text, GlobalText, SymbolText}
 use Rattle.scip_symbol.specs.Outcomes.{begins_with_space, BeginsWithParts, LacksPart, IsBadPart, HasDescriptorPrefix, HasOpenQuote, HasNoDescriptor, IsReadError, IsReadOutcome}
-use Rattle.scip_symbol.specs.Reading.{local_of, part_meant, descriptor_at, IsFirstWrong}
+use Rattle.scip_symbol.specs.Reading.{local_symbol_of, part_from_text, descriptor_at, IsFirstWrong}
 use Rattle.scip_symbol.proofs.Answered.{err_same}
 use Rattle.scip_symbol.proofs.PartLaws.{shown_is_part, shown_meant}
 use Rattle.scip_symbol.proofs.DescriptorLaws.{IsWrong, read_of, descriptor_open, descriptor_fails}
@@ -24,7 +24,7 @@ abbrev read_part : ℕ → List (List ℕ) → List ℕ
 read_part number parts = unwrap_or (slice_get parts number) []
 
 abbrev global_by : List (List ℕ) → List DescriptorModel → SymbolModel
-global_by parts ds = Global (read_part 0 parts) (part_meant (read_part 1 parts)) (part_meant (read_part 2 parts)) (part_meant (read_part 3 parts)) ds
+global_by parts ds = Global (read_part 0 parts) (part_from_text (read_part 1 parts)) (part_from_text (read_part 2 parts)) (part_from_text (read_part 3 parts)) ds
 
 record IsGlobalBy (parts : List (List ℕ)) (rest : List ℕ) (s : SymbolModel) : Type 0 where
   descriptors : List DescriptorModel
@@ -38,7 +38,7 @@ IsFourOutcome whole parts rest (Err fault) = ((rest ≡ []) × (fault ≡ faults
 
 abbrev IsOutcomeFrom : ℕ → Start → Result SymbolModel SymbolFault → Type 0
 IsOutcomeFrom whole Nothing o = o ≡ Err faults.Empty
-IsOutcomeFrom whole (LocalId id) o = o ≡ local_of id
+IsOutcomeFrom whole (LocalId id) o = o ≡ local_symbol_of id
 IsOutcomeFrom whole LocalWord o = o ≡ Err faults.LocalScheme
 IsOutcomeFrom whole Space o = o ≡ Err (faults.BadPart 0)
 IsOutcomeFrom whole (Lacks n) o = o ≡ Err (faults.BadPart n)
@@ -163,7 +163,7 @@ bad_answer at rest none no_quote = go (descriptor_at at rest) refl
 quote_some : (rest : List ℕ) → HasOpenQuote rest → rest ≢ []
 quote_some rest q = λ e. absurd (omega (arith, ap length (sym e ∙ q.begins), length-append (before_name q.kind) (96 ∷ q.inside)))
 
-from_local : (text id : List ℕ) (o : Result SymbolModel SymbolFault) → text ≡ codes "local " ++ id → o ≡ local_of id → IsOutcomeFrom (length text) (start_of text) o
+from_local : (text id : List ℕ) (o : Result SymbolModel SymbolFault) → text ≡ codes "local " ++ id → o ≡ local_symbol_of id → IsOutcomeFrom (length text) (start_of text) o
 from_local text id o e i = from_start text (LocalId id) o (ap start_of e ∙ starts_local id) i
 
 from_symbol : (text : List ℕ) (s : SymbolModel) → SymbolText s text → IsOutcomeFrom (length text) (start_of text) (Ok s)

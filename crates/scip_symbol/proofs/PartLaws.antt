@@ -10,7 +10,7 @@ use Rattle.scip_symbol.specs.declared.fault.SymbolFault.TheVariants as faults
 use Rattle.scip_symbol.specs.Bytes.{doubled, IsNotFirst, IsEnded}
 use Rattle.scip_symbol.specs.SymbolTexts.{IsPackagePart, IsOptionalPart, part_shown, ended_part, shown_parts, BeginsLocal}
 use Rattle.scip_symbol.specs.Outcomes.{BeginsWithParts, IsBadPart, IsReadError}
-use Rattle.scip_symbol.specs.Reading.{ended_by, first_part_at, part_meant, optional_part_at, PartsModel, parts_at, ◌>>=◌}
+use Rattle.scip_symbol.specs.Reading.{delimited_prefix, first_part_at, part_from_text, optional_part_at, PartsModel, parts_at, ◌>>=◌}
 use Rattle.scip_symbol.proofs.Ends.{ended-said, unended}
 
 -- ---- parts in the string, and the values that they denote
@@ -19,12 +19,12 @@ pub shown_is_part : (part : List ℕ) → IsOptionalPart part → IsPackagePart 
 shown_is_part [] h = eqb-false 46 32 refl
 shown_is_part (b ∷ part) h = h.next
 
-pub shown_meant : (part : List ℕ) → IsOptionalPart part → part_meant (part_shown part) ≡ part
+pub shown_meant : (part : List ℕ) → IsOptionalPart part → part_from_text (part_shown part) ≡ part
 shown_meant [] h = refl
 shown_meant (b ∷ []) h = rw (ne_eqb b 46 (λ e. h.no_stop (ap (λ (x : ℕ). x ∷ []) e))) refl
 shown_meant (b ∷ c ∷ part) h = refl
 
-pub meant_shown : (part : List ℕ) → IsPackagePart part → part_shown (part_meant part) ≡ part
+pub meant_shown : (part : List ℕ) → IsPackagePart part → part_shown (part_from_text part) ≡ part
 meant_shown [] h = absurd h
 meant_shown (b ∷ []) h =
     elim (cases_eq b 46) [
@@ -33,7 +33,7 @@ meant_shown (b ∷ []) h =
     ]
 meant_shown (b ∷ c ∷ part) h = refl
 
-pub meant_is : (part : List ℕ) → IsPackagePart part → IsOptionalPart (part_meant part)
+pub meant_is : (part : List ℕ) → IsPackagePart part → IsOptionalPart (part_from_text part)
 meant_is [] h = absurd h
 meant_is (b ∷ []) h =
     elim (cases_eq b 46) [
@@ -58,7 +58,7 @@ ended_is_part text (b ∷ part) rest n e = by_first text n e.whole
         let k = rw (eq-eqb b 32 same) at m in
         k same
 
-pub part_more : (text : List ℕ) (parts : List (List ℕ)) (rest : List ℕ) (x : List ℕ × List ℕ) → BeginsWithParts text parts rest → ended_by 32 rest ≡ Some x → IsPackagePart x.0 × BeginsWithParts text (parts ++ x.0 ∷ []) x.1
+pub part_more : (text : List ℕ) (parts : List (List ℕ)) (rest : List ℕ) (x : List ℕ × List ℕ) → BeginsWithParts text parts rest → delimited_prefix 32 rest ≡ Some x → IsPackagePart x.0 × BeginsWithParts text (parts ++ x.0 ∷ []) x.1
 part_more text parts rest x h e =
     let i = ended-said 32 rest x e in
     let p = ended_is_part rest x.0 x.1 h.next i in (
@@ -73,7 +73,7 @@ part_more text parts rest x h e =
       },
     )
 
-part_lacks : (text : List ℕ) (parts : List (List ℕ)) (rest : List ℕ) (count : ℕ) → text ≢ [] → BeginsWithParts text parts rest → length parts ≡ count → count < 4 → ended_by 32 rest ≡ None → IsBadPart text count
+part_lacks : (text : List ℕ) (parts : List (List ℕ)) (rest : List ℕ) (count : ℕ) → text ≢ [] → BeginsWithParts text parts rest → length parts ≡ count → count < 4 → delimited_prefix 32 rest ≡ None → IsBadPart text count
 part_lacks text parts rest count some h n few e =
     record { some = some; wrong = inr (record { parts = parts; rest = rest; has_parts = h; count_is = n; few = few; unended = unended 32 rest e }) }
 
@@ -102,18 +102,18 @@ part_some (b ∷ text) p = λ e. absurd cc
 
 -- a part is read, or the string has too few parts
 with_part : (text : List ℕ) (parts : List (List ℕ)) (rest : List ℕ) (n : ℕ) (o : Option (List ℕ × List ℕ)) (go : List ℕ × List ℕ → Result (PartsModel × List ℕ) SymbolFault)
-    → text ≢ [] → BeginsWithParts text parts rest → length parts ≡ n → n < 4 → ended_by 32 rest ≡ o
+    → text ≢ [] → BeginsWithParts text parts rest → length parts ≡ n → n < 4 → delimited_prefix 32 rest ≡ o
     → ((x : List ℕ × List ℕ) → IsPackagePart x.0 → BeginsWithParts text (parts ++ x.0 ∷ []) x.1 → ArePartsOf text (go x))
     → ArePartsOf text (ok_or o (faults.BadPart n) >>= go)
 with_part text parts rest n None go some h count few e then = part_lacks text parts rest n some h count few e
 with_part text parts rest n (Some x) go some h count few e then = let m = part_more text parts rest x h e in then x m.0 m.1
 
 abbrev as_meant : List ℕ × List ℕ → Result (List ℕ × List ℕ) SymbolFault
-as_meant x = Ok (part_meant x.0, x.1)
+as_meant x = Ok (part_from_text x.0, x.1)
 
 with_optional : (text : List ℕ) (parts : List (List ℕ)) (rest : List ℕ) (n : ℕ) (o : Option (List ℕ × List ℕ)) (go : List ℕ × List ℕ → Result (PartsModel × List ℕ) SymbolFault)
-    → text ≢ [] → BeginsWithParts text parts rest → length parts ≡ n → n < 4 → ended_by 32 rest ≡ o
-    → ((x : List ℕ × List ℕ) → IsPackagePart x.0 → BeginsWithParts text (parts ++ x.0 ∷ []) x.1 → ArePartsOf text (go (part_meant x.0, x.1)))
+    → text ≢ [] → BeginsWithParts text parts rest → length parts ≡ n → n < 4 → delimited_prefix 32 rest ≡ o
+    → ((x : List ℕ × List ℕ) → IsPackagePart x.0 → BeginsWithParts text (parts ++ x.0 ∷ []) x.1 → ArePartsOf text (go (part_from_text x.0, x.1)))
     → ArePartsOf text ((ok_or o (faults.BadPart n) >>= as_meant) >>= go)
 with_optional text parts rest n None go some h count few e then = part_lacks text parts rest n some h count few e
 with_optional text parts rest n (Some x) go some h count few e then = let m = part_more text parts rest x h e in then x m.0 m.1
@@ -122,10 +122,10 @@ pub parts_of : (text : List ℕ) → IsPackagePart text → (BeginsLocal text �
 unfolding parts_at optional_part_at first_part_at
 parts_of text p not_local =
     let some = part_some text p in
-    with_part text [] text 0 (ended_by 32 text) _ some (first_parts text p not_local) refl (omega arith) refl (λ s is_s hs.
-    with_optional text (s.0 ∷ []) s.1 1 (ended_by 32 s.1) _ some hs refl (omega arith) refl (λ m is_m hm.
-    with_optional text (s.0 ∷ m.0 ∷ []) m.1 2 (ended_by 32 m.1) _ some hm refl (omega arith) refl (λ k is_k hk.
-    with_optional text (s.0 ∷ m.0 ∷ k.0 ∷ []) k.1 3 (ended_by 32 k.1) _ some hk refl (omega arith) refl (λ v is_v hv.
+    with_part text [] text 0 (delimited_prefix 32 text) _ some (first_parts text p not_local) refl (omega arith) refl (λ s is_s hs.
+    with_optional text (s.0 ∷ []) s.1 1 (delimited_prefix 32 s.1) _ some hs refl (omega arith) refl (λ m is_m hm.
+    with_optional text (s.0 ∷ m.0 ∷ []) m.1 2 (delimited_prefix 32 m.1) _ some hm refl (omega arith) refl (λ k is_k hk.
+    with_optional text (s.0 ∷ m.0 ∷ k.0 ∷ []) k.1 3 (delimited_prefix 32 k.1) _ some hk refl (omega arith) refl (λ v is_v hv.
     record {
       scheme_is = is_s;
       manager_is = meant_is m.0 is_m;

@@ -5,7 +5,7 @@ use Rattle.scip_symbol.specs.declared.fault.SymbolFault.{SymbolFault}
 use Rattle.scip_symbol.specs.declared.fault.SymbolFault.TheVariants as faults
 use Rattle.scip_symbol.specs.SymbolTexts.{DescriptorModel, SymbolModel, DescriptorText, IsPackagePart, BeginsLocal}
 use Rattle.scip_symbol.specs.Outcomes.{IsReadOutcome}
-use Rattle.scip_symbol.specs.Reading.{after_bytes, descriptor_at, IsDescriptorsOutcome, PartsModel, parts_at, local_of}
+use Rattle.scip_symbol.specs.Reading.{after_bytes, descriptor_at, IsDescriptorsOutcome, PartsModel, parts_at, local_symbol_of}
 use Rattle.scip_symbol.proofs.TextCuts.{after_bytes_some, not_word}
 use Rattle.scip_symbol.proofs.DescriptorLaws.{read_of, descriptor_shortens}
 use Rattle.scip_symbol.proofs.PartLaws.{ArePartsRead, parts_ok, parts_err}
@@ -68,7 +68,7 @@ some_global text p n = go (parts_at text) refl
     go (Err fault) e = (Err fault, parts_err text fault p n e)
 
 by_words : (text : List ℕ) (o p : Option (List ℕ)) → after_bytes (codes "local ") text ≡ o → after_bytes (codes "local") text ≡ p → SomeOutcome text
-by_words text (Some id) p e f = (local_of id, local_read text id e)
+by_words text (Some id) p e f = (local_symbol_of id, local_read text id e)
 by_words text None (Some rest) e f = (Err faults.LocalScheme, ((rest, after_bytes_some (codes "local") text rest f), not_word (codes "local ") text e))
 by_words [] None None e f = (Err faults.Empty, inl refl)
 by_words (b ∷ text) None None e f =

@@ -6,7 +6,7 @@ use Rattle.std.proofs.lemmas.Bool.{eq-eqb, ne_eqb, eqb-true}
 use Rattle.scip_symbol.specs.Bytes.{doubled, IsNotFirst, IsUnended}
 use Rattle.scip_symbol.specs.SymbolTexts.{IsPackagePart, ended_part, BeginsLocal}
 use Rattle.scip_symbol.specs.Outcomes.{begins_with_space, BeginsWithParts}
-use Rattle.scip_symbol.specs.Reading.{after_bytes, ended_by}
+use Rattle.scip_symbol.specs.Reading.{after_bytes, delimited_prefix}
 use Rattle.scip_symbol.proofs.TextCuts.{after_bytes-again, none_after_word}
 use Rattle.scip_symbol.proofs.Ends.{ended-again, unended-none}
 
@@ -25,7 +25,7 @@ taken_by (Some x) text more = (x.0 ∷ (more x.1).0, (more x.1).1)
 
 taken : ℕ → List ℕ → List (List ℕ) × List ℕ
 taken zero text = ([], text)
-taken (suc n) text = taken_by (ended_by 32 text) text (λ rest. taken n rest)
+taken (suc n) text = taken_by (delimited_prefix 32 text) text (λ rest. taken n rest)
 
 by_parts : List (List ℕ) × List ℕ → Start
 by_parts x = if length x.0 == 4 then Four x.0 x.1 else Lacks (length x.0)

@@ -6,12 +6,12 @@ use Rattle.std.proofs.lemmas.Bool.{cases_lt, ne_eqb}
 use Rattle.std.proofs.lemmas.Option.{none-some, same_Some}
 use Rattle.std.proofs.lemmas.Str.{IsCharBoundary-after_ascii}
 use Rattle.scip_symbol.specs.declared.kind.DescriptorKind.{DescriptorKind}
-use Rattle.scip_symbol.specs.Reading.{kind_of}
+use Rattle.scip_symbol.specs.Reading.{kind_of_suffix}
 
-none_told : (b : ℕ) → 128 ≤ b → kind_of b ≡ None
+none_told : (b : ℕ) → 128 ≤ b → kind_of_suffix b ≡ None
 none_told b h = rw (ne_eqb b 47 (omega arith), ne_eqb b 35 (omega arith), ne_eqb b 46 (omega arith), ne_eqb b 58 (omega arith), ne_eqb b 33 (omega arith)) refl
 
-told_ascii : (b : ℕ) (kind : DescriptorKind) → kind_of b ≡ Some kind → b < 128
+told_ascii : (b : ℕ) (kind : DescriptorKind) → kind_of_suffix b ≡ Some kind → b < 128
 told_ascii b kind e =
     elim (cases_lt b 128) [
       | inl lt ↦ lt
@@ -19,7 +19,7 @@ told_ascii b kind e =
     ]
 
 -- the string may be split after this byte
-pub told_boundary : (text : List ℕ) (b : ℕ) (kind : DescriptorKind) → IsUtf8 text → Some b ≡ slice_get text 0 → kind_of b ≡ Some kind → IsCharBoundary text 1
+pub told_boundary : (text : List ℕ) (b : ℕ) (kind : DescriptorKind) → IsUtf8 text → Some b ≡ slice_get text 0 → kind_of_suffix b ≡ Some kind → IsCharBoundary text 1
 told_boundary [] b kind u e k = absurd (none-some b (sym e))
 told_boundary (x ∷ text) b kind u e k =
     let same : b ≡ x = same_Some b x e in

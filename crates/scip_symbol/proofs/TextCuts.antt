@@ -5,7 +5,7 @@ use Rattle.std.specs.List.{position_or_len, before_first, after_first}
 use Rattle.std.specs.Str.Pattern.{LacksTextAt, StripsPrefix, FindsTextPrefix}
 use Rattle.std.proofs.lemmas.Bool.{lt-ltb, le-ltb, cases_eq, ne_eqb}
 use Rattle.std.proofs.lemmas.Option.{same_Some, none-some}
-use Rattle.texts.specs.Fields.{cut_at}
+use Rattle.texts.specs.Fields.{split_at_first}
 use Rattle.texts.proofs.FieldCuts.{cut_is}
 use Rattle.scip_symbol.specs.Reading.{after_byte, after_bytes}
 
@@ -53,7 +53,7 @@ not_word word text e rest s = none-some rest (sym e ∙ ap (after_bytes word) s 
 
 pub cut_from : (delimiter : ℕ) (bytes : List ℕ) (r : Option (Bor (List ℕ) × Bor (List ℕ)))
     → MatchOption r (position_or_len (λ b. eqb b delimiter) bytes ≡ length bytes) (λ x. (position_or_len (λ b. eqb b delimiter) bytes < length bytes) × (x.0.now ≡ before_first (λ b. eqb b delimiter) bytes) × (x.1.now ≡ after_first (λ b. eqb b delimiter) bytes))
-    → option_map (λ (x : Bor (List ℕ) × Bor (List ℕ)). (x.0.now, x.1.now)) r ≡ cut_at delimiter bytes
+    → option_map (λ (x : Bor (List ℕ) × Bor (List ℕ)). (x.0.now, x.1.now)) r ≡ split_at_first delimiter bytes
 cut_from delimiter bytes None h =
     let n : ltb (position_or_len (λ b. eqb b delimiter) bytes) (length bytes) ≡ Bool.false = le-ltb _ _ (omega arith) in
     rw n at (sym (cut_is delimiter bytes))

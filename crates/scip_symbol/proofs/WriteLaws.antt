@@ -123,8 +123,8 @@ has_local_or_not (Global scheme m p v ds) = go (after_bytes (codes "local") sche
     go (Some rest) e = inl (rest, after_bytes_some (codes "local") scheme rest e)
     go None e = inr (λ l. not_word (codes "local") scheme e l.0 l.1)
 
-some_writing : (s : SymbolModel) → AreOfMethods s → SomeOutcome s
-some_writing s k =
+write_outcome_exists : (s : SymbolModel) → AreOfMethods s → SomeOutcome s
+write_outcome_exists s k =
     elim (cases_Bool (has_empty s)) [
       | inl e ↦ (Err faults.Empty, e)
       | inr e ↦ elim (has_local_or_not s) [
@@ -134,4 +134,4 @@ some_writing s k =
     ]
 
 pub symbol_outcome : (s : Symbol) → (o : Result (List ℕ) SymbolFault) × IsWriteOutcome (symbol_model s) o
-symbol_outcome s = some_writing (symbol_model s) (are_of_methods s)
+symbol_outcome s = write_outcome_exists (symbol_model s) (are_of_methods s)

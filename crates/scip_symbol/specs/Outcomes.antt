@@ -89,7 +89,7 @@ pub record BeginsWithParts (text : List ℕ) (parts : List (List ℕ)) (rest : L
   pub whole : text ≡ flat_map ended_part parts ++ rest
   pub next : IsNotFirst 32 rest
 
--- fewer than four parts are ended, and this is their number
+-- the string has fewer than four parts that a single space ends, and `count` is their number
 pub record LacksPart (text : List ℕ) (count : ℕ) : Type 0 where
   pub parts : List (List ℕ)
   pub rest : List ℕ
@@ -98,12 +98,12 @@ pub record LacksPart (text : List ℕ) (count : ℕ) : Type 0 where
   pub few : count < 4
   pub unended : IsUnended 32 rest
 
--- the string begins with a space, and the part is 0; or fewer than four parts are ended, and this is the number of the first one that isn't
+-- the number of the first wrong part: 0 if the string begins with a space, otherwise that of the first part that no single space ends
 pub record IsBadPart (text : List ℕ) (part : ℕ) : Type 0 where
   pub some : text ≢ []
   pub wrong : ((begins_with_space text ≡ true) × (part ≡ 0)) ⊎ LacksPart text part
 
--- the string is four parts and descriptors, followed by the rest, which begins at this offset
+-- the string is four parts, then some descriptors, then the rest, which begins at offset `at`
 pub record HasDescriptorPrefix (text : List ℕ) (at : ℕ) (rest : List ℕ) : Type 0 where
   pub parts : List (List ℕ)
   pub descriptors : List DescriptorModel
@@ -134,7 +134,7 @@ pub record IsBadId (text : List ℕ) (at : ℕ) : Type 0 where
   pub wrong : is_simple b ≡ false
   pub offset : at ≡ 6 + length front
 
--- four parts and descriptors are followed, at this offset, by something that isn't a descriptor and whose name has no open backtick
+-- after four parts and some descriptors, the bytes at offset `at` begin with no descriptor, and with no name whose backtick isn't closed
 pub record IsBadDescriptor (text : List ℕ) (at : ℕ) : Type 0 where
   pub rest : List ℕ
   pub front : HasDescriptorPrefix text at rest

@@ -27,14 +27,14 @@ after_bytes [] text = Some text
 after_bytes (w ∷ word) [] = None
 after_bytes (w ∷ word) (b ∷ bytes) = if b == w then after_bytes word bytes else None
 
--- the part that the bytes begin with, and what follows the single byte that ends it; in the part this byte is doubled. None if nothing ends
--- the part
-unfoldable pub ended_by : ℕ → List ℕ → Option (List ℕ × List ℕ)
-ended_by delimiter [] = None
-ended_by delimiter (b ∷ []) = if b == delimiter then Some ([], []) else None
-ended_by delimiter (b ∷ c ∷ more) =
-    if b == delimiter then (if c == delimiter then option_map (with_first delimiter) (ended_by delimiter more) else Some ([], c ∷ more))
-    else option_map (with_first b) (ended_by delimiter (c ∷ more))
+-- the part that the bytes begin with, unescaped, and what follows the single delimiter that ends it. In the part each delimiter is doubled.
+-- None if no single delimiter ends the part
+unfoldable pub delimited_prefix : ℕ → List ℕ → Option (List ℕ × List ℕ)
+delimited_prefix delimiter [] = None
+delimited_prefix delimiter (b ∷ []) = if b == delimiter then Some ([], []) else None
+delimited_prefix delimiter (b ∷ c ∷ more) =
+    if b == delimiter then (if c == delimiter then option_map (with_first delimiter) (delimited_prefix delimiter more) else Some ([], c ∷ more))
+    else option_map (with_first b) (delimited_prefix delimiter (c ∷ more))
 
 -- the identifier characters that the bytes begin with, and what follows them
 unfoldable pub simple_prefix : List ℕ → List ℕ × List ℕ
@@ -43,7 +43,7 @@ simple_prefix (b ∷ bytes) = if is_simple b then with_first b (simple_prefix by
 
 -- ---- descriptors; `at` is the offset of the descriptor in the symbol string
 
--- a name with the bytes after it, if the name isn't empty
+-- a name with the bytes after it; BadDescriptor if the name is empty
 abbrev pub nonempty_name : ℕ → List ℕ → List ℕ → Result (List ℕ × List ℕ) SymbolFault
 nonempty_name at [] rest = Err (faults.BadDescriptor at)
 nonempty_name at (b ∷ name) rest = Ok (b ∷ name, rest)
@@ -55,10 +55,10 @@ simple_name_at at text = nonempty_name at (simple_prefix text).0 (simple_prefix 
 -- the escaped name whose first backtick has been read, and what follows it
 unfoldable pub quoted_name_at : ℕ → List ℕ → Result (List ℕ × List ℕ) SymbolFault
 quoted_name_at at inside = do
-  x ← ok_or (ended_by 96 inside) faults.OpenQuote
+  x ← ok_or (delimited_prefix 96 inside) faults.OpenQuote
   nonempty_name at x.0 x.1
 
--- the name that the bytes begin with, and what follows it, by whether a backtick is the first byte
+-- the name that the bytes begin with, and what follows it. The option is what follows a backtick, if that is the first byte
 abbrev pub name_after_tick : ℕ → Option (List ℕ) → List ℕ → Result (List ℕ × List ℕ) SymbolFault
 name_after_tick at None text = simple_name_at at text
 name_after_tick at (Some inside) text = quoted_name_at at inside
@@ -68,21 +68,21 @@ unfoldable pub first_name_at : ℕ → List ℕ → Result (List ℕ × List ℕ
 first_name_at at text = name_after_tick at (after_byte 96 text) text
 
 -- the descriptor of a name and the byte that closes it, and what follows it; its opening byte has been read
-unfoldable pub closed_at : ℕ → DescriptorKind → ℕ → List ℕ → Result (DescriptorModel × List ℕ) SymbolFault
-closed_at at kind close inside = do
+unfoldable pub enclosed_descriptor_at : ℕ → DescriptorKind → ℕ → List ℕ → Result (DescriptorModel × List ℕ) SymbolFault
+enclosed_descriptor_at at kind close inside = do
   x ← first_name_at at inside
   rest ← ok_or (after_byte close x.1) (faults.BadDescriptor at)
   Ok (record { kind = kind; name = x.0; disambiguator = [] }, rest)
 
 -- the method whose name and `(` have been read, and what follows it
-unfoldable pub method_at : ℕ → List ℕ → List ℕ → Result (DescriptorModel × List ℕ) SymbolFault
-method_at at name inside = do
+unfoldable pub method_suffix_at : ℕ → List ℕ → List ℕ → Result (DescriptorModel × List ℕ) SymbolFault
+method_suffix_at at name inside = do
   rest ← ok_or (after_bytes (codes ").") (simple_prefix inside).1) (faults.BadDescriptor at)
   Ok (record { kind = Method; name = name; disambiguator = (simple_prefix inside).0 }, rest)
 
 -- the kind of a descriptor with this byte after its name
-abbrev pub kind_of : ℕ → Option DescriptorKind
-kind_of b =
+abbrev pub kind_of_suffix : ℕ → Option DescriptorKind
+kind_of_suffix b =
     if b == 47 then Some Namespace
     else if b == 35 then Some TypeName
     else if b == 46 then Some Term
@@ -93,40 +93,40 @@ kind_of b =
 -- the kind of a descriptor with the first byte after its name, and what follows this byte
 abbrev pub suffix_at : List ℕ → Option (DescriptorKind × List ℕ)
 suffix_at [] = None
-suffix_at (b ∷ rest) = option_map (λ kind. (kind, rest)) (kind_of b)
+suffix_at (b ∷ rest) = option_map (λ kind. (kind, rest)) (kind_of_suffix b)
 
 -- the descriptor whose name has been read and that one byte ends, and what follows it
-unfoldable pub one_byte_suffixed_at : ℕ → List ℕ → List ℕ → Result (DescriptorModel × List ℕ) SymbolFault
-one_byte_suffixed_at at name text = do
+unfoldable pub one_byte_suffix_at : ℕ → List ℕ → List ℕ → Result (DescriptorModel × List ℕ) SymbolFault
+one_byte_suffix_at at name text = do
   x ← ok_or (suffix_at text) (faults.BadDescriptor at)
   Ok (record { kind = x.0; name = name; disambiguator = [] }, x.1)
 
--- the descriptor whose name has been read, and what follows it, by whether `(` comes next
+-- the descriptor whose name has been read, and what follows it. The option is what follows `(`, if that is the next byte
 abbrev pub suffixed_after_paren : ℕ → List ℕ → Option (List ℕ) → List ℕ → Result (DescriptorModel × List ℕ) SymbolFault
-suffixed_after_paren at name None text = one_byte_suffixed_at at name text
-suffixed_after_paren at name (Some inside) text = method_at at name inside
+suffixed_after_paren at name None text = one_byte_suffix_at at name text
+suffixed_after_paren at name (Some inside) text = method_suffix_at at name inside
 
 -- the descriptor whose name has been read, and what follows it
-unfoldable pub suffixed_at : ℕ → List ℕ → List ℕ → Result (DescriptorModel × List ℕ) SymbolFault
-suffixed_at at name text = suffixed_after_paren at name (after_byte 40 text) text
+unfoldable pub descriptor_suffix_at : ℕ → List ℕ → List ℕ → Result (DescriptorModel × List ℕ) SymbolFault
+descriptor_suffix_at at name text = suffixed_after_paren at name (after_byte 40 text) text
 
 -- the descriptor that begins with its name, and what follows it
-unfoldable pub bare_at : ℕ → List ℕ → Result (DescriptorModel × List ℕ) SymbolFault
-bare_at at text = do
+unfoldable pub bare_descriptor_at : ℕ → List ℕ → Result (DescriptorModel × List ℕ) SymbolFault
+bare_descriptor_at at text = do
   x ← first_name_at at text
-  suffixed_at at x.0 x.1
+  descriptor_suffix_at at x.0 x.1
 
--- the first descriptor, and what follows it, by whether `[` or `(` is the first byte
+-- the first descriptor, and what follows it. The options are what follows `[`, and what follows `(`, if that is the first byte
 abbrev pub descriptor_after_mark : ℕ → Option (List ℕ) → Option (List ℕ) → List ℕ → Result (DescriptorModel × List ℕ) SymbolFault
-descriptor_after_mark at None None text = bare_at at text
-descriptor_after_mark at None (Some inside) text = closed_at at Parameter 41 inside
-descriptor_after_mark at (Some inside) _ text = closed_at at TypeParameter 93 inside
+descriptor_after_mark at None None text = bare_descriptor_at at text
+descriptor_after_mark at None (Some inside) text = enclosed_descriptor_at at Parameter 41 inside
+descriptor_after_mark at (Some inside) _ text = enclosed_descriptor_at at TypeParameter 93 inside
 
 -- the first descriptor, and what follows it
 unfoldable pub descriptor_at : ℕ → List ℕ → Result (DescriptorModel × List ℕ) SymbolFault
 descriptor_at at text = descriptor_after_mark at (after_byte 91 text) (after_byte 40 text) text
 
--- some descriptors are followed by a wrong descriptor, which has this error; they are the end of a string of `whole` bytes
+-- the text, which is the end of a string of `whole` bytes, is some descriptors followed by a wrong one, which has this error
 pub record IsFirstWrong (whole : ℕ) (text : List ℕ) (fault : SymbolFault) : Type 0 where
   pub descriptors : List DescriptorModel
   pub front : List ℕ
@@ -145,19 +145,19 @@ IsDescriptorsOutcome whole text (Err fault) = IsFirstWrong whole text fault
 
 -- the part with this number, which the bytes begin with, and what follows the space that ends it
 unfoldable pub first_part_at : ℕ → List ℕ → Result (List ℕ × List ℕ) SymbolFault
-first_part_at number text = ok_or (ended_by 32 text) (faults.BadPart number)
+first_part_at number text = ok_or (delimited_prefix 32 text) (faults.BadPart number)
 
 -- a part that may be empty, from its bytes in a string: `.` is the placeholder of an empty one
-abbrev pub part_meant : List ℕ → List ℕ
-part_meant [] = []
-part_meant (b ∷ []) = if b == 46 then [] else b ∷ []
-part_meant (b ∷ c ∷ part) = b ∷ c ∷ part
+abbrev pub part_from_text : List ℕ → List ℕ
+part_from_text [] = []
+part_from_text (b ∷ []) = if b == 46 then [] else b ∷ []
+part_from_text (b ∷ c ∷ part) = b ∷ c ∷ part
 
 -- the part with this number, which may be empty, and what follows the space that ends it
 unfoldable pub optional_part_at : ℕ → List ℕ → Result (List ℕ × List ℕ) SymbolFault
 optional_part_at number text = do
   x ← first_part_at number text
-  Ok (part_meant x.0, x.1)
+  Ok (part_from_text x.0, x.1)
 
 -- the four parts of a symbol, unescaped
 pub record PartsModel : Type 0 where
@@ -181,12 +181,12 @@ parts_model parts = record { scheme = string_bytes parts.scheme; manager = strin
 
 -- ---- the id of a local symbol
 
--- the local symbol with this id, if no bytes follow the id's identifier characters
+-- the local symbol with this id, if nothing follows the identifier characters that the id begins with; otherwise BadDescriptor
 abbrev pub local_by : List ℕ → List ℕ → Result SymbolModel SymbolFault
 local_by id [] = Ok (Local id)
 local_by id (c ∷ rest) = Err (faults.BadDescriptor (6 + length (simple_prefix id).0))
 
 -- the local symbol with this id, if the id isn't empty and has only identifier characters
-unfoldable pub local_of : List ℕ → Result SymbolModel SymbolFault
-local_of [] = Err faults.Empty
-local_of (b ∷ id) = local_by (b ∷ id) (simple_prefix (b ∷ id)).1
+unfoldable pub local_symbol_of : List ℕ → Result SymbolModel SymbolFault
+local_symbol_of [] = Err faults.Empty
+local_symbol_of (b ∷ id) = local_by (b ∷ id) (simple_prefix (b ∷ id)).1

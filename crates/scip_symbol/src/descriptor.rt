@@ -21,7 +21,7 @@ impl Descriptor {
     ghost use Rattle.scip_symbol.specs.declared.kind.DescriptorKind.TheVariants.{Method};
     ghost use Rattle.scip_symbol.specs.Views.{descriptor_model};
 
-    /// A descriptor of this kind and name without a disambiguator, as `T#` for a type or `p().` for a method. The name is unescaped.
+    /// A descriptor of this kind and name without a disambiguator, as `T#` for a type or `p().` for a method. `name` isn't escaped.
     pub fn new(kind: DescriptorKind, name: String) -> Descriptor
         // The result has this kind and name and an empty disambiguator.
         ensures { descriptor_model result ≡ record { kind = kind; name = string_bytes name; disambiguator = [] } }
@@ -34,7 +34,8 @@ impl Descriptor {
         }
     }
 
-    /// A method of this name with this disambiguator, as `p(+1).`; an empty disambiguator means none. The name is unescaped.
+    /// A descriptor of a method with this name and this disambiguator, as `p(+1).`; an empty disambiguator means none. `name` isn't
+    /// escaped.
     pub fn method(name: String, disambiguator: String) -> Descriptor
         // The result is a method with this name and this disambiguator.
         ensures { descriptor_model result ≡ record { kind = Method; name = string_bytes name; disambiguator = string_bytes disambiguator } }
@@ -54,7 +55,7 @@ impl Descriptor {
         self.kind
     }
 
-    /// The name, unescaped.
+    /// The name of the descriptor, unescaped.
     pub fn name(&self) -> &str
         // The result is the descriptor's name.
         ensures { result.now ≡ (descriptor_model self.now).name }
@@ -62,7 +63,7 @@ impl Descriptor {
         self.name.as_str()
     }
 
-    /// The disambiguator of a method; empty for every other kind.
+    /// The disambiguator of the descriptor; empty if it is no method, or a method without one.
     pub fn disambiguator(&self) -> &str
         // The result is the descriptor's disambiguator.
         ensures value { result.now ≡ (descriptor_model self.now).disambiguator }

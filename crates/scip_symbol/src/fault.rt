@@ -6,8 +6,8 @@ use thiserror::Error;
 /// The first error in a symbol string or in a symbol.
 #[derive(Clone, Copy, Debug, Error)]
 pub enum SymbolFault {
-    /// In a string: the string is empty, or the local id, or what follows the four parts. In a symbol: the scheme, the local id, a name or
-    /// the list of descriptors is empty.
+    /// In a string: the string, the local id, or the list of descriptors after the four parts is empty.
+    /// In a symbol: the scheme, the local id, a name or the list of descriptors is empty.
     #[error("something is empty")]
     Empty,
     /// In a string: the offset, in bytes from 0, of the first wrong descriptor, or of the first byte in a local id that isn't an identifier
@@ -16,10 +16,10 @@ pub enum SymbolFault {
     /// the local id has one.
     #[error("the descriptor at {at} is wrong")]
     BadDescriptor { at: usize },
-    /// The scheme begins with `local`, and the symbol isn't local.
+    /// The scheme of a global symbol begins with `local`.
     #[error("the scheme begins with local")]
     LocalScheme,
-    /// A name begins with a backtick that isn't closed.
+    /// In a string: the name of the first wrong descriptor begins with a backtick that isn't closed.
     #[error("a backtick is open")]
     OpenQuote,
     /// An allocation failed.

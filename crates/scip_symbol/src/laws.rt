@@ -7,12 +7,12 @@ ghost use Rattle.scip_symbol.specs.Views.{symbol_model};
 ghost use Rattle.scip_symbol.specs.Outcomes.{AreOfMethods, IsReadOutcome, IsWritable, IsWriteOutcome};
 
 /// At most one symbol has a given string.
-pub fn one_symbol()
+pub fn symbol_is_unique()
     // Two symbols that have one string are equal.
     ensures { (text : List ℕ) (s t : SymbolModel) → SymbolText s text → SymbolText t text → s ≡ t }
 {}
 
-/// A symbol that has a string has its canonical string, and each of its other strings is longer, by the backticks around simple names.
+/// A symbol that has any string has its canonical string. Each of its other strings is longer, since it has backticks around simple names.
 pub fn canonical_text_is_shortest()
     // If a symbol has a string, it has its canonical string.
     ensures text { (s : SymbolModel) (text : List ℕ) → SymbolText s text → SymbolText s (canonical_text s) }
@@ -27,31 +27,30 @@ pub fn canonical_texts_differ()
 {}
 
 /// Every string has an outcome of reading: a symbol or an error.
-pub fn some_reading()
+pub fn read_outcome_exists()
     // Each list of bytes has an outcome of reading.
     ensures { (text : List ℕ) → (o : Result SymbolModel SymbolFault) × IsReadOutcome text o }
 {}
 
 /// A string has at most one outcome of reading: a symbol or an error.
-pub fn one_reading()
+pub fn read_outcome_is_unique()
     // Two outcomes of reading one string are equal.
     ensures { (text : List ℕ) (o p : Result SymbolModel SymbolFault) → IsReadOutcome text o → IsReadOutcome text p → o ≡ p }
 {}
 
 /// Every symbol has an outcome of writing: its canonical string or an error.
-pub fn some_writing()
+pub fn write_outcome_exists()
     // Each symbol has an outcome of writing.
     ensures { (s : Symbol) → (o : Result (List ℕ) SymbolFault) × IsWriteOutcome (symbol_model s) o }
 {}
 
 /// A symbol has at most one outcome of writing: its canonical string or an error. So a symbol that has a string isn't rejected.
-pub fn one_writing()
+pub fn write_outcome_is_unique()
     // Two outcomes of writing one symbol are equal.
     ensures { (s : SymbolModel) (o p : Result (List ℕ) SymbolFault) → IsWriteOutcome s o → IsWriteOutcome s p → o ≡ p }
 {}
 
-/// A symbol without an error is written as its canonical string, and no other symbol is written.
-/// So if a caller knows that a symbol has no error, `write` returns the string, unless memory runs out.
+/// `write` returns the canonical string of a symbol that has no error, unless memory runs out. It returns a string for no other symbol.
 /// The type of descriptors guarantees that only methods have a disambiguator.
 pub fn what_is_writable_is_written()
     // If a symbol has no error, and only its methods have a disambiguator, the outcome of writing it is its canonical string.

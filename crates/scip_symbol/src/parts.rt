@@ -1,6 +1,7 @@
-//! The reader of the four parts of a symbol: scheme, manager, package name and version.
+//! The reader of the four parts of a symbol: scheme (part 0), manager (1), package name (2) and version (3).
+//! Clauses `MatchesUnlessMemory`: unless an allocation failed, the result is that of the specification's function that the clause cites.
 ghost use Rattle.std.specs.String.{string_bytes};
-ghost use Rattle.scip_symbol.specs.Faults.{Accords};
+ghost use Rattle.scip_symbol.specs.Faults.{MatchesUnlessMemory};
 ghost use Rattle.scip_symbol.specs.Reading.{optional_part_at, first_part_at, parts_at, parts_model};
 
 use crate::SymbolFault;
@@ -16,21 +17,22 @@ pub(crate) struct Parts {
     pub(crate) version: String,
 }
 
-/// Reads the part with this number, which the string begins with. Returns it unescaped, with what follows the space that ends it.
+/// Reads the part with which the string begins. Returns it unescaped, and the rest of the string after the space that ends it. `part` is
+/// its number, for an error.
 #[tactic(auto, unfolding(crate::specs::Reading::first_part_at))]
 fn read_part(alloc: Global, part: usize, text: &str) -> Result<(String, &str), SymbolFault>
-    ensures { Accords (λ x. (string_bytes x.0, x.1.now)) result (first_part_at part text.now) }
+    ensures { MatchesUnlessMemory (λ x. (string_bytes x.0, x.1.now)) result (first_part_at part text.now) }
 {
     let found = read_delimited(alloc, text, ' ')?;
     let ended = found.ok_or(SymbolFault::BadPart { part })?;
     Ok(ended)
 }
 
-/// Reads the part with this number, which may be empty, with `.` as placeholder. Returns it unescaped, with what follows the space that
-/// ends it.
+/// Reads the part with which the string begins; `.` denotes an empty part. Returns it unescaped, and the rest of the string after the space
+/// that ends it. `part` is its number, for an error.
 #[tactic(auto, unfolding(crate::specs::Reading::optional_part_at))]
 fn read_optional_part(alloc: Global, part: usize, text: &str) -> Result<(String, &str), SymbolFault>
-    ensures { Accords (λ x. (string_bytes x.0, x.1.now)) result (optional_part_at part text.now) }
+    ensures { MatchesUnlessMemory (λ x. (string_bytes x.0, x.1.now)) result (optional_part_at part text.now) }
 {
     let (mut shown, rest) = read_part(alloc, part, text)?;
     if shown.as_str() == "." {
@@ -39,10 +41,10 @@ fn read_optional_part(alloc: Global, part: usize, text: &str) -> Result<(String,
     Ok((shown, rest))
 }
 
-/// Reads the four parts that the string begins with. Returns them with what follows them.
+/// Reads the four parts with which the string of a global symbol begins. Returns them and the rest of the string.
 #[tactic(auto, unfolding(crate::specs::Reading::parts_at))]
 pub(crate) fn read_parts(alloc: Global, text: &str) -> Result<(Parts, &str), SymbolFault>
-    ensures { Accords (λ x. (parts_model x.0, x.1.now)) result (parts_at text.now) }
+    ensures { MatchesUnlessMemory (λ x. (parts_model x.0, x.1.now)) result (parts_at text.now) }
 {
     let (scheme, rest) = read_part(alloc, 0, text)?;
     let (manager, rest) = read_optional_part(alloc, 1, rest)?;

@@ -1,11 +1,11 @@
 //! The reader of symbol strings.
 ghost use Rattle.std.specs.Prelude.{◌≡◌, ◌+◌, ◌<◌, ◌^◌, length, Result};
 ghost use Rattle.scip_symbol.specs.declared.fault.SymbolFault.{SymbolFault};
-ghost use Rattle.scip_symbol.specs.Faults.{Accords, HasOutcome};
+ghost use Rattle.scip_symbol.specs.Faults.{MatchesUnlessMemory, HasOutcome};
 ghost use Rattle.scip_symbol.specs.SymbolTexts.{BeginsLocal, IsPackagePart, SymbolModel};
 ghost use Rattle.scip_symbol.specs.Views.{symbol_model};
 ghost use Rattle.scip_symbol.specs.Outcomes.{IsReadOutcome};
-ghost use Rattle.scip_symbol.specs.Reading.{local_of};
+ghost use Rattle.scip_symbol.specs.Reading.{local_symbol_of};
 
 use crate::cuts::{split_simple_prefix, strip_char, strip_word};
 use crate::descriptors::read_descriptors;
@@ -13,11 +13,12 @@ use crate::parts::read_parts;
 use crate::{Symbol, SymbolFault};
 use std::alloc::Global;
 
-/// The local symbol with this id, which follows the six bytes of `local `.
-#[tactic(auto, unfolding(crate::specs::Reading::local_of))]
+/// The local symbol with this id. Fails with `Empty` if the id is empty, and with `BadDescriptor` if a byte isn't an identifier character.
+/// In the symbol string the id follows the six bytes `local `.
+#[tactic(auto, unfolding(crate::specs::Reading::local_symbol_of))]
 fn parse_local_id(alloc: Global, id: &str) -> Result<Symbol, SymbolFault>
     requires { 6 + length id.now < 2 ^ 64 }
-    ensures { Accords symbol_model result (local_of id.now) }
+    ensures { MatchesUnlessMemory symbol_model result (local_symbol_of id.now) }
 {
     if id.is_empty() {
         return Err(SymbolFault::Empty);
@@ -50,7 +51,7 @@ fn read_global_symbol(alloc: Global, text: &str) -> Result<Symbol, SymbolFault>
     })
 }
 
-/// Reads a symbol. The contract of `read` follows from this one.
+/// Returns the symbol that has this string, or the string's first error. Does all the work of `read`.
 fn read_symbol(alloc: Global, text: &str) -> Result<Symbol, SymbolFault>
     ensures { HasOutcome symbol_model result (IsReadOutcome text.now) }
 {
@@ -71,8 +72,8 @@ fn read_symbol(alloc: Global, text: &str) -> Result<Symbol, SymbolFault>
 
 /// Returns the symbol that has this string (scip.proto, the grammar of `Symbol`), or the first error. Offsets are in bytes from 0.
 /// An empty string fails with `Empty`.
-/// After `local `, the error is `Empty` if nothing follows, and `BadDescriptor` with the offset of the first byte that isn't an identifier
-/// character.
+/// A string that begins with `local ` fails with `Empty` if nothing follows, and with `BadDescriptor` if a later byte isn't an identifier
+/// character; the error has the offset of the first such byte.
 /// Any other string that begins with `local` fails with `LocalScheme`.
 /// A string that begins with a space fails with `BadPart` and 0. If a part isn't ended by an odd number of spaces, the error is `BadPart`
 /// with the number of the first one.
@@ -83,7 +84,7 @@ fn read_symbol(alloc: Global, text: &str) -> Result<Symbol, SymbolFault>
 pub fn read(alloc: Global, text: &str) -> Result<Symbol, SymbolFault>
     // The result is the symbol that has the string, or the error of the string, or `Memory`.
     ensures exact { HasOutcome symbol_model result (IsReadOutcome text.now) }
-    // Each outcome of reading the string, a symbol or an error, is the result, unless the result is `Memory`.
+    // Each outcome of the string, a symbol or an error, equals the result, unless the result is `Memory`.
     ensures only { (o : Result SymbolModel SymbolFault) → IsReadOutcome text.now o → HasOutcome symbol_model result (λ p. p ≡ o) }
 {
     read_symbol(alloc, text)

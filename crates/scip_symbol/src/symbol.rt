@@ -5,7 +5,7 @@ use crate::Descriptor;
 /// The symbol that a symbol string denotes (scip.proto, `Symbol`).
 #[derive(PartialEq, Eq, Drop)]
 pub enum Symbol {
-    /// A local symbol, which has a meaning in one document alone, by its id.
+    /// A local symbol, which has a meaning only within one document; its id.
     Local(String),
     /// A global symbol, which has a meaning in all documents.
     Global {

@@ -1,4 +1,4 @@
-//! The errors of symbols that can't be written.
+//! Tests for the errors because of which a symbol can't be written.
 ghost use Rattle.std.specs.Prelude.{◌≡◌, ◌↔◌, ◌||◌, IfErr, IsTrue, OnOk};
 ghost use Rattle.std.specs.List.{list_any, position, position_from};
 ghost use Rattle.scip_symbol.specs.Views.{descriptor_model, descriptor_models, symbol_model};
@@ -7,32 +7,35 @@ ghost use Rattle.scip_symbol.specs.Outcomes.{begins_with_space, has_empty, is_em
 use crate::cuts::{is_simple_text, strip_char, strip_word};
 use crate::{Descriptor, Symbol, SymbolFault};
 
+/// Whether the string is empty.
 fn is_empty_text(text: &str) -> bool
     ensures { result ≡ is_empty text.now }
 {
     text.is_empty()
 }
 
+/// Whether the name of the descriptor is empty.
 fn has_no_name(descriptor: &Descriptor) -> bool
     ensures { result ≡ is_empty (descriptor_model descriptor.now).name }
 {
     is_empty_text(descriptor.name())
 }
 
+/// Whether the name of any of the descriptors is empty.
 fn has_unnamed_descriptor(descriptors: &[Descriptor]) -> bool
     ensures { result ≡ list_any (λ d. is_empty (descriptor_model d).name) descriptors.now }
 {
     descriptors.iter().any(|d| has_no_name(d))
 }
 
-/// Whether there is no descriptor, or one with an empty name.
+/// Whether the list of descriptors is empty, or a descriptor has an empty name.
 fn lacks_descriptor_or_name(descriptors: &[Descriptor]) -> bool
     ensures { result ≡ (is_empty (descriptor_models descriptors.now) || list_any (λ d. is_empty d.name) (descriptor_models descriptors.now)) }
 {
     descriptors.is_empty() || has_unnamed_descriptor(descriptors)
 }
 
-/// Whether the scheme, the local id, a name or the list of descriptors is empty.
+/// Whether the scheme, the local id, the name of a descriptor or the list of descriptors is empty.
 fn has_empty_field(symbol: &Symbol) -> bool
     ensures { result ≡ has_empty (symbol_model symbol.now) }
 {
@@ -46,7 +49,7 @@ fn has_empty_field(symbol: &Symbol) -> bool
     }
 }
 
-/// Whether the scheme begins with `local`.
+/// Whether the symbol is global and its scheme begins with `local`.
 fn has_local_scheme(symbol: &Symbol) -> bool
     ensures { IsTrue result ↔ HasLocalScheme (symbol_model symbol.now) }
 {
@@ -56,20 +59,23 @@ fn has_local_scheme(symbol: &Symbol) -> bool
     }
 }
 
+/// Whether the first byte of the string is a space.
 fn starts_with_space(text: &str) -> bool
     ensures { result ≡ begins_with_space text.now }
 {
     strip_char(text, ' ').is_some()
 }
 
+/// Whether a manager, package name or version can't be written: it begins with a space, or is `.`, the placeholder of an empty part.
 fn is_unwritable_part(part: &str) -> bool
     ensures { result ≡ is_wrong_part part.now }
 {
     starts_with_space(part) || part == "."
 }
 
-/// The number of the first part that can't be written.
-fn find_wrong_part(symbol: &Symbol) -> Option<usize>
+/// The number of the first part of a global symbol that can't be written: 0 is the scheme, 1 the manager, 2 the package name, 3 the
+/// version. `None` if each part can be written, or the symbol is local.
+fn find_unwritable_part(symbol: &Symbol) -> Option<usize>
     ensures { result ≡ wrong_part_of (symbol_model symbol.now) }
 {
     let Symbol::Global {
@@ -95,37 +101,44 @@ fn find_wrong_part(symbol: &Symbol) -> Option<usize>
     }
 }
 
-fn has_wrong_disambiguator(descriptor: &Descriptor) -> bool
+/// Whether the disambiguator has a byte that isn't an identifier character.
+fn has_invalid_disambiguator(descriptor: &Descriptor) -> bool
     ensures { result ≡ is_wrong_descriptor (descriptor_model descriptor.now) }
 {
     !is_simple_text(descriptor.disambiguator())
 }
 
-fn wrong_disambiguator_index(descriptors: &[Descriptor]) -> Option<usize>
+/// The index of the first descriptor whose disambiguator has a byte that isn't an identifier character; `None` if there is none.
+fn find_invalid_disambiguator(descriptors: &[Descriptor]) -> Option<usize>
     ensures { result ≡ position (λ d. is_wrong_descriptor (descriptor_model d)) descriptors.now }
 {
-    descriptors.iter().position(|d| has_wrong_disambiguator(d))
+    descriptors
+        .iter()
+        .position(|d| has_invalid_disambiguator(d))
 }
 
-fn first_wrong_descriptor(descriptors: &[Descriptor]) -> Option<usize>
+/// As `find_invalid_disambiguator`, with a contract about the models of the descriptors.
+fn find_invalid_descriptor(descriptors: &[Descriptor]) -> Option<usize>
     ensures { result ≡ position_from is_wrong_descriptor 0 (descriptor_models descriptors.now) }
 {
-    wrong_disambiguator_index(descriptors)
+    find_invalid_disambiguator(descriptors)
 }
 
-/// The index of the first descriptor that can't be written, or 0 for a local id that can't be written.
-fn find_wrong_descriptor(symbol: &Symbol) -> Option<usize>
+/// The index of the first descriptor whose disambiguator has a byte that isn't an identifier character; 0 for a local id that has such a
+/// byte. `None` if there is no such byte.
+fn find_unwritable_descriptor(symbol: &Symbol) -> Option<usize>
     ensures { result ≡ wrong_descriptor_of (symbol_model symbol.now) }
 {
     match symbol {
         Symbol::Local(id) if is_simple_text(id.as_str()) => None,
         Symbol::Local(_) => Some(0),
-        Symbol::Global { descriptors, .. } => first_wrong_descriptor(descriptors.as_slice()),
+        Symbol::Global { descriptors, .. } => find_invalid_descriptor(descriptors.as_slice()),
     }
 }
 
-/// Fails with the first error of a symbol, if it has one.
+/// Fails with the first error because of which the symbol can't be written, if there is one.
 pub(crate) fn check_writable(symbol: &Symbol) -> Result<(), SymbolFault>
+    // With `Err` the symbol has the returned error; with `Ok` it has none.
     ensures refused { IfErr result (IsWriteError (symbol_model symbol.now)) }
     ensures fits { OnOk result (IsWritable (symbol_model symbol.now)) }
 {
@@ -135,10 +148,10 @@ pub(crate) fn check_writable(symbol: &Symbol) -> Result<(), SymbolFault>
     if has_local_scheme(symbol) {
         return Err(SymbolFault::LocalScheme);
     }
-    if let Some(part) = find_wrong_part(symbol) {
+    if let Some(part) = find_unwritable_part(symbol) {
         return Err(SymbolFault::BadPart { part });
     }
-    match find_wrong_descriptor(symbol) {
+    match find_unwritable_descriptor(symbol) {
         Some(at) => Err(SymbolFault::BadDescriptor { at }),
         None => Ok(()),
     }

@@ -14,7 +14,7 @@ use crate::writable::check_writable;
 use crate::{Descriptor, DescriptorKind, Symbol, SymbolFault};
 use std::alloc::{AllocError, Global};
 
-/// Appends a string with each ASCII character `delimiter` doubled.
+/// Appends `text` to `out`, with each ASCII character `delimiter` doubled.
 fn append_doubled(out: &mut String, text: &str, delimiter: char) -> Result<(), AllocError>
     requires { delimiter < 128 }
     ensures { OnOk result (string_bytes out.new ≡ string_bytes out.old ++ doubled delimiter text.now) }
@@ -29,7 +29,7 @@ fn append_doubled(out: &mut String, text: &str, delimiter: char) -> Result<(), A
     out.push_str(rest)
 }
 
-/// Appends a name, escaped with backticks if it isn't a simple identifier.
+/// Appends a name to `out`, escaped with backticks if it isn't a simple identifier.
 fn append_name(out: &mut String, name: &str) -> Result<(), AllocError>
     ensures { OnOk result (string_bytes out.new ≡ string_bytes out.old ++ canonical_name name.now) }
 {
@@ -41,7 +41,7 @@ fn append_name(out: &mut String, name: &str) -> Result<(), AllocError>
     out.push_str("`")
 }
 
-/// What precedes a name in a descriptor of this kind.
+/// The string before the name in a descriptor of this kind: `[` for a type parameter, `(` for a parameter, otherwise the empty string.
 fn opening_delimiter(kind: DescriptorKind) -> &'static str
     ensures { result.now ≡ before_name kind }
 {
@@ -57,8 +57,8 @@ fn opening_delimiter(kind: DescriptorKind) -> &'static str
     }
 }
 
-/// Appends what follows a name in a descriptor of this kind.
-fn append_closing(
+/// Appends the characters after the name in a descriptor of this kind. Writes the disambiguator, in parentheses, only for a method.
+fn append_closing_delimiter(
     out: &mut String,
     kind: DescriptorKind,
     disambiguator: &str,
@@ -81,15 +81,17 @@ fn append_closing(
     }
 }
 
+/// Appends the canonical string of a descriptor to `out`.
 fn append_descriptor(out: &mut String, descriptor: &Descriptor) -> Result<(), AllocError>
     ensures { OnOk result (string_bytes out.new ≡ string_bytes out.old ++ canonical_descriptor_text (descriptor_model descriptor.now)) }
 {
     let kind = descriptor.kind();
     out.push_str(opening_delimiter(kind))?;
     append_name(out, descriptor.name())?;
-    append_closing(out, kind, descriptor.disambiguator())
+    append_closing_delimiter(out, kind, descriptor.disambiguator())
 }
 
+/// Appends the canonical strings of the descriptors to `out`, in order.
 fn append_descriptors(out: &mut String, descriptors: &[Descriptor]) -> Result<(), AllocError>
     ensures { OnOk result (string_bytes out.new ≡ string_bytes out.old ++ flat_map canonical_descriptor_text (descriptor_models descriptors.now)) }
 {
@@ -99,7 +101,7 @@ fn append_descriptors(out: &mut String, descriptors: &[Descriptor]) -> Result<()
     Ok(())
 }
 
-/// Appends a part that isn't empty, with its spaces doubled, and a single space.
+/// Appends a part of a symbol to `out`, with its spaces doubled, and then a single space.
 fn append_part(out: &mut String, part: &str) -> Result<(), AllocError>
     ensures { OnOk result (string_bytes out.new ≡ string_bytes out.old ++ ended_part part.now) }
 {
@@ -107,7 +109,7 @@ fn append_part(out: &mut String, part: &str) -> Result<(), AllocError>
     out.push_str(" ")
 }
 
-/// Appends a part, with `.` as placeholder for an empty one, and a single space.
+/// Appends a part of a symbol to `out`, with its spaces doubled, or `.` if it is empty; then a single space.
 fn append_optional_part(out: &mut String, part: &str) -> Result<(), AllocError>
     ensures { OnOk result (string_bytes out.new ≡ string_bytes out.old ++ ended_part (part_shown part.now)) }
 {
@@ -118,8 +120,8 @@ fn append_optional_part(out: &mut String, part: &str) -> Result<(), AllocError>
     }
 }
 
-/// Returns the four parts as they precede the descriptors in a symbol string (scip.proto, the grammar of `Symbol`). The parts aren't
-/// checked.
+/// Returns the string of the four parts of a symbol, which precedes the descriptors in a symbol string (scip.proto, the grammar of
+/// `Symbol`). Doesn't check whether the parts can be written.
 /// Fails with `AllocError` if an allocation fails.
 pub fn write_parts(
     alloc: Global,
@@ -153,10 +155,10 @@ pub fn append_simple_descriptor(
 {
     out.push_str(opening_delimiter(kind))?;
     append_name(out, name)?;
-    append_closing(out, kind, "")
+    append_closing_delimiter(out, kind, "")
 }
 
-/// The canonical string of a symbol, which isn't checked.
+/// The canonical string of a symbol. Doesn't check whether the symbol can be written.
 fn canonical_symbol_text(alloc: Global, symbol: &Symbol) -> Result<String, AllocError>
     ensures { IfOk result (λ text. string_bytes text ≡ canonical_text (symbol_model symbol.now)) }
 {
@@ -187,7 +189,7 @@ fn canonical_symbol_text(alloc: Global, symbol: &Symbol) -> Result<String, Alloc
     }
 }
 
-/// Writes a symbol. The contract of `write` follows from this one.
+/// Returns the canonical string of a symbol, or its first error. Does all the work of `write`.
 fn check_and_write(alloc: Global, symbol: &Symbol) -> Result<String, SymbolFault>
     ensures { HasOutcome string_bytes result (IsWriteOutcome (symbol_model symbol.now)) }
 {

@@ -397,7 +397,7 @@ fn description(alloc: Global, way: As, bytes: &[u8]) -> Result<String, AllocErro
 }
 
 #[test]
-fn bytes_mean_what_they_mean(rt: HostRuntime) -> Result<(), Fail> {
+fn bytes_are_read_and_written_back(rt: HostRuntime) -> Result<(), Fail> {
     for (way, bytes, want) in ROWS {
         let description = description(rt.alloc(), *way, bytes)?;
         expect(&rt, description.as_str(), want);

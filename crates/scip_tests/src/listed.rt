@@ -6,7 +6,7 @@ use index_store::{
 use std::alloc::{AllocError, Global};
 use std::process::Abort;
 use std::test::Fail;
-use test_doubles::ByOne;
+use test_doubles::FailingSink;
 use texts::LocationStyle;
 
 /// Three documents, the first and the last with one path. The first has a definition and a reference of `s`, definitions of a local symbol,
@@ -65,7 +65,7 @@ pub(crate) fn put(
     alloc: Global,
     bytes: &[u8],
     ask: Ask,
-    sink: &mut ByOne,
+    sink: &mut FailingSink,
 ) -> Result<(), QueryFault> {
     let style = LocationStyle::Plain;
     match ask {
@@ -86,7 +86,7 @@ pub(crate) fn put(
 
 /// The output, or the error; after an error nothing was written.
 fn description(alloc: Global, bytes: &[u8], ask: Ask) -> Result<String, AllocError> {
-    let mut sink = ByOne::new(alloc, 10_000);
+    let mut sink = FailingSink::new(alloc, 10_000);
     match put(alloc, bytes, ask, &mut sink) {
         Ok(()) => String::from_utf8_lossy(alloc, sink.taken.as_slice()),
         Err(QueryFault::Memory) => Err(AllocError),
@@ -114,7 +114,7 @@ fn symbols_of_an_index_are_listed(rt: HostRuntime) -> Result<(), Fail> {
 }
 
 #[test]
-fn what_is_no_index_has_no_answer(rt: HostRuntime) -> Result<(), Fail> {
+fn malformed_indexes_are_rejected(rt: HostRuntime) -> Result<(), Fail> {
     let cut = &DEFINES[..DEFINES.len() - 1];
     for (ask, _) in ROWS {
         check_answer(&rt, cut, *ask, "Truncated 97")?;

@@ -21,7 +21,7 @@ fn describe_next(alloc: Global, reader: &mut IndexReader) -> Result<String, Allo
 }
 
 /// Whether a reader of these bytes returns this many of these documents, and then these other data.
-fn answers(
+fn reader_returns(
     alloc: Global,
     bytes: &[u8],
     documents: &[&str],
@@ -37,13 +37,13 @@ fn answers(
 }
 
 #[test]
-fn a_reader_answers_its_refusal_again(rt: HostRuntime) -> Result<(), Fail> {
+fn a_reader_repeats_its_fault(rt: HostRuntime) -> Result<(), Fail> {
     for (left_out, documents, rest) in ROWS {
         let bytes = &FOREIGN[..FOREIGN.len().saturating_sub(*left_out)];
-        assert!(rt; answers(rt.alloc(), bytes, &[], rest)?);
-        assert!(rt; answers(rt.alloc(), bytes, &documents[..1], rest)?);
-        assert!(rt; answers(rt.alloc(), bytes, &documents[..2], rest)?);
-        assert!(rt; answers(rt.alloc(), bytes, documents.as_slice(), rest)?);
+        assert!(rt; reader_returns(rt.alloc(), bytes, &[], rest)?);
+        assert!(rt; reader_returns(rt.alloc(), bytes, &documents[..1], rest)?);
+        assert!(rt; reader_returns(rt.alloc(), bytes, &documents[..2], rest)?);
+        assert!(rt; reader_returns(rt.alloc(), bytes, documents.as_slice(), rest)?);
     }
     Ok(())
 }

@@ -6,7 +6,7 @@ use proto_wire::{WireFault, Writer};
 use scip_index::{Document, Index, IndexWriter, Metadata, from_bytes};
 use std::alloc::{AllocError, Global};
 use std::test::Fail;
-use test_doubles::ByOne;
+use test_doubles::FailingSink;
 use texts::LocationStyle;
 
 /// An output.
@@ -50,7 +50,7 @@ fn is_written(put: Result<(), WireFault>) -> Result<bool, AllocError> {
     }
 }
 
-fn write_four(alloc: Global, writer: &mut Writer, sink: &mut ByOne) -> Result<(), WireFault> {
+fn write_four(alloc: Global, writer: &mut Writer, sink: &mut FailingSink) -> Result<(), WireFault> {
     writer.varint(alloc, 1, 150, sink)?;
     writer.text(alloc, 2, "testing", sink)?;
     writer.packed(alloc, 4, &[3, -2], sink)?;
@@ -58,7 +58,7 @@ fn write_four(alloc: Global, writer: &mut Writer, sink: &mut ByOne) -> Result<()
 }
 
 /// Writes the records. After an error nothing more is written, even if the sink has room again.
-fn write_records(alloc: Global, sink: &mut ByOne) -> Result<bool, AllocError> {
+fn write_records(alloc: Global, sink: &mut FailingSink) -> Result<bool, AllocError> {
     let mut writer = Writer::new();
     if is_written(write_four(alloc, &mut writer, sink))? {
         return Ok(true);
@@ -72,7 +72,7 @@ fn write_parts(
     alloc: Global,
     metadata: &Metadata,
     document: &Document,
-    sink: &mut ByOne,
+    sink: &mut FailingSink,
 ) -> Result<(), WireFault> {
     let mut writer = IndexWriter::new(alloc);
     let Err(_) = writer.metadata(metadata, sink) else {
@@ -84,7 +84,7 @@ fn write_parts(
 }
 
 /// Whether the metadata and the first document are written.
-fn write_index(alloc: Global, index: &Index, sink: &mut ByOne) -> Result<bool, AllocError> {
+fn write_index(alloc: Global, index: &Index, sink: &mut FailingSink) -> Result<bool, AllocError> {
     match (&index.metadata, index.documents.first()) {
         (Some(metadata), Some(document)) => is_written(write_parts(
             alloc, metadata, document, sink,
@@ -94,7 +94,7 @@ fn write_index(alloc: Global, index: &Index, sink: &mut ByOne) -> Result<bool, A
 }
 
 /// Whether the output is written, so that the device didn't fail.
-fn is_answered(put: Result<(), QueryFault>) -> Result<bool, AllocError> {
+fn is_output_written(put: Result<(), QueryFault>) -> Result<bool, AllocError> {
     match put {
         Ok(()) => Ok(true),
         Err(QueryFault::Device) => Ok(false),
@@ -103,13 +103,13 @@ fn is_answered(put: Result<(), QueryFault>) -> Result<bool, AllocError> {
 }
 
 /// Whether the lines are written.
-fn write_lines(alloc: Global, sink: &mut ByOne) -> Result<bool, AllocError> {
+fn write_lines(alloc: Global, sink: &mut FailingSink) -> Result<bool, AllocError> {
     let at = Position { line: 2, column: 0 };
     let (which, style) = (Which::References, LocationStyle::Plain);
-    is_answered(query(alloc, USES, "a", at, which, style, sink))
+    is_output_written(query(alloc, USES, "a", at, which, style, sink))
 }
 
-fn put(alloc: Global, what: What, sink: &mut ByOne) -> Result<bool, AllocError> {
+fn put(alloc: Global, what: What, sink: &mut FailingSink) -> Result<bool, AllocError> {
     match what {
         What::Records => write_records(alloc, sink),
         What::Index => match from_bytes(alloc, MODULE) {
@@ -117,13 +117,13 @@ fn put(alloc: Global, what: What, sink: &mut ByOne) -> Result<bool, AllocError> 
             Err(_) => Err(AllocError),
         },
         What::Lines => write_lines(alloc, sink),
-        What::Asked(ask) => is_answered(listed::put(alloc, DEFINES, ask, sink)),
+        What::Asked(ask) => is_output_written(listed::put(alloc, DEFINES, ask, sink)),
     }
 }
 
 /// Whether a sink with room for this many bytes has exactly these, and failed once if there are more. No call writes zero bytes.
 fn check_prefix(alloc: Global, what: What, whole: &[u8], room: usize) -> Result<bool, AllocError> {
-    let mut sink = ByOne::new(alloc, room as u64);
+    let mut sink = FailingSink::new(alloc, room as u64);
     let all = put(alloc, what, &mut sink)?;
     Ok(
         all == (room == whole.len())
@@ -135,7 +135,7 @@ fn check_prefix(alloc: Global, what: What, whole: &[u8], room: usize) -> Result<
 }
 
 /// The smallest room for which the sink has other bytes.
-fn first_wrong(alloc: Global, what: What, whole: &[u8]) -> Result<Option<usize>, AllocError> {
+fn first_difference(alloc: Global, what: What, whole: &[u8]) -> Result<Option<usize>, AllocError> {
     for room in 0..=whole.len() {
         if !check_prefix(alloc, what, whole, room)? {
             return Ok(Some(room));
@@ -147,7 +147,7 @@ fn first_wrong(alloc: Global, what: What, whole: &[u8]) -> Result<Option<usize>,
 #[test]
 fn a_sink_that_fails_has_a_prefix(rt: HostRuntime) -> Result<(), Fail> {
     for (what, whole) in ROWS {
-        assert_eq!(rt; first_wrong(rt.alloc(), *what, whole)?, None);
+        assert_eq!(rt; first_difference(rt.alloc(), *what, whole)?, None);
     }
     Ok(())
 }

@@ -141,7 +141,7 @@ fn path(alloc: Global, steps: &[Step]) -> Result<Vec<Descriptor>, AllocError> {
     Ok(descriptors)
 }
 
-fn global(alloc: Global, parts: Parts, steps: &[Step]) -> Result<Symbol, AllocError> {
+fn global_symbol(alloc: Global, parts: Parts, steps: &[Step]) -> Result<Symbol, AllocError> {
     let [scheme, manager, package, version] = parts;
     Ok(Symbol::Global {
         scheme: String::from_str(alloc, scheme)?,
@@ -160,7 +160,7 @@ fn describe_fault(alloc: Global, fault: SymbolFault) -> Result<String, AllocErro
 }
 
 /// Whether a string is read as this symbol.
-fn is_read(alloc: Global, text: &str, symbol: &Symbol) -> Result<bool, AllocError> {
+fn is_read_as(alloc: Global, text: &str, symbol: &Symbol) -> Result<bool, AllocError> {
     match read(alloc, text) {
         Ok(found) => Ok(found == *symbol),
         Err(SymbolFault::Memory) => Err(AllocError),
@@ -170,7 +170,7 @@ fn is_read(alloc: Global, text: &str, symbol: &Symbol) -> Result<bool, AllocErro
 
 /// The string, if it is read as this symbol.
 fn describe_reread(alloc: Global, text: String, symbol: &Symbol) -> Result<String, AllocError> {
-    if is_read(alloc, text.as_str(), symbol)? {
+    if is_read_as(alloc, text.as_str(), symbol)? {
         Ok(text)
     } else {
         String::from_str(alloc, "another symbol")
@@ -186,7 +186,7 @@ fn describe_written(alloc: Global, symbol: &Symbol) -> Result<String, AllocError
 }
 
 fn describe_global(alloc: Global, parts: Parts, steps: &[Step]) -> Result<String, AllocError> {
-    describe_written(alloc, &global(alloc, parts, steps)?)
+    describe_written(alloc, &global_symbol(alloc, parts, steps)?)
 }
 
 /// The canonical string of the symbol that has a string, or the error.

@@ -30,6 +30,6 @@ declared_member d (Some by) = Some (record { place = group_scope by; number = d.
 abbrev pub declared_members : List DeclGroup → List Declared → List Member
 declared_members constructs ds = filter_map (λ d. declared_member d (decl_group_at constructs d.declared_by)) ds
 
--- the members of a module
+-- the declared identifiers of a module, each with its scope and kind, in the order of the identifiers
 abbrev pub members_of : Rows → List Member
 members_of rows = declared_members rows.decl_groups rows.declared

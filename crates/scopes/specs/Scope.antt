@@ -27,7 +27,7 @@ pub record Resolves (name : ℕ → List ℕ) (blocks : List BlockRow) (ds : Lis
 abbrev pub ResolvesToNothing : (ℕ → List ℕ) → List BlockRow → List Member → Used → Type 0
 ResolvesToNothing name blocks ds u = (b : ℕ) (d : Member) → IsVisible name blocks ds u b d → ⊥
 
--- a type with the use's name, declared after the use in its own block
+-- a type with the use's name, declared after the use in the block of the use
 pub record IsLaterType (name : ℕ → List ℕ) (ds : List Member) (u : Used) (d : Member) : Type 0 where
   pub declared : Contains ds d
   pub placed : d.place ≡ Block u.block

@@ -11,7 +11,7 @@ use Rattle.scopes.specs.Scoped.{Meaning, AliasUses, ModuleScopes}
 abbrev pub meaning_of : Resolution → Meaning
 meaning_of row = record { used = row.used; declared = row.declared }
 
--- the value of an alias
+-- an alias in contracts: its token, the name of the imported module, and the number of uses that it qualifies
 abbrev pub alias_of : Alias → AliasUses
 alias_of a = record { alias = a.decl; imported = string_bytes a.«module»; uses = a.uses }
 

@@ -52,7 +52,7 @@ impl Model for Scopes {
     ghost invariant = { λ s. AreValidScopes (record { name = string_bytes s.name; meanings = map meaning_of s.meanings.items; aliases = map alias_of s.aliases.items }) };
 }
 
-/// Whether all entries before this index belong to uses before this one.
+/// True only if all entries before index `at` belong to uses before the use `used`.
 fn earlier_entries_precede(rows: &[Resolution], at: usize, used: u32) -> bool
     requires { IsIncreasingBy (λ (m : Resolution). m.used) rows.now }
     ensures { result ≡ true → (i : ℕ) (m : Resolution) → i < at → slice_get rows.now i ≡ Some m → m.used < used }
@@ -66,7 +66,7 @@ fn earlier_entries_precede(rows: &[Resolution], at: usize, used: u32) -> bool
     }
 }
 
-/// Whether all entries from this index on belong to uses after this one.
+/// True only if all entries from index `at` on belong to uses after the use `used`.
 fn later_entries_follow(rows: &[Resolution], at: usize, used: u32) -> bool
     requires { IsIncreasingBy (λ (m : Resolution). m.used) rows.now }
     ensures { result ≡ true → (i : ℕ) (m : Resolution) → at ≤ i → slice_get rows.now i ≡ Some m → used < m.used }
@@ -77,7 +77,7 @@ fn later_entries_follow(rows: &[Resolution], at: usize, used: u32) -> bool
     }
 }
 
-/// Whether the entry with this index belongs to this use.
+/// Whether the entry with index `at` belongs to the use `used`.
 fn is_entry_of(rows: &[Resolution], at: usize, used: u32) -> bool
     ensures { result ≡ true → IsIndexBy (λ (m : Resolution). m.used) rows.now used at }
 {
@@ -87,8 +87,8 @@ fn is_entry_of(rows: &[Resolution], at: usize, used: u32) -> bool
     }
 }
 
-/// The index of the entry of a use. The entries next to the hint may already hold it, or show that there is none; otherwise a binary
-/// search decides. If an entry is found, the hint becomes the index after it.
+/// The index of the entry of a use. If the entry at index `cursor` and the one before it don't decide, a binary search does. If an entry is
+/// found, `cursor` becomes the index after it.
 fn use_index_by_hint(rows: &[Resolution], cursor: &mut usize, used: u32) -> Option<usize>
     requires { IsIncreasingBy (λ (m : Resolution). m.used) rows.now }
     ensures found { IfSome result (IsIndexBy (λ (m : Resolution). m.used) rows.now used) }

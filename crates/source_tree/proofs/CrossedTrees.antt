@@ -227,9 +227,9 @@ one_importer files f g m differ has_f has_g is_f is_g =
     let there = place_is (names_of (files_of files)) m w differ (own_names files w g at_g ∙ ap (λ (n : List ℕ). Some n) is_g) in
     same_at files v f g at_f (ap (slice_get files) (sym here ∙ there) ∙ at_g)
 
-pub weight_of_uses : (sources : List Source) (net : Network) (path : List ℕ) (spans : List Span) (i : Priced) → IsNetOfTree sources net → Contains net.imports i
+pub weight_is_use_count : (sources : List Source) (net : Network) (path : List ℕ) (spans : List Span) (i : Priced) → IsNetOfTree sources net → Contains net.imports i
     → AreUses sources (name_of net i.from) (name_of net i.to) path spans → i.amount ≡ length spans
-weight_of_uses sources net path spans i is has u =
+weight_is_use_count sources net path spans i is has u =
     let m = name_of net i.from in
     let n = name_of net i.to in
     let ends = is.between i has in

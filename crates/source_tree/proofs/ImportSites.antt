@@ -16,7 +16,7 @@ use Rattle.table_rules.specs.Declaring.{rows_of}
 use Rattle.ob_grammar.specs.Parsed.{IsTheTree}
 use Rattle.module_table.specs.Parts.{Rows}
 use Rattle.module_table.specs.declared.rows.Import.{Import}
-use Rattle.ob_scan.specs.declared.place.Position.{Position}
+use Rattle.ob_scan.specs.declared.line_column.Position.{Position}
 use Rattle.ob_scan.specs.declared.token.Token.{Token}
 use Rattle.ob_scan.specs.Spelling.{IsOutcome, Spells}
 use Rattle.ob_scan.proofs.Outcomes.{spelled_once}

@@ -6,7 +6,7 @@ use Rattle.std.proofs.lemmas.Option.{slice_get-get_or}
 use Rattle.ob_imports.specs.declared.fault.GraphFault.{GraphFault}
 use Rattle.ob_imports.specs.Files.{File}
 use Rattle.ob_imports.specs.Outcomes.{IsGraphOutcome}
-use Rattle.ob_imports.proofs.OneOutcome.{one_outcome}
+use Rattle.ob_imports.proofs.OneOutcome.{outcome_is_unique}
 use Rattle.ob_scan.specs.declared.fault.ScanFault.{ScanFault}
 use Rattle.ob_scan.specs.declared.fault.ScanFault.TheVariants as scans
 use Rattle.ob_scan.specs.declared.token.Token.{Token}
@@ -107,7 +107,7 @@ pub no_graph_fault : (sources : List Source) (files : List ModuleFile) (fault : 
 no_graph_fault sources files fault tree f =
     let same : files_of f.files ≡ files_of files = same_files sources f.files files f.accepted tree.accepted in
     let outcome : IsGraphOutcome (files_of files) (Err f.refusal) = subst (λ (fs : List File). IsGraphOutcome fs (Err f.refusal)) same f.is_outcome in
-    let e = one_outcome (files_of files) (Ok tree.graph) (Err f.refusal) (tree.kept, tree.acyclic) outcome in
+    let e = outcome_is_unique (files_of files) (Ok tree.graph) (Err f.refusal) (tree.kept, tree.acyclic) outcome in
     absurd cc
 
 pub no_tree_fault : (sources : List Source) (files : List ModuleFile) (fault : TreeFault) → IsTree sources files → IsTreeFault sources fault → is_out_of_memory fault ≡ true

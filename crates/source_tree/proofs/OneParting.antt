@@ -50,16 +50,16 @@ no_own_fault sources accepted files faults ok p = none_faulty sources accepted f
     (file, ok.each i s file at at_file)) p
 
 -- the messages for all errors of a tree are determined
-pub one_fault_list : (style : Style) (sources : List Source) (faults more : List TreeFault) → AreTreeFaults sources faults → AreTreeFaults sources more → map (tree_fault_text style) faults ≡ map (tree_fault_text style) more
-one_fault_list style sources faults more (of_files p) (of_files q) = one_told style sources _ _ faults more p q
-one_fault_list style sources faults more (of_files p) (of_imports g) = let none : faults ≡ [] = no_own_fault sources _ g.files faults g.accepted p in absurd cc
-one_fault_list style sources faults more (of_files p) (of_nothing tree) = let none : faults ≡ [] = no_own_fault sources _ _ faults tree.accepted p in absurd cc
-one_fault_list style sources faults more (of_imports g) (of_files q) = let none : more ≡ [] = no_own_fault sources _ g.files more g.accepted q in absurd cc
-one_fault_list style sources faults more (of_imports g) (of_imports k) = ap (λ (t : List ℕ). t ∷ []) (one_graph_fault style sources _ _ g k)
-one_fault_list style sources faults more (of_imports g) (of_nothing tree) = absurd (no_graph_fault sources _ _ tree g)
-one_fault_list style sources faults more (of_nothing tree) (of_files q) = let none : more ≡ [] = no_own_fault sources _ _ more tree.accepted q in absurd cc
-one_fault_list style sources faults more (of_nothing tree) (of_imports g) = absurd (no_graph_fault sources _ _ tree g)
-one_fault_list style sources faults more (of_nothing tree) (of_nothing other) = refl
+pub fault_list_is_unique : (style : Style) (sources : List Source) (faults more : List TreeFault) → AreTreeFaults sources faults → AreTreeFaults sources more → map (tree_fault_text style) faults ≡ map (tree_fault_text style) more
+fault_list_is_unique style sources faults more (of_files p) (of_files q) = one_told style sources _ _ faults more p q
+fault_list_is_unique style sources faults more (of_files p) (of_imports g) = let none : faults ≡ [] = no_own_fault sources _ g.files faults g.accepted p in absurd cc
+fault_list_is_unique style sources faults more (of_files p) (of_nothing tree) = let none : faults ≡ [] = no_own_fault sources _ _ faults tree.accepted p in absurd cc
+fault_list_is_unique style sources faults more (of_imports g) (of_files q) = let none : more ≡ [] = no_own_fault sources _ g.files more g.accepted q in absurd cc
+fault_list_is_unique style sources faults more (of_imports g) (of_imports k) = ap (λ (t : List ℕ). t ∷ []) (one_graph_fault style sources _ _ g k)
+fault_list_is_unique style sources faults more (of_imports g) (of_nothing tree) = absurd (no_graph_fault sources _ _ tree g)
+fault_list_is_unique style sources faults more (of_nothing tree) (of_files q) = let none : more ≡ [] = no_own_fault sources _ _ more tree.accepted q in absurd cc
+fault_list_is_unique style sources faults more (of_nothing tree) (of_imports g) = absurd (no_graph_fault sources _ _ tree g)
+fault_list_is_unique style sources faults more (of_nothing tree) (of_nothing other) = refl
 
 -- the list of errors is empty exactly for an accepted tree
 pub nothing_told : (sources : List Source) (faults : List TreeFault) → AreTreeFaults sources faults → faults ≡ [] ↔ ((files : List ModuleFile) × IsTree sources files)

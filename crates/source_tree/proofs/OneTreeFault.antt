@@ -11,10 +11,10 @@ use Rattle.ob_imports.specs.declared.fault.GraphFault.TheVariants as graphs
 use Rattle.ob_imports.specs.Files.{File}
 use Rattle.ob_imports.specs.Graphs.{ImportGraph}
 use Rattle.ob_imports.specs.Outcomes.{Cycle, GraphError, IsGraphOutcome, IsErrorOf, TooMany, TwoModules}
-use Rattle.ob_imports.proofs.OneOutcome.{one_outcome}
+use Rattle.ob_imports.proofs.OneOutcome.{outcome_is_unique}
 use Rattle.ob_scan.specs.declared.fault.ScanFault.{ScanFault}
 use Rattle.ob_scan.specs.declared.fault.ScanFault.TheVariants as scans
-use Rattle.ob_scan.specs.declared.place.Position.{Position}
+use Rattle.ob_scan.specs.declared.line_column.Position.{Position}
 use Rattle.ob_scan.specs.declared.token.Token.{Token}
 use Rattle.ob_scan.specs.Position.{IsPosition}
 use Rattle.ob_scan.specs.Spelling.{IsOutcome}
@@ -23,7 +23,7 @@ use Rattle.ob_scan.specs.Texts.{text_at, token_at}
 use Rattle.ob_grammar.specs.declared.fault.ParseFault.{ParseFault}
 use Rattle.ob_grammar.specs.declared.fault.ParseFault.TheVariants as parses
 use Rattle.ob_grammar.specs.Parsed.{IsFaultOf}
-use Rattle.ob_grammar.proofs.OneFault.{one_fault}
+use Rattle.ob_grammar.proofs.OneFault.{fault_is_unique}
 use Rattle.ob_scope.specs.declared.fault.ScopeFault.{ScopeFault}
 use Rattle.ob_scope.specs.declared.fault.ScopeFault.TheVariants as scopes
 use Rattle.table_rules.specs.Declaring.{rows_of}
@@ -127,7 +127,7 @@ one_scan_fault bytes f g known_f known_g h k =
 
 one_parse_fault : (bytes : List ℕ) (f g : ParseFault) → (f ≢ parses.Memory) → (g ≢ parses.Memory) → HasParseFault f bytes → HasParseFault g bytes → f ≡ g
 one_parse_fault bytes f g some other (ts, reads, h) (us, spells, k) =
-    one_fault bytes ts f g h (subst (λ (vs : List Token). IsFaultOf bytes vs g) (spelled_once bytes us ts spells.1 reads.1) k) some other
+    fault_is_unique bytes ts f g h (subst (λ (vs : List Token). IsFaultOf bytes vs g) (spelled_once bytes us ts spells.1 reads.1) k) some other
 
 -- ---- the names
 
@@ -237,7 +237,7 @@ pub one_graph_fault : (style : Style) (sources : List Source) (f g : GraphFault)
 one_graph_fault style sources f g h k =
     let files : files_of k.files ≡ files_of h.files = same_files sources k.files h.files k.accepted h.accepted in
     let outcome : IsGraphOutcome (files_of h.files) (Err k.refusal) = subst (λ (fs : List File). IsGraphOutcome fs (Err k.refusal)) files k.is_outcome in
-    told_refusal style f h.refusal h.said ∙ ap (outcome_text style) (one_outcome (files_of h.files) (Err h.refusal) (Err k.refusal) h.is_outcome outcome) ∙ sym (told_refusal style g k.refusal k.said)
+    told_refusal style f h.refusal h.said ∙ ap (outcome_text style) (outcome_is_unique (files_of h.files) (Err h.refusal) (Err k.refusal) h.is_outcome outcome) ∙ sym (told_refusal style g k.refusal k.said)
 
 -- ---- the tree
 

@@ -15,18 +15,18 @@ use Rattle.source_tree.specs.declared.tree_fault.TreeFault.TheVariants.{Graph}
 abbrev pub IsAcceptedSource : Source → Type 0
 IsAcceptedSource s = (file : ModuleFile) × IsAccepted s file
 
--- the file has this error: of its tokens, its syntax or its names
+-- the file has this error of its tokens, its syntax or its names; the error isn't a failed allocation
 abbrev pub HasFileFault : Source → TreeFault → Type 0
 HasFileFault s fault = (is_out_of_memory fault ≡ false) × IsFileFault s fault
 
--- the partition of files: the accepted ones, and the errors of the others, both in the order of the files
+-- the partition of a list of files: the list of the accepted files, and the list of the errors of the other files, both in file order
 pub data ArePartitionedFiles : List Source → List Source → List TreeFault → Type 0 where
   no_file : ArePartitionedFiles [] [] []
   sound : {s : Source} {sources accepted : List Source} {faults : List TreeFault} → IsAcceptedSource s → ArePartitionedFiles sources accepted faults → ArePartitionedFiles (s ∷ sources) (s ∷ accepted) faults
   faulty : {s : Source} {fault : TreeFault} {sources accepted : List Source} {faults : List TreeFault} → HasFileFault s fault → ArePartitionedFiles sources accepted faults →
       ArePartitionedFiles (s ∷ sources) accepted (fault ∷ faults)
 
--- all errors of a tree: the errors of its files; if no file has an error, the error of the imports; none for an accepted tree
+-- the list of all errors of a tree: the errors of its files; if no file has an error, the error of its imports; empty for an accepted tree
 pub data AreTreeFaults (sources : List Source) : List TreeFault → Type 0 where
   of_files : {accepted : List Source} {fault : TreeFault} {faults : List TreeFault} → ArePartitionedFiles sources accepted (fault ∷ faults) → AreTreeFaults sources (fault ∷ faults)
   of_imports : {fault : GraphFault} → IsGraphFault sources fault → AreTreeFaults sources (Graph fault ∷ [])
@@ -38,34 +38,35 @@ pub data AreTreeFaults (sources : List Source) : List TreeFault → Type 0 where
 abbrev pub Verdict : Type 0
 Verdict = Result ModuleScopes TreeFault
 
+-- the verdict is right for the file: the scopes are those of its module, or the file has the error
 abbrev pub IsVerdict : Source → Verdict → Type 0
 IsVerdict s (Ok scopes) = HasScopes s scopes
 IsVerdict s (Err fault) = HasFileFault s fault
 
--- the verdicts on the files
+-- the verdicts are right for the files, one for each, in order
 abbrev pub AreVerdicts : List Source → List Verdict → Type 0
 AreVerdicts [] [] = Unit {0}
 AreVerdicts [] (v ∷ vs) = ⊥
 AreVerdicts (s ∷ sources) [] = ⊥
 AreVerdicts (s ∷ sources) (v ∷ vs) = IsVerdict s v × AreVerdicts sources vs
 
--- the result of reading files, unless an allocation failed
+-- with `Ok` the result has the verdicts on all files; the only error is a failed allocation
 abbrev pub ReadsVerdicts : List Source → Result (Vec Verdict Global) AllocError → Type 0
 ReadsVerdicts sources answer = IfOk answer (λ all. AreVerdicts sources all.items)
 
--- the scopes among the verdicts
+-- the scopes in those verdicts that aren't errors, in order
 abbrev pub scopes_in : List Verdict → List ModuleScopes
 scopes_in [] = []
 scopes_in (Ok scopes ∷ vs) = scopes ∷ scopes_in vs
 scopes_in (Err fault ∷ vs) = scopes_in vs
 
--- the errors among the verdicts
+-- the errors in those verdicts that are errors, in order
 abbrev pub faults_in : List Verdict → List TreeFault
 faults_in [] = []
 faults_in (Ok scopes ∷ vs) = faults_in vs
 faults_in (Err fault ∷ vs) = fault ∷ faults_in vs
 
--- the files whose verdict has scopes
+-- the files whose verdict isn't an error; the k-th verdict is on the k-th file
 abbrev pub accepted_in : List Source → List Verdict → List Source
 accepted_in [] vs = []
 accepted_in (s ∷ sources) [] = []

@@ -1,4 +1,4 @@
--- Trees with scopes.
+-- Source trees with the scopes of their modules.
 use Rattle.std.specs.Prelude.{List}
 use Rattle.ob_imports.specs.declared.fault.GraphFault.{GraphFault}
 use Rattle.ob_imports.specs.declared.fault.GraphFault.TheVariants as graphs
@@ -13,26 +13,26 @@ use Rattle.source_tree.specs.declared.tree_fault.TreeFault.{TreeFault}
 use Rattle.source_tree.specs.declared.tree_fault.TreeFault.TheVariants.{Graph, Memory}
 use Rattle.source_tree.specs.declared.tree_reading.ScopedTree.{ScopedTree}
 
--- the error of the graph as an error of the tree; a failed allocation is always `Memory`
+-- an error of the import graph as an error of the tree; a failed allocation becomes the tree's `Memory`
 abbrev pub of_graph : GraphFault → TreeFault
 of_graph (graphs.TwoModules name first second) = Graph (graphs.TwoModules name first second)
 of_graph (graphs.Cycle names) = Graph (graphs.Cycle names)
 of_graph graphs.TooMany = Graph graphs.TooMany
 of_graph graphs.Memory = Memory
 
--- these are the scopes of the file's module
+-- s are the scopes of the file's module
 abbrev pub AreScopesOf : ModuleFile → ModuleScopes → Type 0
 AreScopesOf file s = AreScopes file.bytes file.tokens (rows file) s
 
--- the file is accepted, and these are the scopes of its module
+-- the file is accepted, and s are the scopes of its module
 abbrev pub HasScopes : Source → ModuleScopes → Type 0
 HasScopes source s = HasValue AreScopesOf source s
 
--- the files are accepted, and each has its scopes
+-- the files are accepted, and `ss` has the scopes of each, in file order
 abbrev pub AreFilesRead : List Source → List ModuleFile → List ModuleScopes → Type 0
 AreFilesRead sources files ss = AreAllOf AreScopesOf sources files ss
 
--- the graph is that of the files, and each has its scopes
+-- the files are accepted, and the tree has the scopes of each and their import graph, which is acyclic
 pub record IsTreeOf (sources : List Source) (tree : ScopedTree) : Type 0 where
   pub files : List ModuleFile
   pub read : AreFilesRead sources files tree.scopes.items

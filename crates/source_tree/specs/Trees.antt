@@ -1,9 +1,9 @@
--- Trees of files, the network of their imports, and their errors.
+-- Source trees, the networks of their imports, and their errors.
 use Rattle.std.specs.Prelude.{◌≡◌, ◌≢◌, ◌↔◌, ℕ, ◌<◌, List, [], ◌∷◌, ◌++◌, length, map, slice_get, Some, Ok, Err, Contains}
 use Rattle.std.specs.String.{string_bytes}
 use Rattle.ob_scan.specs.declared.fault.ScanFault.{ScanFault}
 use Rattle.ob_scan.specs.declared.fault.ScanFault.TheVariants as scans
-use Rattle.ob_scan.specs.declared.place.Position.{Position}
+use Rattle.ob_scan.specs.declared.line_column.Position.{Position}
 use Rattle.ob_scan.specs.declared.token.Token.{Token}
 use Rattle.ob_scan.specs.Faults.{UnlessMemory}
 use Rattle.ob_scan.specs.Position.{IsPosition}
@@ -34,29 +34,29 @@ use Rattle.source_tree.specs.declared.source.Source.{Source}
 use Rattle.source_tree.specs.declared.tree_fault.TreeFault.{TreeFault}
 use Rattle.source_tree.specs.declared.tree_fault.TreeFault.TheVariants as faults
 
--- a file: its path, its bytes, its tokens and its syntax tree
+-- a file of a tree, with its path, its bytes, its tokens and its syntax tree
 pub record ModuleFile : Type 0 where
   pub path : List ℕ
   pub bytes : List ℕ
   pub tokens : List Token
   pub tree : Module
 
--- the text of a token, by its number
+-- the bytes of the file's token with this number
 abbrev pub names : ModuleFile → ℕ → List ℕ
 names file = text_at file.bytes file.tokens
 
--- the declarations and uses of the module
+-- the table entries of the file's module: its declarations and uses
 abbrev pub rows : ModuleFile → Rows
 rows file = rows_of file.tree
 
--- the file for the import graph; token 1, after MODULE, is the module's name
+-- the file's input to the import graph: its path, module name (token 1, after MODULE) and imported names
 abbrev pub file_of : ModuleFile → File
 file_of file = record { path = file.path; name = names file 1; imports = map (λ i. names file i.imported) (rows file).imports }
 
 abbrev pub files_of : List ModuleFile → List File
 files_of files = map file_of files
 
--- the file's bytes have these tokens and this syntax tree, which declares nothing twice
+-- `file` has the path and bytes of the source s; the bytes have its tokens, these have its syntax tree, and the tree declares nothing twice
 pub record IsAccepted (s : Source) (file : ModuleFile) : Type 0 where
   pub path_is : file.path ≡ string_bytes s.path
   pub bytes_are : file.bytes ≡ s.bytes.items
@@ -64,20 +64,20 @@ pub record IsAccepted (s : Source) (file : ModuleFile) : Type 0 where
   pub is_tree : IsTheTree file.bytes file.tokens file.tree
   pub once : HasNoDuplicates (names file) (members_of (rows file))
 
--- each of the files is accepted
+-- each source is accepted, and `files` has its file
 pub record AreAccepted (sources : List Source) (files : List ModuleFile) : Type 0 where
   pub as_many : length files ≡ length sources
   pub each : (i : ℕ) (s : Source) (file : ModuleFile) → slice_get sources i ≡ Some s → slice_get files i ≡ Some file → IsAccepted s file
 
--- an accepted tree: each file is accepted, module names are distinct, modules and imports are within the limits, and the imports are
--- acyclic
+-- the tree is accepted: each file is accepted, module names are distinct, the numbers of modules and imports are within the limits, and
+-- the imports are acyclic
 pub record IsTree (sources : List Source) (files : List ModuleFile) : Type 0 where
   pub accepted : AreAccepted sources files
   pub graph : ImportGraph
   pub kept : AreFilesOfGraph (files_of files) graph
   pub acyclic : IsAcyclic (Imports (files_of files))
 
--- module m imports n, and w qualified uses cross that import
+-- module m of the tree imports n, and in m the aliases of n qualify w uses
 pub record HasImport (files : List ModuleFile) (m n : List ℕ) (w : ℕ) : Type 0 where
   pub importer : ModuleFile
   pub is_of_tree : Contains files importer
@@ -85,8 +85,8 @@ pub record HasImport (files : List ModuleFile) (m n : List ℕ) (w : ℕ) : Type
   pub imports : Contains (file_of importer).imports n
   pub weight : HasWeight (names importer) (rows importer) n w
 
--- the network of an accepted tree: the names of its modules and of those that they import, and the imports with their weights, all
--- strictly sorted; nothing is pinned
+-- the tree is accepted, and this is its network: the names of its modules and of the modules that they import, and the imports with their
+-- weights, both strictly sorted; no import is pinned
 pub record IsNetOfTree (sources : List Source) (net : Network) : Type 0 where
   pub files : List ModuleFile
   pub is_tree : IsTree sources files
@@ -98,7 +98,7 @@ pub record IsNetOfTree (sources : List Source) (net : Network) : Type 0 where
       Contains net.imports i ↔ HasImport files (name_of net i.from) (name_of net i.to) i.amount
   pub no_pins : net.pins ≡ []
 
--- the offset of a scanner error: 0 for a file that is too long
+-- the byte offset of a scanner error; 0 for a file that is too long, or a failed allocation
 abbrev pub scan_offset : ScanFault → ℕ
 scan_offset (scans.BadByte offset) = offset
 scan_offset (scans.BadNumber offset) = offset
@@ -107,37 +107,38 @@ scan_offset (scans.OpenComment offset) = offset
 scan_offset scans.TooLong = 0
 scan_offset scans.Memory = 0
 
+-- the byte offset of a parser error; 0 for a failed allocation
 abbrev pub parse_offset : ParseFault → ℕ
 parse_offset (parses.Syntax offset) = offset
 parse_offset (parses.EndName offset) = offset
 parse_offset (parses.TooDeep offset) = offset
 parse_offset parses.Memory = 0
 
--- the offset of the second declaration of a name
+-- the byte offset of the second declaration of the name that is declared twice; 0 for a failed allocation
 abbrev pub scope_offset : ScopeFault → ℕ
 scope_offset (scopes.Twice name first second) = second
 scope_offset (scopes.TwiceField name first second) = second
 scope_offset scopes.Memory = 0
 
--- the bytes have this scanner error
+-- the bytes have this scanner error, or it is a failed allocation
 abbrev pub HasScanFault : ScanFault → List ℕ → Type 0
 HasScanFault fault bytes = UnlessMemory fault (IsOutcome bytes (Err fault))
 
--- the bytes have tokens, and these have this parser error
+-- the bytes have tokens, and the tokens have this parser error, or it is a failed allocation
 abbrev pub HasParseFault : ParseFault → List ℕ → Type 0
 HasParseFault fault bytes = (ts : List Token) × IsOutcome bytes (Ok ts) × IsFaultOf bytes ts fault
 
--- the bytes have tokens and a syntax tree, which declares a name twice
+-- the bytes have tokens and a syntax tree, and the tree has this scope error, or the error is a failed allocation
 abbrev pub HasScopeFault : ScopeFault → List ℕ → Type 0
 HasScopeFault fault bytes = (ts : List Token) × (m : Module) × IsOutcome bytes (Ok ts) × IsTheTree bytes ts m × IsScopeFault bytes ts (rows_of m) fault
 
--- the file has this path, and its bytes have the error at this line and column
+-- the file has this path, its bytes have the error, and `at` is the position of this offset
 pub record IsFault (s : Source) (path : List ℕ) (at : Position) (offset : ℕ) (HasFault : List ℕ → Type 0) : Type 0 where
   pub path_is : path ≡ string_bytes s.path
   pub has_fault : HasFault s.bytes.items
   pub position : IsPosition s.bytes.items offset at.line at.column
 
--- the error of one file; a failed allocation claims nothing, and is never within another variant
+-- the file has this error, or the error is `Memory`; no other variant contains a failed allocation
 abbrev pub IsFileFault : Source → TreeFault → Type 0
 IsFileFault s (faults.Scan path at fault) = (fault ≢ scans.Memory) × IsFault s (string_bytes path) at (scan_offset fault) (HasScanFault fault)
 IsFileFault s (faults.Parse path at fault) = (fault ≢ parses.Memory) × IsFault s (string_bytes path) at (parse_offset fault) (HasParseFault fault)
@@ -145,7 +146,7 @@ IsFileFault s (faults.Scope path at fault) = (fault ≢ scopes.Memory) × IsFaul
 IsFileFault s (faults.Graph fault) = ⊥
 IsFileFault s faults.Memory = Unit {0}
 
--- a file has this error, and the files before it are accepted
+-- one of the files has this error, and all files before it are accepted
 pub record IsFirstFault (sources : List Source) (fault : TreeFault) : Type 0 where
   pub before : List Source
   pub source : Source
@@ -155,7 +156,7 @@ pub record IsFirstFault (sources : List Source) (fault : TreeFault) : Type 0 whe
   pub accepted_before : AreAccepted before files_before
   pub has_fault : IsFileFault source fault
 
--- each file is accepted, and their import graph is rejected
+-- each file is accepted, and their import graph is rejected with this error
 pub record IsGraphFault (sources : List Source) (fault : GraphFault) : Type 0 where
   pub files : List ModuleFile
   pub accepted : AreAccepted sources files
@@ -163,7 +164,7 @@ pub record IsGraphFault (sources : List Source) (fault : GraphFault) : Type 0 wh
   pub said : IsErrorOf fault refusal
   pub is_outcome : IsGraphOutcome (files_of files) (Err refusal)
 
--- the error of a tree: of the first file that has one, or else of the imports; a failed allocation claims nothing
+-- the error is that of the tree's first file that has one; or all files are accepted and their imports have it; or it is `Memory`
 abbrev pub IsTreeFault : List Source → TreeFault → Type 0
 IsTreeFault sources (faults.Scan path at fault) = IsFirstFault sources (faults.Scan path at fault)
 IsTreeFault sources (faults.Parse path at fault) = IsFirstFault sources (faults.Parse path at fault)

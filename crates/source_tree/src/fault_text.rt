@@ -1,4 +1,4 @@
-//! The message for an error of a tree, and which errors are failed allocations.
+//! The message for an error of a source tree, and which errors are failed allocations.
 ghost use Rattle.std.specs.Prelude.{◌≡◌, IfOk};
 ghost use Rattle.std.specs.List.{flat_map};
 ghost use Rattle.std.specs.String.{string_bytes};
@@ -14,9 +14,9 @@ use ob_scope::ScopeFault;
 use std::alloc::{AllocError, Global};
 use texts::LocationStyle;
 
-/// The names, each after a space.
+/// The names in their order, each with a space before it.
 pub fn join_after_spaces(alloc: Global, names: &[String]) -> Result<String, AllocError>
-    // Each name follows a space.
+    // With `Ok` the result is the names in their order, each with a space before it.
     ensures { IfOk result (λ t. string_bytes t ≡ flat_map after_space (texts names.now)) }
 {
     let mut text = String::new(alloc);
@@ -27,7 +27,7 @@ pub fn join_after_spaces(alloc: Global, names: &[String]) -> Result<String, Allo
     Ok(text)
 }
 
-/// A message after its location in this style; control characters aren't escaped.
+/// The location of an error in this style, a colon, a space and the message. Control characters aren't escaped.
 fn located_message(
     alloc: Global,
     style: LocationStyle<'_>,
@@ -45,6 +45,7 @@ fn located_message(
     Ok(text)
 }
 
+/// The name of a scanner error, as messages use it.
 fn scan_fault_text(fault: &ScanFault) -> &'static str
     ensures { result.now ≡ scan_fault_text fault.now }
 {
@@ -58,6 +59,7 @@ fn scan_fault_text(fault: &ScanFault) -> &'static str
     }
 }
 
+/// The name of a parser error, as messages use it.
 fn parse_fault_text(fault: &ParseFault) -> &'static str
     ensures { result.now ≡ parse_fault_text fault.now }
 {
@@ -69,6 +71,7 @@ fn parse_fault_text(fault: &ParseFault) -> &'static str
     }
 }
 
+/// The name of a scope error, and the identifier that is declared twice if there is one.
 fn scope_fault_text(alloc: Global, fault: &ScopeFault) -> Result<String, AllocError>
     ensures { IfOk result (λ t. string_bytes t ≡ scope_fault_text fault.now) }
 {
@@ -79,6 +82,7 @@ fn scope_fault_text(alloc: Global, fault: &ScopeFault) -> Result<String, AllocEr
     }
 }
 
+/// The message for two files with one module: its name, and the two paths in this style.
 fn two_modules_text(
     alloc: Global,
     style: LocationStyle<'_>,
@@ -93,6 +97,7 @@ fn two_modules_text(
     format!(in alloc; "TwoModules {name} {first} {second}")
 }
 
+/// The message for an error of the imports, with paths in this style.
 fn graph_fault_text(
     alloc: Global,
     style: LocationStyle<'_>,
@@ -121,14 +126,15 @@ fn graph_fault_text(
     }
 }
 
-/// The message for an error: the path, line and column in this style and the error's name; or why the imports are rejected, with paths in
-/// this style. Control characters aren't escaped. Fails if an allocation fails.
+/// The message for an error of a tree. For an error of a file: path, line and column in this style, and the error's name. For an error of
+/// the imports: the error's name, and its module names and its paths (in this style), if it has any. Control characters aren't escaped.
+/// Fails if an allocation fails.
 pub fn tree_fault_text(
     alloc: Global,
     style: LocationStyle<'_>,
     fault: &TreeFault,
 ) -> Result<String, AllocError>
-    // The whole message.
+    // With `Ok` the result is the whole message.
     ensures { IfOk result (λ t. string_bytes t ≡ tree_fault_text (style_of style.entry) fault.now) }
 {
     match fault {
@@ -147,6 +153,7 @@ pub fn tree_fault_text(
     }
 }
 
+/// Whether the scanner error is a failed allocation.
 fn scan_out_of_memory(fault: &ScanFault) -> bool
     ensures { result ≡ scan_out_of_memory fault.now }
 {
@@ -160,6 +167,7 @@ fn scan_out_of_memory(fault: &ScanFault) -> bool
     }
 }
 
+/// Whether the parser error is a failed allocation.
 fn parse_out_of_memory(fault: &ParseFault) -> bool
     ensures { result ≡ parse_out_of_memory fault.now }
 {
@@ -170,6 +178,7 @@ fn parse_out_of_memory(fault: &ParseFault) -> bool
     }
 }
 
+/// Whether the scope error is a failed allocation.
 fn scope_out_of_memory(fault: &ScopeFault) -> bool
     ensures { result ≡ scope_out_of_memory fault.now }
 {
@@ -179,6 +188,7 @@ fn scope_out_of_memory(fault: &ScopeFault) -> bool
     }
 }
 
+/// Whether the error of the imports is a failed allocation.
 fn graph_out_of_memory(fault: &GraphFault) -> bool
     ensures { result ≡ graph_out_of_memory fault.now }
 {
@@ -188,9 +198,9 @@ fn graph_out_of_memory(fault: &GraphFault) -> bool
     }
 }
 
-/// Whether the error is a failed allocation, in whichever step; otherwise the tree is rejected.
+/// Whether the error is a failed allocation, in whichever step. If not, the error says why the tree is rejected.
 pub fn is_out_of_memory(fault: &TreeFault) -> bool
-    // True exactly for a failed allocation.
+    // The result is true exactly if the error is a failed allocation.
     ensures { result ≡ is_out_of_memory fault.now }
 {
     match fault {

@@ -1,4 +1,4 @@
-//! The errors of individual files, each file inspected regardless of the others.
+//! The errors of individual files: after an error in one file, the other files are still read.
 ghost use Rattle.std.specs.Prelude.{◌≡◌, ◌∷◌, ◌<◌, [], false, IfOk, List, Vec, length};
 ghost use Rattle.std.specs.declared.alloc.Global.{Global};
 ghost use Rattle.source_tree.specs.Files.{AreOfChunks};
@@ -27,7 +27,9 @@ pub struct PartitionedFiles {
 /// The scopes of an accepted file, or the file's error.
 type Verdict = Result<Scopes, TreeFault>;
 
+/// The verdict on a file: the scopes of its module, or its error. Fails if an allocation fails.
 fn read_verdict(alloc: Global, source: &Source) -> Result<Verdict, AllocError>
+    // With `Ok` the result is the file's scopes, if it is accepted, or its error.
     ensures { IfOk result (IsVerdict source.now) }
 {
     match Scopes::from_source(alloc, source) {
@@ -42,7 +44,9 @@ fn read_verdict(alloc: Global, source: &Source) -> Result<Verdict, AllocError>
     }
 }
 
+/// The verdict on each file, in the order of the files: its scopes or its error. Reads one file after another.
 fn read_verdicts_sequentially(alloc: Global, sources: &[Source]) -> Result<Vec<Verdict>, AllocError>
+    // With `Ok` the result has the verdict on each file, in the order of the files.
     ensures { ReadsVerdicts sources.now result }
 {
     let mut all = Vec::new(alloc);
@@ -52,7 +56,7 @@ fn read_verdicts_sequentially(alloc: Global, sources: &[Source]) -> Result<Vec<V
     Ok(all)
 }
 
-/// The verdicts of the files in chunks of `size` files, each chunk in a thread of its own if one can be started.
+/// For each chunk of `size` files, the verdicts on its files. Each chunk is read in a thread of its own if one can be started.
 fn read_verdicts_in_chunks<R: Threads + Sync>(
     rt: &R,
     alloc: Global,
@@ -60,6 +64,7 @@ fn read_verdicts_in_chunks<R: Threads + Sync>(
     size: usize,
 ) -> Result<Vec<Result<Vec<Verdict>, AllocError>>, AllocError>
     requires { 0 < size }
+    // With `Ok` there is one result for each chunk. The chunks are consecutive, and together they are all files.
     ensures { IfOk result (λ answers. AreOfChunks ReadsVerdicts sources.now answers.items) }
 {
     let answers = thread::map_chunks(
@@ -68,19 +73,21 @@ fn read_verdicts_in_chunks<R: Threads + Sync>(
         sources,
         size,
         &|_: usize, chunk: &[Source]| -> Result<Vec<Verdict>, AllocError>
+            // With `Ok` the result has the verdict on each file of the chunk, in order.
             ensures { ReadsVerdicts chunk.entry.now result }
         { read_verdicts_sequentially(alloc, chunk) },
     )?;
     Ok(answers)
 }
 
-/// The verdict of each file, read in at most as many chunks as workers.
+/// The verdict on each file, read in at most `workers` chunks of files.
 fn read_verdicts<R: Threads + Sync>(
     rt: &R,
     alloc: Global,
     sources: &[Source],
     workers: u32,
 ) -> Result<Vec<Verdict>, AllocError>
+    // With `Ok` the result has the verdict on each file, in the order of the files.
     ensures { IfOk result (λ v. AreVerdicts sources.now v.items) }
 {
     let size = chunk_size(sources.len(), workers);
@@ -93,13 +100,14 @@ fn read_verdicts<R: Threads + Sync>(
     Ok(all)
 }
 
-/// The scopes among verdicts, and the errors.
+/// The scopes of the accepted files, and the errors of the other files, both in the order of the files.
 #[derive(Drop)]
 struct Verdicts {
     scopes: Vec<Scopes>,
     faults: Vec<TreeFault>,
 }
 
+/// Splits verdicts into scopes and errors, both in the order of the files.
 fn split_verdicts(alloc: Global, verdicts: Vec<Verdict>) -> Result<Verdicts, AllocError>
     ensures scopes { IfOk result (λ r. r.scopes.items ≡ scopes_in verdicts.items) }
     ensures faults { IfOk result (λ r. r.faults.items ≡ faults_in verdicts.items) }
@@ -115,7 +123,7 @@ fn split_verdicts(alloc: Global, verdicts: Vec<Verdict>) -> Result<Verdicts, All
     Ok(Verdicts { scopes, faults })
 }
 
-/// The accepted files, by the verdicts of all files.
+/// The files whose verdict isn't an error. `verdicts` has the verdict on each file, in the order of the files.
 fn select_accepted(
     alloc: Global,
     sources: Vec<Source>,
@@ -135,7 +143,7 @@ fn select_accepted(
     Ok(accepted)
 }
 
-/// The list of one error. Fails if that is a failed allocation.
+/// The list with only this error. Fails if the error is itself a failed allocation, or if an allocation fails here.
 fn single_fault(alloc: Global, fault: TreeFault) -> Result<Vec<TreeFault>, AllocError>
     ensures { IfOk result (λ v. (v.items ≡ fault ∷ []) × (is_out_of_memory fault ≡ false)) }
 {
@@ -147,13 +155,15 @@ fn single_fault(alloc: Global, fault: TreeFault) -> Result<Vec<TreeFault>, Alloc
     Ok(faults)
 }
 
-/// The error of the imports of accepted files, if there is one.
+/// The list of all errors of a tree whose files are all accepted: the error of its imports, or no error.
 fn import_faults(
     alloc: Global,
     sources: &[Source],
     scopes: &[Scopes],
 ) -> Result<Vec<TreeFault>, AllocError>
+    // All files are accepted, and `scopes` has the scopes of each.
     requires { (files : List ModuleFile) × AreFilesRead sources.now files scopes.now }
+    // With `Ok` the result has exactly the errors of the tree.
     ensures { IfOk result (λ v. AreTreeFaults sources.now v.items) }
 {
     let parsed = all_graph_inputs(alloc, sources, scopes)?;
@@ -164,14 +174,14 @@ fn import_faults(
 }
 
 /// All errors of a tree: the errors of its files, in the order of the files; if no file has an error, the error of the imports; none if the
-/// tree is accepted. Reads the files as `net_of` does.
+/// tree is accepted. Reads the files in at most `workers` chunks, each in a thread of its own if one can be started.
 pub fn tree_faults<R: Threads + Sync>(
     rt: &R,
     alloc: Global,
     sources: &[Source],
     workers: u32,
 ) -> Result<Vec<TreeFault>, AllocError>
-    // The result has exactly the errors of the tree.
+    // With `Ok` the result has exactly the errors of the tree.
     ensures { IfOk result (λ v. AreTreeFaults sources.now v.items) }
 {
     let verdicts = read_verdicts(rt, alloc, sources, workers)?;
@@ -183,16 +193,17 @@ pub fn tree_faults<R: Threads + Sync>(
     }
 }
 
-/// The accepted files, and the errors of the others. Imports aren't verified. Reads the files as `net_of` does.
+/// The accepted files of a tree, and the errors of the other files. Doesn't verify imports. Reads the files in at most `workers` chunks,
+/// each in a thread of its own if one can be started. Fails if an allocation fails.
 pub fn partition_files<R: Threads + Sync>(
     rt: &R,
     alloc: Global,
     sources: Vec<Source>,
     workers: u32,
 ) -> Result<PartitionedFiles, AllocError>
-    // The result is the partition into the accepted files and the errors of the others.
+    // With `Ok` the result has exactly the accepted files and the errors of the other files, both in the order of the files.
     ensures parted { IfOk result (λ parted. ArePartitionedFiles sources.items parted.accepted.items parted.faults.items) }
-    // The accepted files are sorted if all files are.
+    // If the files are strictly sorted by path, the accepted files are too.
     ensures order { IfOk result (λ parted. ArePathsInOrder sources.items → ArePathsInOrder parted.accepted.items) }
 {
     let verdicts = read_verdicts(rt, alloc, sources.as_slice(), workers)?;

@@ -1,4 +1,4 @@
-//! Reading of the files of a tree, in chunks by many threads.
+//! Reads the files of a tree in chunks, each in a thread of its own if one can be started.
 ghost use Rattle.std.specs.Prelude.{◌<◌, IfErr, IfOk, List};
 ghost use Rattle.source_tree.specs.Files.{AreAllOf, AreOfChunks, IsReading};
 ghost use Rattle.source_tree.specs.Trees.{IsTreeFault, ModuleFile};
@@ -14,17 +14,20 @@ pub(crate) trait FromSource: Drop {
     ghost use Rattle.source_tree.specs.Files.{HasValue};
     ghost use Rattle.source_tree.specs.Trees.{IsFileFault, ModuleFile};
 
-    // the value is that of the module of this file
+    // The relation between a file and its value.
     ghost is_of: { ModuleFile → Self → Type 0 };
 
     /// The value of an accepted file, or the file's error: that of its tokens, its syntax or its names.
     fn from_source(alloc: Global, source: &Source) -> Result<Self, TreeFault>
+        // With `Ok` the file is accepted, and the result is its value.
         ensures kept { IfOk result (HasValue is_of source.now) }
+        // With `Err` the file has the returned error, or an allocation failed.
         ensures fault { IfErr result (IsFileFault source.now) };
 }
 
 /// The value of each file, or the error of the first file that has one. Reads one file after another.
 fn read_sequentially<K: FromSource>(alloc: Global, sources: &[Source]) -> Result<Vec<K>, TreeFault>
+    // The result has the values of all files, or the error of the first file that has one, unless an allocation failed.
     ensures { IsReading K.is_of sources.now result }
 {
     let mut all = Vec::new(alloc);
@@ -34,7 +37,8 @@ fn read_sequentially<K: FromSource>(alloc: Global, sources: &[Source]) -> Result
     Ok(all)
 }
 
-/// What `read_sequentially` returns for each chunk of `size` files, each chunk in a thread of its own if one can be started.
+/// For each chunk of `size` files, the values of its files, or the error of the first of them that has an error. Each chunk is read in a
+/// thread of its own if one can be started.
 fn read_chunks<K: FromSource + Send, R: Threads + Sync>(
     rt: &R,
     alloc: Global,
@@ -42,6 +46,7 @@ fn read_chunks<K: FromSource + Send, R: Threads + Sync>(
     size: usize,
 ) -> Result<Vec<Result<Vec<K>, TreeFault>>, AllocError>
     requires { 0 < size }
+    // With `Ok` there is one result for each chunk. The chunks are consecutive, and together they are all files.
     ensures { IfOk result (λ answers. AreOfChunks (IsReading K.is_of) sources.now answers.items) }
 {
     let answers = thread::map_chunks(
@@ -50,28 +55,31 @@ fn read_chunks<K: FromSource + Send, R: Threads + Sync>(
         sources,
         size,
         &|_: usize, chunk: &[Source]| -> Result<Vec<K>, TreeFault>
+            // The result has the values of the chunk's files, or the error of the first of them that has one, unless an allocation failed.
             ensures { IsReading K.is_of chunk.entry.now result }
         { read_sequentially(alloc, chunk) },
     )?;
     Ok(answers)
 }
 
-/// The size of a chunk, for at most as many chunks as workers.
+/// The number of files in each chunk, at least 1, so that there are at most as many chunks as workers (0 workers count as 1).
 pub(crate) fn chunk_size(files: usize, workers: u32) -> usize
     ensures { 0 < result }
 {
     files.div_ceil(workers.max(1) as usize).max(1)
 }
 
-/// The value of each file, or the error of the first file that has one. Reads the files in at most as many chunks as workers, each in a
-/// thread of its own if one can be started. The first chunk with an error contains the first file with an error.
+/// The value of each file, or the error of the first file that has one. Reads the files in at most `workers` chunks, each in a thread of
+/// its own if one can be started. The first chunk with an error contains the first file with an error.
 pub(crate) fn read_files<K: FromSource + Send, R: Threads + Sync>(
     rt: &R,
     alloc: Global,
     sources: &[Source],
     workers: u32,
 ) -> Result<Vec<K>, TreeFault>
+    // With `Ok` all files are accepted, and the result has the value of each, in their order.
     ensures kept { IfOk result (λ v. (files : List ModuleFile) × AreAllOf K.is_of sources.now files v.items) }
+    // With `Err` the tree has the returned error, or an allocation failed.
     ensures fault { IfErr result (IsTreeFault sources.now) }
 {
     let answers = read_chunks::<K, R>(rt, alloc, sources, chunk_size(sources.len(), workers))?;

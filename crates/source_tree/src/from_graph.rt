@@ -1,4 +1,4 @@
-//! The network of an import graph and of the scopes of its modules.
+//! The network of an import graph, with weights from the scopes of its modules.
 ghost use Rattle.std.specs.Prelude.{◌≡◌, ◌<◌, ◌++◌, true, All, IfOk, List, OnOk, length, map, ℕ};
 ghost use Rattle.ob_imports.specs.Graphs.{imported, name_of};
 ghost use Rattle.scopes.specs.Weights.{uses_of_import};
@@ -15,12 +15,13 @@ use ob_scope::Scopes;
 use std::alloc::{AllocError, Global};
 use text_hash::Seed;
 
-/// For each imported module the number of uses that all its aliases qualify, in a table with this seed.
+/// A hash table, with this seed, from the name of each module that this module imports to the number of uses that its aliases qualify.
 fn sum_alias_uses<'a>(
     alloc: Global,
     scopes: &'a Scopes,
     seed: Seed,
 ) -> Result<IndexMap<&'a str, u64, Seed>, AllocError>
+    // With `Ok` the table's sum for a name is the number of uses that aliases of the module with this name qualify, 0 for any other name.
     ensures { IfOk result (λ sums. (name : List ℕ) → sum_in sums name ≡ uses_of_import scopes.now.aliases name) }
 {
     scopes.invariants();
@@ -33,13 +34,15 @@ fn sum_alias_uses<'a>(
     Ok(sums)
 }
 
+/// The sum in the table for the module with this name; 0 if the table doesn't have the name.
 fn alias_use_sum(sums: &IndexMap<&str, u64, Seed>, name: &str) -> u64
     ensures { result ≡ sum_in sums.now name.now }
 {
     sums.get(name).copied().unwrap_or(0)
 }
 
-/// Appends the imports of a module, by the ranks of their modules.
+/// Appends the imports of the module `from`, with their weights, to `imports`. `ranks` maps a module's number in the graph to its number in
+/// the network.
 fn append_weighted_imports(
     alloc: Global,
     graph: &Graph,
@@ -48,6 +51,7 @@ fn append_weighted_imports(
     ranks: &[u32],
     imports: &mut Vec<Priced>,
 ) -> Result<(), AllocError>
+    // `from` is the number of a module, and each module has a number in the network.
     requires known { from < length graph.now.names }
     requires all_ranked { length ranks.now ≡ length graph.now.names }
     ensures last { OnOk result (imports.new.items ≡ imports.old.items ++ map (ranked ranks.now) (map (entry_to graph.now scopes.now from) (imported graph.now.pairs from))) }
@@ -65,7 +69,7 @@ fn append_weighted_imports(
     Ok(())
 }
 
-/// The imports of the graph with their weights, by the ranks of their modules.
+/// The imports of the graph with their weights. `ranks` maps a module's number in the graph to its number in the network.
 fn weighted_imports(
     alloc: Global,
     graph: &Graph,
@@ -74,7 +78,9 @@ fn weighted_imports(
 ) -> Result<Vec<Priced>, AllocError>
     requires as_many { length scopes.now ≡ graph.now.modules }
     requires all_ranked { length ranks.now ≡ length graph.now.names }
+    // With `Ok` the result has each import of the graph with its weight, in the order of the graph.
     ensures entries { IfOk result (λ imports. imports.items ≡ map (ranked ranks.now) (map (graph_entry graph.now scopes.now) graph.now.pairs)) }
+    // With `Ok` no weight exceeds 2 ^ 24.
     ensures light { IfOk result (λ _. AreLight (map (graph_entry graph.now scopes.now) graph.now.pairs)) }
 {
     graph.invariants();
@@ -87,7 +93,7 @@ fn weighted_imports(
     Ok(imports)
 }
 
-/// The names of these modules of the graph.
+/// The names of the modules with these numbers in the graph, in the order of `nodes`.
 fn node_names(alloc: Global, graph: &Graph, nodes: &[u32]) -> Result<Vec<String>, AllocError>
     requires { All (λ v. v < length graph.now.names) nodes.now }
     ensures { IfOk result (λ names. texts names.items ≡ map (name_of graph.now) nodes.now) }
@@ -99,13 +105,14 @@ fn node_names(alloc: Global, graph: &Graph, nodes: &[u32]) -> Result<Vec<String>
     Ok(names)
 }
 
-/// The network of an import graph, as `FromGraph` specifies. Fails if an allocation fails.
+/// The network of an import graph: its modules, the external ones included, and its imports. The weight of an import is the number of
+/// uses that the importer's aliases of the imported module qualify. Fails if an allocation fails.
 pub fn net_of_graph(alloc: Global, graph: &Graph, scopes: &[Scopes]) -> Result<Net, AllocError>
-    // There are scopes for each module of the tree.
+    // `scopes` has an element for each module of the tree; external modules have none.
     requires as_many { length scopes.now ≡ graph.now.modules }
-    // Module names are identifiers.
+    // The module names of the graph are identifiers.
     requires named { All (λ n. is_name n ≡ true) graph.now.names }
-    // The network has a line for each module and each import of the graph.
+    // With `Ok` the network has exactly the modules of the graph and its imports with their weights.
     ensures { IfOk result (IsNetOf (graph_lines graph.now scopes.now)) }
 {
     graph.invariants();
@@ -114,5 +121,5 @@ pub fn net_of_graph(alloc: Global, graph: &Graph, scopes: &[Scopes]) -> Result<N
     let names = node_names(alloc, graph, order)?;
     let mut imports = weighted_imports(alloc, graph, scopes, ranks.as_slice())?;
     sort_imports(&mut imports);
-    Ok(Net::of(alloc, names, imports))
+    Ok(Net::from_parts(alloc, names, imports))
 }

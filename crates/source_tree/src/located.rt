@@ -20,14 +20,15 @@ use std::thread::Threads;
 #[derive(Drop)]
 pub struct LocatedNet {
     pub net: Net,
-    /// The number in the network of each file's module, in the order of the files.
+    /// For each file, in order, the number of its module in the network.
     pub modules: Vec<u32>,
-    /// The location of each import of the network, in the order of the imports.
+    /// For each import of the network, in order, its location.
     pub imports: Vec<ImportSite>,
 }
 
-/// The numbers of the modules with these scopes in a network.
+/// For each of these scopes, the number in the network of their module.
 fn network_numbers(alloc: Global, net: &Net, scopes: &[Scopes]) -> Result<Vec<u32>, AllocError>
+    // The network has a module for each of the scopes.
     requires { All (λ s. Contains net.now.names s.name) scopes.now }
     ensures low { IfOk result (λ v. All (λ m. m < length net.now.names) v.items) }
     ensures named { IfOk result (λ v. map (name_of net.now) v.items ≡ map (λ (s : ModuleScopes). s.name) scopes.now) }
@@ -42,8 +43,8 @@ fn network_numbers(alloc: Global, net: &Net, scopes: &[Scopes]) -> Result<Vec<u3
     Ok(modules)
 }
 
-/// Splits scopes from the positions of import items.
-fn split_located(
+/// Splits a list of pairs into two lists, both in the order of the files: the scopes, and the positions of the import items.
+fn split_located_scopes(
     alloc: Global,
     files: Vec<LocatedScopes>,
 ) -> Result<(Vec<Scopes>, Vec<Vec<Position>>), AllocError>
@@ -66,17 +67,17 @@ pub fn located_net_of<R: Threads + Sync>(
     sources: &[Source],
     workers: u32,
 ) -> Result<LocatedNet, TreeFault>
-    // The network is the tree's.
+    // With `Ok` the files are accepted, and the network is that of their imports.
     ensures net { IfOk result (λ located. IsNetOfTree sources.now located.net) }
-    // Each file has the number of its module in the network.
+    // With `Ok` the result has for each file the number of its module in the network.
     ensures modules { IfOk result (λ located. AreModulesOf sources.now located.net located.modules.items) }
-    // Each import has the location of its first import item.
+    // With `Ok` the result has for each import of the network the location of the first import item that names it.
     ensures imports { IfOk result (λ located. AreSitesOf sources.now located.net located.imports.items) }
-    // The error is the tree's.
+    // With `Err` the tree has the returned error, or an allocation failed.
     ensures fault { IfErr result (IsTreeFault sources.now) }
 {
     let files: Vec<LocatedScopes> = read_files(rt, alloc, sources, workers)?;
-    let (scopes, items) = split_located(alloc, files)?;
+    let (scopes, items) = split_located_scopes(alloc, files)?;
     let tree = build_tree(alloc, sources, scopes)?;
     let net = network_of_tree(alloc, &tree)?;
     let scopes = tree.scopes.as_slice();

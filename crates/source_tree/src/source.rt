@@ -5,13 +5,13 @@ ghost use Rattle.source_tree.specs.Sources.{ArePathsInOrder};
 /// A source file of a tree.
 #[derive(Drop)]
 pub struct Source {
-    /// The file's path below the tree's folder, with `/` between names.
+    /// The file's path relative to the tree's folder, with `/` between names.
     pub path: String,
     /// The file's bytes.
     pub bytes: Vec<u8>,
 }
 
-/// Whether the files are strictly sorted by path, compared by bytes.
+/// Whether the files are strictly sorted by path, so that no path repeats. Paths are compared byte by byte.
 pub fn in_order(sources: &[Source]) -> bool
     // True exactly if the paths are strictly sorted.
     ensures { IsTrue result ↔ ArePathsInOrder sources.now }

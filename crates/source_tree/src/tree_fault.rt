@@ -1,4 +1,4 @@
-//! Errors of trees.
+//! Errors of source trees.
 
 use ob_grammar::ParseFault;
 use ob_imports::GraphFault;
@@ -7,18 +7,18 @@ use ob_scope::ScopeFault;
 use std::alloc::{AllocError, AllocFailed};
 use thiserror::Error;
 
-/// The error of a tree: that of the first file that has one, with its path and position, or else that of the imports. A failed allocation
-/// is always `Memory`, never within another variant.
+/// The error of a source tree: the error of the first file that has one, with the file's path and the position; or else the error of the
+/// imports. A failed allocation is always `Memory`, never within another variant.
 #[derive(Debug, Drop, Error)]
 pub enum TreeFault {
-    /// A file has no tokens.
+    /// The scanner rejects a file.
     #[error("{path}: {fault}")]
     Scan {
         path: String,
         at: Position,
         fault: ScanFault,
     },
-    /// A file has no syntax tree.
+    /// The parser rejects a file.
     #[error("{path}: {fault}")]
     Parse {
         path: String,

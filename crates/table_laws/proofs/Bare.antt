@@ -70,8 +70,8 @@ b-is {p} {q} e m = subst Bare (sym e) m
 pub b-use : (member : Option ℕ) → Bare (used member)
 b-use member = b-with_rows _ (λ c k. refl) b-token
 
-pub b-declared : (starred : Bool) → Bare (with_rows (declared_row starred) token)
-b-declared starred = b-with_rows _ (λ c k. refl) b-token
+pub b-declared : (is_exported : Bool) → Bare (with_rows (declared_row is_exported) token)
+b-declared is_exported = b-with_rows _ (λ c k. refl) b-token
 
 -- a first token with entries
 pub b-first : (own : Context → ℕ → Rows) {p : Fragment} → ((c : Context) (k : ℕ) → (own c k).records ≡ []) → Bare p → Bare (with_rows own (both token p))

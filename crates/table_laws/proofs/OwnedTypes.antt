@@ -27,7 +27,7 @@ use Rattle.std.proofs.Common.{◌<◌, arith}
 
 pub b-identdef : (i : Identdef) → Bare (identdef_rows i)
 unfolding identdef_rows
-b-identdef i = b-first _ (λ c k. refl) (b-so i.starred b-token)
+b-identdef i = b-first _ (λ c k. refl) (b-so i.is_exported b-token)
 
 b-parameter : (n : ℕ) → Bare parameter_rows
 unfolding parameter_rows

@@ -258,24 +258,24 @@ module _ (R : Rows) where
 
   -- ---- declared identifiers
 
-  holds_name : (starred : Bool) (c : Context) (k : ℕ) → Named c k → Holds (declared_row starred c k)
-  holds_name starred c k s = record {
+  holds_name : (is_exported : Bool) (c : Context) (k : ℕ) → Named c k → Holds (declared_row is_exported c k)
+  holds_name is_exported c k s = record {
     declared = λ x h.
-        let is : record { number = k; exported = starred; declared_by = c.decl_group } ≡ x = in_one _ x h in
+        let is : record { number = k; exported = is_exported; declared_by = c.decl_group } ≡ x = in_one _ x h in
         subst HasConstruct is (record { by = s.by; among = s.among; first = s.first; before = (let f = s.first in let b = s.before in omega (arith, f, b)); decl_kind = inl s.decl_kind });
     decl_groups = λ x h. absurd (in_none x h);
     ends = λ x h. absurd (in_none x h);
   }
 
-  pub g-name : (starred : Bool) {p : Fragment} → Quiet p → Good Named (with_rows (declared_row starred) p)
-  g-name starred q = g-with_rows _ (λ c k s. holds_name starred c k s) (g-quiet q)
+  pub g-name : (is_exported : Bool) {p : Fragment} → Quiet p → Good Named (with_rows (declared_row is_exported) p)
+  g-name is_exported q = g-with_rows _ (λ c k s. holds_name is_exported c k s) (g-quiet q)
 
   pub g-identdef : (i : Identdef) → Good Named (identdef_rows i)
   unfolding identdef_rows
-  g-identdef i = g-name i.starred (q-both q-token (q-so i.starred q-token))
+  g-identdef i = g-name i.is_exported (q-both q-token (q-so i.is_exported q-token))
 
   -- an identifier that is declared here is in the whole table
-  name_in : (i : Identdef) (c : Context) (k : ℕ) → AreIn ((identdef_rows i).rows c k) → Contains R.declared (record { number = k; exported = i.starred; declared_by = c.decl_group })
+  name_in : (i : Identdef) (c : Context) (k : ℕ) → AreIn ((identdef_rows i).rows c k) → Contains R.declared (record { number = k; exported = i.is_exported; declared_by = c.decl_group })
   unfolding identdef_rows with_rows joined
   name_in i c k h = h.declared _ (at_front _ _)
 

@@ -13,12 +13,12 @@ use Rattle.table_laws.proofs.Standing.{Core, Holds, In, both_hold, core}
 use Rattle.table_laws.proofs.StandingCores.{holds_free, holds_loose, typed_holds}
 use Rattle.table_laws.proofs.StandingPieces.{Free, Held, Mute, Opens, Stands, m-declared, no_in}
 
-star : (i : Identdef) → Plain (both token (if_true i.starred token))
-star i = b-both b-token (b-so i.starred b-token)
+star : (i : Identdef) → Plain (both token (if_true i.is_exported token))
+star i = b-both b-token (b-so i.is_exported b-token)
 
 pub m-identdef : (i : Identdef) → Mute (identdef_rows i)
 unfolding identdef_rows
-m-identdef i = m-declared i.starred (star i)
+m-identdef i = m-declared i.is_exported (star i)
 
 pub identdef_some : (i : Identdef) → 0 < (identdef_rows i).width
 unfolding identdef_rows with_rows both token
@@ -57,7 +57,7 @@ pub record Types (p : Fragment) : Type 0 where
   pub by : (c : Context) (k : ℕ) → (row c k).declared_by ≡ c.decl_group
   pub holds : (c : Context) (k : ℕ) → c.decl_group ≡ k → Holds Unit Unit ⊥ k c.block c.of_record (suc k) (k + p.width) (core (p.rows c k))
 
-begins : (i : Identdef) (c : Context) (k : ℕ) (ds : List Declared) → In (record { number = k; exported = i.starred; declared_by = c.decl_group }) (((identdef_rows i).rows c k).declared ++ ds)
+begins : (i : Identdef) (c : Context) (k : ℕ) (ds : List Declared) → In (record { number = k; exported = i.is_exported; declared_by = c.decl_group }) (((identdef_rows i).rows c k).declared ++ ds)
 unfolding identdef_rows with_rows joined In
 begins i c k ds = inl refl
 
@@ -66,7 +66,7 @@ pub t-held : (i : Identdef) {q : Fragment} → Held q → Types (both (identdef_
 unfolding both joined
 t-held i {q} g = record {
   some = (let s = identdef_some i in omega arith);
-  row = λ c k. record { number = k; exported = i.starred; declared_by = c.decl_group };
+  row = λ c k. record { number = k; exported = i.is_exported; declared_by = c.decl_group };
   there = λ c k. begins i c k (q.rows c (k + (identdef_rows i).width)).declared;
   number = λ c k. refl;
   by = λ c k. refl;

@@ -92,14 +92,14 @@ mark_alone : (row t : Declared) (xs : List Declared) → xs ≡ [] → row.decla
 unfolding In
 mark_alone row t xs none l h = elim h [ inl s ↦ subst (λ (z : Declared). z.declared_by ≤ z.number) s l | inr n ↦ absurd (no_in t xs none n) ]
 
-pub m-declared : (starred : Bool) {p : Fragment} → Plain p → Mute (with_rows (declared_row starred) p)
+pub m-declared : (is_exported : Bool) {p : Fragment} → Plain p → Mute (with_rows (declared_row is_exported) p)
 unfolding with_rows joined
-m-declared starred {p} f = record {
+m-declared is_exported {p} f = record {
   loose = record {
     records = λ c k. ap (λ (z : Told). z.records) (f.none c k);
     decl_groups = λ c k. ap (λ (z : Told). z.decl_groups) (f.none c k);
     parts = λ c k q h. absurd (no_in q (p.rows c k).parts (ap (λ (z : Told). z.parts) (f.none c k)) h);
-    marks = λ c k l t h. mark_alone (record { number = k; exported = starred; declared_by = c.decl_group }) t (p.rows c k).declared (ap (λ (z : Told). z.declared) (f.none c k)) l h;
+    marks = λ c k l t h. mark_alone (record { number = k; exported = is_exported; declared_by = c.decl_group }) t (p.rows c k).declared (ap (λ (z : Told). z.declared) (f.none c k)) l h;
   };
   parts = λ c k. ap (λ (z : Told). z.parts) (f.none c k);
 }

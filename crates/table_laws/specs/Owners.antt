@@ -19,7 +19,7 @@ has_type decl_kinds.Procedure = false
 has_type decl_kinds.Parameter = false
 has_type decl_kinds.Field = true
 
--- the type of the owner of the record has this RECORD, and no later part
+-- the type expression of the owner of the record has this RECORD as its last component
 pub record EndsTypeExpr (rows : Rows) (r : Record) : Type 0 where
   pub part : TypePart
   pub among : Contains rows.parts part
@@ -28,14 +28,14 @@ pub record EndsTypeExpr (rows : Rows) (r : Record) : Type 0 where
   pub is : part.part ≡ parts.Record
   pub last : (q : TypePart) → Contains rows.parts q → q.declared_by ≡ r.owner → q.number ≤ r.number
 
--- this RECORD in the type of a declaration is a record of the table that the declaration owns
+-- this component of a declaration's type is a record of the table, and the declaration owns the record
 pub record IsOfRecord (rows : Rows) (q : TypePart) : Type 0 where
   pub row : Record
   pub among : Contains rows.records row
   pub number : row.number ≡ q.number
   pub owner : row.owner ≡ q.declared_by
 
--- a field is in a record, whose owner is declared before the field, in the block of the field, with a type that can be a record
+-- the record r has an owner that is declared before the field f, in the block of f, and is a type, a variable or a field
 pub record IsFieldOf (rows : Rows) (f : DeclGroup) (r : ℕ) : Type 0 where
   pub row : Record
   pub among : Contains rows.records row

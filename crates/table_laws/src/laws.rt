@@ -11,7 +11,7 @@ ghost use Rattle.table_laws.specs.Owners.{EndsTypeExpr, IsFieldOf, IsOfRecord};
 
 /// Two records of a module have different owners: the type of a declaration contains at most one record, directly or through arrays and
 /// pointers.
-pub fn one_record()
+pub fn owner_has_one_record()
     ensures { (m : Module) (r s : Record) → Contains (rows_of m).records r → Contains (rows_of m).records s → r.owner ≡ s.owner → r.number ≡ s.number }
 {}
 
@@ -28,7 +28,7 @@ pub fn fields_have_owners()
     ensures { (m : Module) (f : DeclGroup) (r : ℕ) → Contains (rows_of m).decl_groups f → f.of_record ≡ Some r → IsFieldOf (rows_of m) f r }
 {}
 
-/// An identifier does not precede the first token of the construct that declares it.
+/// An identifier does not precede the first token of its declaration group.
 pub fn identifiers_follow_group_start()
     ensures { (m : Module) (d : Declared) → Contains (rows_of m).declared d → d.declared_by ≤ d.number }
 {}

@@ -28,7 +28,7 @@ use Rattle.module_table.proofs.Steps.{after_each, after_nothing, number_of}
 use Rattle.ob_grammar.specs.declared.cursor.Cursor.{Cursor}
 use Rattle.ob_grammar.specs.declared.stop.Stop.{Stop}
 use Rattle.ob_grammar.specs.Combinators.{Read, Reader, seq, node, prefixed, optional, unless, many, several, accept_at, expect_at}
-use Rattle.ob_grammar.specs.AgreesWith.{remaining}
+use Rattle.ob_grammar.specs.ParsesAs.{remaining}
 use Rattle.ob_grammar.specs.ReadExpressions.{expr_at}
 use Rattle.ob_grammar.proofs.Loops.{Advances, shortens_expect}
 use Rattle.ob_grammar.proofs.Compatible.{optional_held, several_held, unless_starts}
@@ -37,7 +37,7 @@ use Rattle.ob_grammar.proofs.Taking.{given}
 use Rattle.table_reader.specs.SelectorShapes.{is_present, SelectorShape, selector_shape_events, selector_stage, Counted, counted_events, Counts, MoreExprs, more_events, CountsMore}
 use Rattle.table_reader.specs.SoleNames.{sole_name_of}
 use Rattle.table_reader.specs.Shapes.{exprs_events, exprs_rows, arguments_events, arguments_rows}
-use Rattle.table_reader.specs.Tabulating.{IsTabulated, Tabulates, TabulatesBy}
+use Rattle.table_reader.specs.Tabulating.{HasAppendedEntries, AppendsEntries, AppendsEntriesBy}
 use Rattle.table_reader.proofs.Combine.{told_as, told_at, told_then, told_there, told_behind, told_with}
 use Rattle.table_reader.proofs.DesignatorTrees.{picking_shown, told_settled}
 use Rattle.table_reader.proofs.ExpressionTrees.{both_after}
@@ -57,7 +57,7 @@ list_count : (x : Expr × Vec Expr) → (list_phrase (list_of x)).count ≡ suc 
 list_count x = effect.expr_list_count (list_of x) ∙ ap (λ y. suc (length y.rest.items)) (out-roll-ExprList (record { first = x.0; rest = x.1 }))
 
 pub list_told : (ts : List Token) (c : Context) (r : Reader) (old mid new : TableBuilder) (input here : Cursor) (result : Result (Cursor × ℕ) Stop) →
-    Tabulates ts expr_events expr_rows c old mid (Ok here) (r (remaining ts input)) → CountsMore ts c mid new result (many (accept_at kinds.Comma) r (remaining ts here)) →
+    AppendsEntries ts expr_events expr_rows c old mid (Ok here) (r (remaining ts input)) → CountsMore ts c mid new result (many (accept_at kinds.Comma) r (remaining ts here)) →
     Counts ts c old new result (several kinds.Comma r (remaining ts input))
 unfolding several
 list_told ts c r old mid new input here (Ok y) a b =
@@ -97,14 +97,14 @@ turns_few ts r c count old now input here begun l e =
 
 -- after a first expression there is still a token before the cursor
 pub still_begun : (ts : List Token) (c : Context) (old new : TableBuilder) (rest : Cursor) (read : Read) → (old.failed ≡ false → 0 < old.number) →
-    IsTabulated ts expr_events (λ x. after (expr_rows x) c) old new rest read → new.failed ≡ false → 0 < new.number
+    HasAppendedEntries ts expr_events (λ x. after (expr_rows x) c) old new rest read → new.failed ≡ false → 0 < new.number
 still_begun ts c old new rest read begun t e =
     let k = t.tabulates e in
     omega (arith, begun k.0, ap (λ (s : Stage). s.number) k.1.comes, number_of new, after_number (expr_rows k.1.tree) c (stage_of old), number_of old)
 
 pub further_more : (ts : List Token) (r : Reader) (c : Context) (count later : ℕ) → Advances (accept_at kinds.Comma) r → (old now mid new : TableBuilder) (input here following next : Cursor) →
     accept_at kinds.Comma (remaining ts here) ≡ Some (word kinds.Comma, remaining ts following) → FurtherListing ts r c count old now input here → PerformsStep advanced now mid →
-    Tabulates ts expr_events expr_rows c mid new (Ok next) (r (remaining ts following)) →
+    AppendsEntries ts expr_events expr_rows c mid new (Ok next) (r (remaining ts following)) →
     (old.failed ≡ false → 0 < old.number) → now.number + 1 < 2 ^ 32 → later ≡ min (count + 1) (2 ^ 32 - 1) → FurtherListing ts r c later old new input next
 further_more ts r c count later adv old now mid new input here following next found l h t begun small counts =
     listing_more ts (accept_at kinds.Comma) r (λ e. word kinds.Comma ++ expr_events e) (λ xs. after (pieces (λ e. both token (expr_rows e)) xs) c)
@@ -124,8 +124,8 @@ further_done ts r c count adv old now input here none l =
 -- ---- "(" [list] ")"
 
 pub some_arguments_told : (ts : List Token) (c : Context) (r : Reader) (count : ℕ) (old new : TableBuilder) (input rest : Cursor) →
-    unless kinds.RightParen (remaining ts input) ≡ Some ([], remaining ts input) → IsTabulated {T = Counted count} ts counted_events (λ l. after (expr_list_rows l.list) c) old new rest (r (remaining ts input)) →
-    IsTabulated ts arguments_events (λ x. after (arguments_rows x) c) old new rest (optional (unless kinds.RightParen) r (remaining ts input))
+    unless kinds.RightParen (remaining ts input) ≡ Some ([], remaining ts input) → HasAppendedEntries {T = Counted count} ts counted_events (λ l. after (expr_list_rows l.list) c) old new rest (r (remaining ts input)) →
+    HasAppendedEntries ts arguments_events (λ x. after (arguments_rows x) c) old new rest (optional (unless kinds.RightParen) r (remaining ts input))
 some_arguments_told ts c r count old new input rest found t =
     told_as ts (λ (x : Counted count). [] ++ expr_list_events x.list) (λ x. after (expr_list_rows x.list) c) arguments_events (λ x. after (arguments_rows x) c)
     (λ x. Some (boxed old.uses.alloc x.list)) (λ x. refl) (λ x s. refl) old new (Ok rest) (optional (unless kinds.RightParen) r (remaining ts input))
@@ -136,8 +136,8 @@ record Spelt {A : Type 0} (ts : List Token) (f : A → Events) (input here : Cur
   tree : A
   spelt : remaining ts input ≡ tokens_of (f tree) ++ remaining ts here
 
-told_spelt : {A : Type 0} (ts : List Token) (f : A → Events) (p : A → Stage → Stage) (d : ℕ) (r : Reader) (old new : TableBuilder) (input rest : Cursor) → Sound d r → IsTabulated ts f p old new rest (r (remaining ts input)) →
-    IsTabulated {T = Spelt ts f input rest} ts (λ x. f x.tree) (λ x. p x.tree) old new rest (r (remaining ts input))
+told_spelt : {A : Type 0} (ts : List Token) (f : A → Events) (p : A → Stage → Stage) (d : ℕ) (r : Reader) (old new : TableBuilder) (input rest : Cursor) → Sound d r → HasAppendedEntries ts f p old new rest (r (remaining ts input)) →
+    HasAppendedEntries {T = Spelt ts f input rest} ts (λ x. f x.tree) (λ x. p x.tree) old new rest (r (remaining ts input))
 told_spelt ts f p d r old new input rest h t = record {
   out = t.out;
   is_read = t.is_read;
@@ -153,8 +153,8 @@ told_spelt ts f p d r old new input rest h t = record {
 
 -- if a token was read, one was there
 told_left : (ts : List Token) (k : Kind) (old new : TableBuilder) (here : Cursor) (result : Result Cursor Stop) →
-    TabulatesBy ts (λ (x : Unit {0}). word k) (λ x s. advanced s) old new result (expect_at k (remaining ts here)) →
-    TabulatesBy {T = 0 < length (remaining ts here)} ts (λ x. word k) (λ x s. advanced s) old new result (expect_at k (remaining ts here))
+    AppendsEntriesBy ts (λ (x : Unit {0}). word k) (λ x s. advanced s) old new result (expect_at k (remaining ts here)) →
+    AppendsEntriesBy {T = 0 < length (remaining ts here)} ts (λ x. word k) (λ x s. advanced s) old new result (expect_at k (remaining ts here))
 told_left ts k old new here (Ok rest) t = record {
   out = t.out;
   is_read = t.is_read;
@@ -171,10 +171,10 @@ call_picked o = record { selector = selectors.Arguments o; named = ap (λ (x : S
 
 pub call_told : (ts : List Token) (c : Context) (d : ℕ) (head at : ℕ) (name : Option TypeName) (old mid list late new : TableBuilder) (input here : Cursor) (result : Result Cursor Stop) →
     old.number + 1 ≡ input.at → (old.failed ≡ false → at < length old.selectors.items) → PerformsStep advanced old mid →
-    IsTabulated ts arguments_events (λ x. after (arguments_rows x) c) mid list here (optional (unless kinds.RightParen) (several kinds.Comma (expr_at d)) (remaining ts input)) →
+    HasAppendedEntries ts arguments_events (λ x. after (arguments_rows x) c) mid list here (optional (unless kinds.RightParen) (several kinds.Comma (expr_at d)) (remaining ts input)) →
     LoneSeen ts input here name → PerformsStep (with_selector at (record { of = head; step = steps.Arguments name })) list late →
-    TabulatesBy ts (λ (x : Unit {0}). word kinds.RightParen) (λ x s. advanced s) late new result (expect_at kinds.RightParen (remaining ts here)) →
-    TabulatesBy {T = SelectorShape false} ts selector_shape_events (selector_stage head at c) old new result
+    AppendsEntriesBy ts (λ (x : Unit {0}). word kinds.RightParen) (λ x s. advanced s) late new result (expect_at kinds.RightParen (remaining ts here)) →
+    AppendsEntriesBy {T = SelectorShape false} ts selector_shape_events (selector_stage head at c) old new result
     (node constructs.Selector (prefixed (word kinds.LeftParen) (seq (optional (unless kinds.RightParen) (several kinds.Comma (expr_at d))) (expect_at kinds.RightParen))) (remaining ts input))
 unfolding call_picked
 call_told ts c d head at name old mid list late new input here result opens in_range h a with_remaining k b =

@@ -37,12 +37,12 @@ use Rattle.ob_grammar.specs.declared.stop.Stop.TheVariants as stops
 use Rattle.ob_grammar.proofs.Loops.{Advances}
 use Rattle.ob_grammar.specs.Lookahead.{uncons, head_is, is_word}
 use Rattle.ob_grammar.specs.Combinators.{Reader, seq, node, prefixed, many, begins, expect_at, identifier_at, name_at}
-use Rattle.ob_grammar.specs.AgreesWith.{remaining, Fails}
+use Rattle.ob_grammar.specs.ParsesAs.{remaining, Fails}
 use Rattle.ob_grammar.specs.ReadExpressions.{selector_first, selector_from, selector_with, designator_with, expr_at}
 use Rattle.ob_grammar.proofs.Sound.{done}
 use Rattle.table_reader.specs.SelectorShapes.{dot_at, is_present, SelectorShape, selector_shape_events, selector_stage, SelectorsShape, selectors_shape_events, selectors_stage, Counted, counted_events}
 use Rattle.table_reader.specs.SelectorSlots.{placeholder, slots, inserted, removed, EnsuresSlot}
-use Rattle.table_reader.specs.Tabulating.{IsTabulated, Tabulates, TabulatesBy}
+use Rattle.table_reader.specs.Tabulating.{HasAppendedEntries, AppendsEntries, AppendsEntriesBy}
 use Rattle.table_reader.proofs.Combine.{told_as, told_at, told_node, told_then, told_prefixed, told_behind, told_before, told_knowing}
 use Rattle.table_reader.proofs.FactorTrees.{bracket_after}
 use Rattle.table_reader.proofs.Lists.{Gathered, Listing, listing_begun, listing_more, listing_mended, listing_known, listing_done}
@@ -80,7 +80,7 @@ target_picked = record { selector = selectors.Target; named = ap (λ (x : Select
 
 pub target_told : (ts : List Token) (c : Context) (head at : ℕ) (old mid new : TableBuilder) (input rest : Cursor) → rest ≡ input →
     PerformsStep (with_selector at (record { of = head; step = steps.Target })) old mid → PerformsStep advanced mid new →
-    IsTabulated ts selector_shape_events (selector_stage {dot = false} head at c) old new rest (Ok (construct constructs.Selector (word kinds.Caret), remaining ts input))
+    HasAppendedEntries ts selector_shape_events (selector_stage {dot = false} head at c) old new rest (Ok (construct constructs.Selector (word kinds.Caret), remaining ts input))
 unfolding target_picked
 target_told ts c head at old mid new input rest same h k = record {
   out = construct constructs.Selector (word kinds.Caret);
@@ -105,7 +105,7 @@ field_picked n = record { selector = selectors.Field n; named = ap (λ (x : Sele
 pub field_told : (ts : List Token) (c : Context) (head at number m : ℕ) (old mid late new : TableBuilder) (input following rest : Cursor) → rest ≡ following → number ≡ old.number + 1 →
     PerformsStep (with_selector at (record { of = head; step = steps.Field number })) old mid → PerformsStep advanced mid late →
     identifier_at (remaining ts input) ≡ Ok (m, remaining ts following) → PerformsStep advanced late new →
-    IsTabulated ts selector_shape_events (selector_stage {dot = true} head at c) old new rest (node constructs.Selector (prefixed (word kinds.Dot) (name_at marks.selected)) (remaining ts input))
+    HasAppendedEntries ts selector_shape_events (selector_stage {dot = true} head at c) old new rest (node constructs.Selector (prefixed (word kinds.Dot) (name_at marks.selected)) (remaining ts input))
 unfolding field_picked name_at
 field_told ts c head at number m old mid late new input following rest equal in_range h k e l = record {
   out = construct constructs.Selector (word kinds.Dot ++ marks.selected m);
@@ -137,9 +137,9 @@ settled_bracket p c s at row h =
 -- the part between two words, the first of which the builder has passed, with an entry that is set before the second word
 pub told_settled : {A : Type 0} (B : Type 0) (ts : List Token) (f : A → Events) (q : A → Fragment) (c : Context) (begin end : Kind) (r : Reader) (at : ℕ) (row : SelectorRow) (old mid list late new : TableBuilder) (input here : Cursor) (result : Result Cursor Stop) →
     (old.failed ≡ false → at < length old.selectors.items) → PerformsStep advanced old mid →
-    IsTabulated ts f (λ x. after (q x) c) mid list here (r (remaining ts input)) → PerformsStep (with_selector at row) list late →
-    TabulatesBy ts (λ (x : B). word end) (λ x s. advanced s) late new result (expect_at end (remaining ts here)) →
-    TabulatesBy ts (λ (x : A × B). construct constructs.Selector (word begin ++ (f x.0 ++ word end))) (λ x s. after (both token (both (q x.0) token)) c (with_selector at row s)) old new result
+    HasAppendedEntries ts f (λ x. after (q x) c) mid list here (r (remaining ts input)) → PerformsStep (with_selector at row) list late →
+    AppendsEntriesBy ts (λ (x : B). word end) (λ x s. advanced s) late new result (expect_at end (remaining ts here)) →
+    AppendsEntriesBy ts (λ (x : A × B). construct constructs.Selector (word begin ++ (f x.0 ++ word end))) (λ x s. after (both token (both (q x.0) token)) c (with_selector at row s)) old new result
     (node constructs.Selector (prefixed (word begin) (seq r (expect_at end))) (remaining ts input))
 told_settled {A} B ts f q c begin end r at row old mid list late new input here result in_range h a k b =
     let Fact : Type 0 = at < length old.selectors.items in
@@ -158,10 +158,10 @@ index_picked g l = record { selector = selectors.Index (boxed g l); named = ap (
 
 pub index_told : (ts : List Token) (c : Context) (r : Reader) (head at count : ℕ) (old mid list late new : TableBuilder) (input here : Cursor) (result : Result Cursor Stop) →
     (old.failed ≡ false → at < length old.selectors.items) → PerformsStep advanced old mid →
-    IsTabulated {T = Counted count} ts counted_events (λ l. after (expr_list_rows l.list) c) mid list here (r (remaining ts input)) →
+    HasAppendedEntries {T = Counted count} ts counted_events (λ l. after (expr_list_rows l.list) c) mid list here (r (remaining ts input)) →
     PerformsStep (with_selector at (record { of = head; step = steps.Elements count })) list late →
-    TabulatesBy ts (λ (x : Unit {0}). word kinds.RightBracket) (λ x s. advanced s) late new result (expect_at kinds.RightBracket (remaining ts here)) →
-    TabulatesBy {T = SelectorShape false} ts selector_shape_events (selector_stage head at c) old new result (node constructs.Selector (prefixed (word kinds.LeftBracket) (seq r (expect_at kinds.RightBracket))) (remaining ts input))
+    AppendsEntriesBy ts (λ (x : Unit {0}). word kinds.RightBracket) (λ x s. advanced s) late new result (expect_at kinds.RightBracket (remaining ts here)) →
+    AppendsEntriesBy {T = SelectorShape false} ts selector_shape_events (selector_stage head at c) old new result (node constructs.Selector (prefixed (word kinds.LeftBracket) (seq r (expect_at kinds.RightBracket))) (remaining ts input))
 unfolding index_picked
 index_told ts c r head at count old mid list late new input here result in_range h a k b =
     let row : SelectorRow = record { of = head; step = steps.Elements count } in
@@ -284,7 +284,7 @@ chosen_kept ts r c head at slot end later old now new input here h k l =
 
 pub chosen_next : (ts : List Token) (r : Reader) (c : Context) (head at slot later end : ℕ) → Advances (begins selector_first) r → (old now new : TableBuilder) (input here next : Cursor) →
     begins selector_first (remaining ts here) ≡ Some ([], remaining ts here) → ReadyListing ts r c head at slot end old now input here →
-    IsTabulated {T = SelectorShape (dot_at ts here)} ts selector_shape_events (selector_stage head slot c) now new next (r (remaining ts here)) → (now.failed ≡ false → later ≡ slot + 1) →
+    HasAppendedEntries {T = SelectorShape (dot_at ts here)} ts selector_shape_events (selector_stage head slot c) now new next (r (remaining ts here)) → (now.failed ≡ false → later ≡ slot + 1) →
     ChosenListing ts r c head at later end old new input next
 chosen_next ts r c head at slot later end adv old now new input here next found l t in_range =
     listing_more {X = Selector} ts (begins selector_first) r selector_events (choosing_to head at end c) (HasPlace ts at slot end input here) (Placed ts at later end input next)
@@ -314,7 +314,7 @@ closed_at ts c head at slot end input here xs s h so =
 
 pub chosen_all : (ts : List Token) (r : Reader) (c : Context) (head at slot end : ℕ) → Advances (begins selector_first) r → (old now new : TableBuilder) (input here : Cursor) → at ≡ length old.selectors.items →
     head_is selector_first (uncons (remaining ts here)) ≡ false → begins selector_first (remaining ts here) ≡ None → ChosenListing ts r c head at slot end old now input here → PerformsStep (removed slot end) now new →
-    IsTabulated ts (selectors_shape_events {dot = dot_at ts input}) (selectors_stage head c) old new here (many (begins selector_first) r (remaining ts input))
+    HasAppendedEntries ts (selectors_shape_events {dot = dot_at ts input}) (selectors_stage head c) old new here (many (begins selector_first) r (remaining ts input))
 chosen_all ts r c head at slot end adv old now new input here h e none l k =
     told_at ts (λ (v : Gathered {X = Selector} (Placed ts at slot end input here)). each selector_events v.list.items) (λ v s. removed slot end (choosing_to head at end c v.list.items s))
     (selectors_shape_events {dot = dot_at ts input}) (selectors_stage head c) (λ v. record { list = v.list; named = first_known ts input here v.list.items e v.so.3 }) (λ v. refl) old new (Ok here) _
@@ -333,7 +333,7 @@ none_settled head at c (x ∷ xs) s none = absurd cc
 -- if there is no selector
 pub none_chosen : (ts : List Token) (r : Reader) (c : Context) (head : ℕ) → Advances (begins selector_first) r → (d : TableBuilder) (input : Cursor) →
     head_is selector_first (uncons (remaining ts input)) ≡ false → begins selector_first (remaining ts input) ≡ None →
-    IsTabulated ts (selectors_shape_events {dot = dot_at ts input}) (selectors_stage head c) d d input (many (begins selector_first) r (remaining ts input))
+    HasAppendedEntries ts (selectors_shape_events {dot = dot_at ts input}) (selectors_stage head c) d d input (many (begins selector_first) r (remaining ts input))
 none_chosen ts r c head adv d input e none =
     told_as ts (λ (v : Gathered {X = Selector} (λ xs. xs ≡ [])). each selector_events v.list.items) (λ v s. s)
     (selectors_shape_events {dot = dot_at ts input}) (selectors_stage head c) (λ v. record { list = v.list; named = none_named ts input v.list.items v.so e }) (λ v. refl) (λ v s. none_settled head (length s.rows.selectors) c v.list.items s v.so) d d (Ok input) _
@@ -347,18 +347,18 @@ failed_name ts role (stops.TooDeep i) ls h = rw h refl
 
 -- a selector with this first token
 pub told_selector : {A : Type 0} (ts : List Token) (f : A → Events) (p : A → Stage → Stage) (r : Reader) (old new : TableBuilder) (result : Result Cursor Stop) (ls : List Leaf) (o : Option (Leaf × List Leaf)) → uncons ls ≡ o →
-    TabulatesBy ts f p old new result (node constructs.Selector (λ z. selector_from r o) ls) → TabulatesBy ts f p old new result (selector_with r ls)
+    AppendsEntriesBy ts f p old new result (node constructs.Selector (λ z. selector_from r o) ls) → AppendsEntriesBy ts f p old new result (selector_with r ls)
 unfolding selector_with
 told_selector ts f p r old new result ls o e t = rw e t
 
 -- a selector after this token, which may be a dot
 pub selector_so : (ts : List Token) (c : Context) (head at : ℕ) (r : Reader) (old new : TableBuilder) (result : Result Cursor Stop) (input : Cursor) (dot : Bool) (o : Option (Leaf × List Leaf)) →
     uncons (remaining ts input) ≡ o → head_is (is_word kinds.Dot) o ≡ dot →
-    TabulatesBy {T = SelectorShape dot} ts selector_shape_events (selector_stage head at c) old new result (node constructs.Selector (λ z. selector_from r o) (remaining ts input)) →
-    TabulatesBy {T = SelectorShape (dot_at ts input)} ts selector_shape_events (selector_stage head at c) old new result (selector_with r (remaining ts input))
+    AppendsEntriesBy {T = SelectorShape dot} ts selector_shape_events (selector_stage head at c) old new result (node constructs.Selector (λ z. selector_from r o) (remaining ts input)) →
+    AppendsEntriesBy {T = SelectorShape (dot_at ts input)} ts selector_shape_events (selector_stage head at c) old new result (selector_with r (remaining ts input))
 selector_so ts c head at r old new result input dot o e h t =
     told_selector ts selector_shape_events (selector_stage head at c) r old new result (remaining ts input) o e
-    (subst (λ (b : Bool). TabulatesBy {T = SelectorShape b} ts selector_shape_events (selector_stage head at c) old new result (node constructs.Selector (λ z. selector_from r o) (remaining ts input))) (sym h ∙ ap (head_is (is_word kinds.Dot)) (sym e)) t)
+    (subst (λ (b : Bool). AppendsEntriesBy {T = SelectorShape b} ts selector_shape_events (selector_stage head at c) old new result (node constructs.Selector (λ z. selector_from r o) (remaining ts input))) (sym h ∙ ap (head_is (is_word kinds.Dot)) (sym e)) t)
 
 -- ---- designators
 
@@ -399,8 +399,8 @@ chosen_after {dot} w n head member c s x e h =
 
 pub designator_told : (ts : List Token) (c : Context) (w : Bool) (d n head : ℕ) (member : Option ℕ) (old row looked new : TableBuilder) (input : Cursor) (result : Result Cursor Stop) →
     head ≡ old.number → PerformsStep (added (designator_row w c head)) old row → is_present member ≡ dot_at ts input → PerformsStep (after (uses member) c) row looked →
-    TabulatesBy {T = SelectorsShape (dot_at ts input)} ts selectors_shape_events (selectors_stage head c) looked new result (many (begins selector_first) (selector_with (expr_at d)) (remaining ts input)) →
-    Tabulates ts designator_events (designator_rows w) c old new result (designator_with (expr_at d) n (remaining ts input))
+    AppendsEntriesBy {T = SelectorsShape (dot_at ts input)} ts selectors_shape_events (selectors_stage head c) looked new result (many (begins selector_first) (selector_with (expr_at d)) (remaining ts input)) →
+    AppendsEntries ts designator_events (designator_rows w) c old new result (designator_with (expr_at d) n (remaining ts input))
 unfolding designator_with
 designator_told ts c w d n head member old row looked new input result h a e u t =
     let loop : Reader = many (begins selector_first) (selector_with (expr_at d)) in

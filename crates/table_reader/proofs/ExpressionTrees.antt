@@ -25,10 +25,10 @@ use Rattle.table_rules.proofs.ExpressionLayers as effect
 use Rattle.ob_grammar.specs.declared.cursor.Cursor.{Cursor}
 use Rattle.ob_grammar.specs.declared.stop.Stop.{Stop}
 use Rattle.ob_grammar.specs.Combinators.{Read, seq, optional, nothing, many}
-use Rattle.ob_grammar.specs.AgreesWith.{remaining, Fails}
+use Rattle.ob_grammar.specs.ParsesAs.{remaining, Fails}
 use Rattle.ob_grammar.specs.ReadExpressions.{relation_start, sign_start, add_start, mul_start, expr_with, sum_with, term_with, expr_at, sum_at, term_at, factor_at}
 use Rattle.table_reader.specs.Shapes.{Compared, compared_events, compared_rows, sign_events, sign_rows, terms_events, terms_rows, factors_events, factors_rows}
-use Rattle.table_reader.specs.Tabulating.{IsTabulated, Tabulates}
+use Rattle.table_reader.specs.Tabulating.{HasAppendedEntries, AppendsEntries}
 use Rattle.table_reader.proofs.Combine.{told_as, told_node, told_then, told_there, told_behind, failed_node, failed_then}
 use Rattle.table_reader.proofs.Lists.{word_after}
 use Rattle.table_reader.proofs.Made.{boxed}
@@ -49,9 +49,9 @@ expr_parts : (x : SimpleExpression × Compared) → expr_rows (expr_of x) ≡ bo
 expr_parts x = effect.expr_out (expr_of x) ∙ ap (λ y. both (sum_rows y.left) (compared_rows y.compared)) (out-roll-Expr (record { left = x.0; compared = x.1 }))
 
 pub expr_told : (ts : List Token) (c : Context) (d : ℕ) (old mid new : TableBuilder) (input here : Cursor) (result : Result Cursor Stop) →
-    Tabulates ts sum_events sum_rows c old mid (Ok here) (sum_at d (remaining ts input)) →
-    Tabulates ts compared_events compared_rows c mid new result (optional relation_start (sum_at d) (remaining ts here)) →
-    Tabulates ts expr_events expr_rows c old new result (expr_with (sum_at d) (remaining ts input))
+    AppendsEntries ts sum_events sum_rows c old mid (Ok here) (sum_at d (remaining ts input)) →
+    AppendsEntries ts compared_events compared_rows c mid new result (optional relation_start (sum_at d) (remaining ts here)) →
+    AppendsEntries ts expr_events expr_rows c old new result (expr_with (sum_at d) (remaining ts input))
 unfolding expr_with
 expr_told ts c d old mid new input here result a b =
     told_as ts (λ (x : SimpleExpression × Compared). construct constructs.Expression (sum_events x.0 ++ compared_events x.1)) (λ x s. after (compared_rows x.1) c (after (sum_rows x.0) c s))
@@ -77,10 +77,10 @@ sum_parts : (x : Option Sign × (Term × Vec (AddOperator × Term))) → sum_row
 sum_parts x = effect.sum_out (sum_of x) ∙ ap (λ y. both (sign_rows y.sign) (both (term_rows y.first) (terms_rows y.rest))) (out-roll-SimpleExpression (record { sign = x.0; first = x.1.0; rest = x.1.1 }))
 
 pub sum_told : (ts : List Token) (c : Context) (d : ℕ) (old first mid new : TableBuilder) (input following here : Cursor) (result : Result Cursor Stop) →
-    Tabulates ts sign_events sign_rows c old first (Ok following) (optional sign_start nothing (remaining ts input)) →
-    Tabulates ts term_events term_rows c first mid (Ok here) (term_at d (remaining ts following)) →
-    Tabulates ts terms_events terms_rows c mid new result (many add_start (term_at d) (remaining ts here)) →
-    Tabulates ts sum_events sum_rows c old new result (sum_at d (remaining ts input))
+    AppendsEntries ts sign_events sign_rows c old first (Ok following) (optional sign_start nothing (remaining ts input)) →
+    AppendsEntries ts term_events term_rows c first mid (Ok here) (term_at d (remaining ts following)) →
+    AppendsEntries ts terms_events terms_rows c mid new result (many add_start (term_at d) (remaining ts here)) →
+    AppendsEntries ts sum_events sum_rows c old new result (sum_at d (remaining ts input))
 unfolding sum_with
 sum_told ts c d old first mid new input following here result a b t =
     told_as ts (λ (x : Option Sign × (Term × Vec (AddOperator × Term))). construct constructs.SimpleExpression (sign_events x.0 ++ (term_events x.1.0 ++ terms_events x.1.1)))
@@ -91,7 +91,7 @@ sum_told ts c d old first mid new input following here result a b t =
     (told_then ts term_events (λ x. after (term_rows x) c) terms_events (λ x. after (terms_rows x) c) (term_at d) (many add_start (term_at d)) first mid new here result (remaining ts following) b t)))
 
 pub sum_failed : (ts : List Token) (c : Context) (d : ℕ) (e : Stop) (old first : TableBuilder) (input following : Cursor) →
-    Tabulates ts sign_events sign_rows c old first (Ok following) (optional sign_start nothing (remaining ts input)) →
+    AppendsEntries ts sign_events sign_rows c old first (Ok following) (optional sign_start nothing (remaining ts input)) →
     Fails ts e (term_at d (remaining ts following)) → Fails ts e (sum_at d (remaining ts input))
 unfolding sum_with
 sum_failed ts c d e old first input following a h = failed_node ts constructs.SimpleExpression (seq (optional sign_start nothing) (seq (term_at d) (many add_start (term_at d)))) e (remaining ts input)
@@ -103,9 +103,9 @@ abbrev term_of : Factor × Vec (MulOperator × Factor) → Term
 term_of x = record { first = x.0; rest = x.1 }
 
 pub term_told : (ts : List Token) (c : Context) (d : ℕ) (old mid new : TableBuilder) (input here : Cursor) (result : Result Cursor Stop) →
-    Tabulates ts factor_events factor_rows c old mid (Ok here) (factor_at d (remaining ts input)) →
-    Tabulates ts factors_events factors_rows c mid new result (many mul_start (factor_at d) (remaining ts here)) →
-    Tabulates ts term_events term_rows c old new result (term_at d (remaining ts input))
+    AppendsEntries ts factor_events factor_rows c old mid (Ok here) (factor_at d (remaining ts input)) →
+    AppendsEntries ts factors_events factors_rows c mid new result (many mul_start (factor_at d) (remaining ts here)) →
+    AppendsEntries ts term_events term_rows c old new result (term_at d (remaining ts input))
 unfolding term_with
 term_told ts c d old mid new input here result a b =
     told_as ts (λ (x : Factor × Vec (MulOperator × Factor)). construct constructs.Term (factor_events x.0 ++ factors_events x.1)) (λ x s. after (factors_rows x.1) c (after (factor_rows x.0) c s))
@@ -120,7 +120,7 @@ term_failed ts d e input h = failed_node ts constructs.Term (seq (factor_at d) (
 -- ---- signs
 
 pub sign_none : (ts : List Token) (c : Context) (d : TableBuilder) (o : Option Sign) (rest : Cursor) (read : Read) → o ≡ None → Ok (sign_events o, remaining ts rest) ≡ read →
-    IsTabulated ts sign_events (λ x. after (sign_rows x) c) d d rest read
+    HasAppendedEntries ts sign_events (λ x. after (sign_rows x) c) d d rest read
 sign_none ts c d o rest read h e = record {
   out = sign_events o;
   is_read = sym e;
@@ -128,7 +128,7 @@ sign_none ts c d o rest read h e = record {
 }
 
 pub sign_some : (ts : List Token) (c : Context) (old new : TableBuilder) (o : Option Sign) (x : Sign) (rest : Cursor) (read : Read) → o ≡ Some x → Ok (sign_events o, remaining ts rest) ≡ read →
-    PerformsStep advanced old new → IsTabulated ts sign_events (λ x. after (sign_rows x) c) old new rest read
+    PerformsStep advanced old new → HasAppendedEntries ts sign_events (λ x. after (sign_rows x) c) old new rest read
 sign_some ts c old new o x rest read h e k = record {
   out = sign_events o;
   is_read = sym e;
@@ -137,8 +137,8 @@ sign_some ts c old new o x rest read h e k = record {
 
 -- a relation and its right side
 pub compared_told : (ts : List Token) (c : Context) (d : ℕ) (old mid new : TableBuilder) (input : Cursor) (k : Relation) (rest : Cursor) (result : Result Cursor Stop) →
-    relation_start (remaining ts input) ≡ Some (word (relation_kind k), remaining ts rest) → PerformsStep advanced old mid → Tabulates ts sum_events sum_rows c mid new result (sum_at d (remaining ts rest)) →
-    Tabulates ts compared_events compared_rows c old new result (optional relation_start (sum_at d) (remaining ts input))
+    relation_start (remaining ts input) ≡ Some (word (relation_kind k), remaining ts rest) → PerformsStep advanced old mid → AppendsEntries ts sum_events sum_rows c mid new result (sum_at d (remaining ts rest)) →
+    AppendsEntries ts compared_events compared_rows c old new result (optional relation_start (sum_at d) (remaining ts input))
 compared_told ts c d old mid new input k rest result found h t =
     told_as ts (λ (x : SimpleExpression). word (relation_kind k) ++ sum_events x) (λ x s. after (sum_rows x) c (advanced s)) compared_events (λ x. after (compared_rows x) c)
     (λ x. Some (k, boxed old.uses.alloc x)) (λ x. refl) (λ x s. word_after (sum_rows x) c s) old new result (optional relation_start (sum_at d) (remaining ts input))

@@ -28,10 +28,10 @@ use Rattle.ob_grammar.specs.declared.cursor.Cursor.{Cursor}
 use Rattle.ob_grammar.specs.declared.stop.Stop.{Stop}
 use Rattle.ob_grammar.specs.Lookahead.{uncons, head_is, is_word}
 use Rattle.ob_grammar.specs.Combinators.{Reader, seq, node, prefixed, optional, unless, several, many, accept_at, expect_at}
-use Rattle.ob_grammar.specs.AgreesWith.{remaining, Fails}
+use Rattle.ob_grammar.specs.ParsesAs.{remaining, Fails}
 use Rattle.ob_grammar.specs.ReadExpressions.{factor_from, factor_with, element_with, expr_at, negated_at, factor_at}
 use Rattle.table_reader.specs.Shapes.{set_events, set_rows, elements_events, elements_rows, high_events, high_rows}
-use Rattle.table_reader.specs.Tabulating.{Tabulates, TabulatesBy}
+use Rattle.table_reader.specs.Tabulating.{AppendsEntries, AppendsEntriesBy}
 use Rattle.table_reader.proofs.Made.{boxed}
 use Rattle.table_reader.proofs.Combine.{told_as, told_node, told_then, told_prefixed, told_behind, told_there, failed_node, failed_prefixed, failed_then}
 use Rattle.table_reader.proofs.ExpressionTrees.{both_after}
@@ -45,9 +45,9 @@ bracket_after p c s =
 
 -- the part between two words, the first of which the builder has passed
 pub told_between : {A : Type 0} (ts : List Token) (f : A → Events) (q : A → Fragment) (c : Context) (begin end : Kind) (r : Reader) (old mid last new : TableBuilder) (input here : Cursor) (result : Result Cursor Stop) →
-    PerformsStep advanced old mid → Tabulates ts f q c mid last (Ok here) (r (remaining ts input)) →
-    TabulatesBy ts (λ (x : Unit {0}). word end) (λ x s. advanced s) last new result (expect_at end (remaining ts here)) →
-    TabulatesBy ts (λ x. word begin ++ (f x ++ word end)) (λ x. after (both token (both (q x) token)) c) old new result (prefixed (word begin) (seq r (expect_at end)) (remaining ts input))
+    PerformsStep advanced old mid → AppendsEntries ts f q c mid last (Ok here) (r (remaining ts input)) →
+    AppendsEntriesBy ts (λ (x : Unit {0}). word end) (λ x s. advanced s) last new result (expect_at end (remaining ts here)) →
+    AppendsEntriesBy ts (λ x. word begin ++ (f x ++ word end)) (λ x. after (both token (both (q x) token)) c) old new result (prefixed (word begin) (seq r (expect_at end)) (remaining ts input))
 told_between {A} ts f q c begin end r old mid last new input here result h a b =
     told_as ts (λ (x : A × Unit {0}). word begin ++ (f x.0 ++ word end)) (λ x s. advanced (after (q x.0) c (advanced s))) _ _ (λ x. x.0) (λ x. refl) (λ x s. bracket_after (q x.0) c s) old new result _
     (told_prefixed ts (λ (x : A × Unit {0}). f x.0 ++ word end) _ (word begin) (seq r (expect_at end)) old new result (remaining ts input)
@@ -58,14 +58,14 @@ told_between {A} ts f q c begin end r old mid last new input here result h a b =
 
 -- a factor with this first token
 pub told_factor : {A : Type 0} (ts : List Token) (f : A → Events) (p : A → Stage → Stage) (d : ℕ) (old new : TableBuilder) (result : Result Cursor Stop) (ls : List Leaf) (o : Option (Leaf × List Leaf)) → uncons ls ≡ o →
-    TabulatesBy ts f p old new result (node constructs.Factor (λ z. factor_from (expr_at d) (negated_at d) o) ls) → TabulatesBy ts f p old new result (factor_at d ls)
+    AppendsEntriesBy ts f p old new result (node constructs.Factor (λ z. factor_from (expr_at d) (negated_at d) o) ls) → AppendsEntriesBy ts f p old new result (factor_at d ls)
 unfolding factor_with
 told_factor ts f p d old new result ls o e t = rw e t
 
 -- one token
 pub leaf_told : (ts : List Token) (c : Context) (old new : TableBuilder) (rest : Cursor) (r : Reader) (ls : List Leaf) (ms : Events) (tree : Factor) →
     r ls ≡ Ok (ms, remaining ts rest) → factor_events tree ≡ construct constructs.Factor ms → factor_rows tree ≡ token → PerformsStep advanced old new →
-    Tabulates ts factor_events factor_rows c old new (Ok rest) (node constructs.Factor r ls)
+    AppendsEntries ts factor_events factor_rows c old new (Ok rest) (node constructs.Factor r ls)
 leaf_told ts c old new rest r ls ms tree e events effect h = record {
   out = construct constructs.Factor ms;
   is_read = rw e refl;
@@ -74,7 +74,7 @@ leaf_told ts c old new rest r ls ms tree e events effect h = record {
 
 -- a designator
 pub name_told : (ts : List Token) (c : Context) (r : Reader) (old new : TableBuilder) (result : Result Cursor Stop) (ls : List Leaf) →
-    Tabulates ts designator_events (designator_rows false) c old new result (r ls) → Tabulates ts factor_events factor_rows c old new result (node constructs.Factor r ls)
+    AppendsEntries ts designator_events (designator_rows false) c old new result (r ls) → AppendsEntries ts factor_events factor_rows c old new result (node constructs.Factor r ls)
 name_told ts c r old new result ls t =
     told_as ts (λ (x : Designator). construct constructs.Factor (designator_events x)) (λ x. after (designator_rows false x) c) factor_events (λ x. after (factor_rows x) c) (λ x. factors.Name x)
     (λ x. name_made x) (λ x s. ap (λ (p : Fragment). after p c s) (effect.name_made x)) old new result _
@@ -82,9 +82,9 @@ name_told ts c r old new result ls t =
 
 -- a set
 pub set_told : (ts : List Token) (c : Context) (r : Reader) (old mid last new : TableBuilder) (input here : Cursor) (result : Result Cursor Stop) →
-    PerformsStep advanced old mid → Tabulates ts set_events set_rows c mid last (Ok here) (r (remaining ts input)) →
-    TabulatesBy ts (λ (x : Unit {0}). word kinds.RightBrace) (λ x s. advanced s) last new result (expect_at kinds.RightBrace (remaining ts here)) →
-    Tabulates ts factor_events factor_rows c old new result (node constructs.Factor (prefixed (word kinds.LeftBrace) (seq r (expect_at kinds.RightBrace))) (remaining ts input))
+    PerformsStep advanced old mid → AppendsEntries ts set_events set_rows c mid last (Ok here) (r (remaining ts input)) →
+    AppendsEntriesBy ts (λ (x : Unit {0}). word kinds.RightBrace) (λ x s. advanced s) last new result (expect_at kinds.RightBrace (remaining ts here)) →
+    AppendsEntries ts factor_events factor_rows c old new result (node constructs.Factor (prefixed (word kinds.LeftBrace) (seq r (expect_at kinds.RightBrace))) (remaining ts input))
 set_told ts c r old mid last new input here result h a b =
     told_as ts (λ (x : Option (Box ElementList)). construct constructs.Factor (word kinds.LeftBrace ++ (set_events x ++ word kinds.RightBrace))) (λ x. after (both token (both (set_rows x) token)) c)
     factor_events (λ x. after (factor_rows x) c) (λ x. factors.Set x) (λ x. set_made x) (λ x s. ap (λ (p : Fragment). after p c s) (effect.set_made x)) old new result _
@@ -92,9 +92,9 @@ set_told ts c r old mid last new input here result h a b =
 
 -- an expression in parentheses
 pub group_told : (ts : List Token) (c : Context) (r : Reader) (old mid last new : TableBuilder) (input here : Cursor) (result : Result Cursor Stop) →
-    PerformsStep advanced old mid → Tabulates ts expr_events expr_rows c mid last (Ok here) (r (remaining ts input)) →
-    TabulatesBy ts (λ (x : Unit {0}). word kinds.RightParen) (λ x s. advanced s) last new result (expect_at kinds.RightParen (remaining ts here)) →
-    Tabulates ts factor_events factor_rows c old new result (node constructs.Factor (prefixed (word kinds.LeftParen) (seq r (expect_at kinds.RightParen))) (remaining ts input))
+    PerformsStep advanced old mid → AppendsEntries ts expr_events expr_rows c mid last (Ok here) (r (remaining ts input)) →
+    AppendsEntriesBy ts (λ (x : Unit {0}). word kinds.RightParen) (λ x s. advanced s) last new result (expect_at kinds.RightParen (remaining ts here)) →
+    AppendsEntries ts factor_events factor_rows c old new result (node constructs.Factor (prefixed (word kinds.LeftParen) (seq r (expect_at kinds.RightParen))) (remaining ts input))
 group_told ts c r old mid last new input here result h a b =
     told_as ts (λ (x : Expr). construct constructs.Factor (word kinds.LeftParen ++ (expr_events x ++ word kinds.RightParen))) (λ x. after (both token (both (expr_rows x) token)) c)
     factor_events (λ x. after (factor_rows x) c) (λ x. factors.Group (boxed old.uses.alloc x)) (λ x. group_made (boxed old.uses.alloc x)) (λ x s. ap (λ (p : Fragment). after p c s) (effect.group_made (boxed old.uses.alloc x))) old new result _
@@ -106,8 +106,8 @@ between_failed ts c ms r s e ls h = failed_node ts c (prefixed ms (seq r s)) e l
 
 -- `~` and a factor
 pub not_told : (ts : List Token) (c : Context) (d : ℕ) (old mid new : TableBuilder) (input : Cursor) (result : Result Cursor Stop) → (d ≡ 0 → ⊥) →
-    PerformsStep advanced old mid → Tabulates ts factor_events factor_rows c mid new result (factor_at (d - 1) (remaining ts input)) →
-    Tabulates ts factor_events factor_rows c old new result (node constructs.Factor (prefixed (word kinds.Tilde) (negated_at d)) (remaining ts input))
+    PerformsStep advanced old mid → AppendsEntries ts factor_events factor_rows c mid new result (factor_at (d - 1) (remaining ts input)) →
+    AppendsEntries ts factor_events factor_rows c old new result (node constructs.Factor (prefixed (word kinds.Tilde) (negated_at d)) (remaining ts input))
 unfolding negated_at
 not_told ts c zero old mid new input result h k t = absurd (h refl)
 not_told ts c (suc n) old mid new input result h k t =
@@ -119,7 +119,7 @@ not_told ts c (suc n) old mid new input result h k t =
     (told_prefixed ts _ _ (word kinds.Tilde) (negated_at (suc n)) old new result (remaining ts input)
     (told_behind ts (λ (x : Factor). construct constructs.Negated (factor_events x)) (λ x. after (factor_rows x) c) advanced old mid new result (negated_at (suc n) (remaining ts input)) k
     (told_node ts factor_events (λ x. after (factor_rows x) c) constructs.Negated (factor_at n) mid new result (remaining ts input)
-    (subst (λ (m : ℕ). Tabulates ts factor_events factor_rows c mid new result (factor_at m (remaining ts input))) e t)))))
+    (subst (λ (m : ℕ). AppendsEntries ts factor_events factor_rows c mid new result (factor_at m (remaining ts input))) e t)))))
 
 -- ---- elements
 
@@ -130,9 +130,9 @@ element_parts : (x : Expr × Option Expr) → element_rows (element_of x) ≡ bo
 element_parts x = effect.element_out (element_of x) ∙ ap (λ y. both (expr_rows y.low) (high_rows y.high)) (out-roll-Element (record { low = x.0; high = x.1 }))
 
 pub element_told : (ts : List Token) (c : Context) (d : ℕ) (old mid new : TableBuilder) (input here : Cursor) (result : Result Cursor Stop) →
-    Tabulates ts expr_events expr_rows c old mid (Ok here) (expr_at d (remaining ts input)) →
-    Tabulates ts high_events high_rows c mid new result (optional (accept_at kinds.DotDot) (expr_at d) (remaining ts here)) →
-    Tabulates ts element_events element_rows c old new result (element_with (expr_at d) (remaining ts input))
+    AppendsEntries ts expr_events expr_rows c old mid (Ok here) (expr_at d (remaining ts input)) →
+    AppendsEntries ts high_events high_rows c mid new result (optional (accept_at kinds.DotDot) (expr_at d) (remaining ts here)) →
+    AppendsEntries ts element_events element_rows c old new result (element_with (expr_at d) (remaining ts input))
 unfolding element_with
 element_told ts c d old mid new input here result a b =
     told_as ts (λ (x : Expr × Option Expr). construct constructs.Element (expr_events x.0 ++ high_events x.1)) (λ x s. after (high_rows x.1) c (after (expr_rows x.0) c s))
@@ -151,9 +151,9 @@ element_list_parts : (x : Element × Vec Element) → element_list_rows (element
 element_list_parts x = effect.element_list_out (element_list_of x) ∙ ap (λ y. both (element_rows y.first) (elements_rows y.rest)) (out-roll-ElementList (record { first = x.0; rest = x.1 }))
 
 pub element_list_told : (ts : List Token) (c : Context) (r : Reader) (old mid new : TableBuilder) (input here : Cursor) (result : Result Cursor Stop) →
-    Tabulates ts element_events element_rows c old mid (Ok here) (r (remaining ts input)) →
-    Tabulates ts elements_events elements_rows c mid new result (many (accept_at kinds.Comma) r (remaining ts here)) →
-    Tabulates ts element_list_events element_list_rows c old new result (several kinds.Comma r (remaining ts input))
+    AppendsEntries ts element_events element_rows c old mid (Ok here) (r (remaining ts input)) →
+    AppendsEntries ts elements_events elements_rows c mid new result (many (accept_at kinds.Comma) r (remaining ts here)) →
+    AppendsEntries ts element_list_events element_list_rows c old new result (several kinds.Comma r (remaining ts input))
 unfolding several
 element_list_told ts c r old mid new input here result a b =
     told_as ts (λ (x : Element × Vec Element). element_events x.0 ++ elements_events x.1) (λ x s. after (elements_rows x.1) c (after (element_rows x.0) c s))
@@ -172,8 +172,8 @@ unfolding unless
 closed k ls e = rw e refl
 
 pub some_elements_told : (ts : List Token) (c : Context) (r : Reader) (old new : TableBuilder) (input : Cursor) (result : Result Cursor Stop) →
-    unless kinds.RightBrace (remaining ts input) ≡ Some ([], remaining ts input) → Tabulates ts element_list_events element_list_rows c old new result (r (remaining ts input)) →
-    Tabulates ts set_events set_rows c old new result (optional (unless kinds.RightBrace) r (remaining ts input))
+    unless kinds.RightBrace (remaining ts input) ≡ Some ([], remaining ts input) → AppendsEntries ts element_list_events element_list_rows c old new result (r (remaining ts input)) →
+    AppendsEntries ts set_events set_rows c old new result (optional (unless kinds.RightBrace) r (remaining ts input))
 some_elements_told ts c r old new input result found t =
     told_as ts (λ (x : ElementList). [] ++ element_list_events x) (λ x. after (element_list_rows x) c) set_events (λ x. after (set_rows x) c)
     (λ x. Some (boxed old.uses.alloc x)) (λ x. refl) (λ x s. refl) old new result (optional (unless kinds.RightBrace) r (remaining ts input))
@@ -181,8 +181,8 @@ some_elements_told ts c r old new input result found t =
 
 -- the end of a range
 pub high_told : (ts : List Token) (c : Context) (d : ℕ) (old mid new : TableBuilder) (input rest : Cursor) (result : Result Cursor Stop) →
-    accept_at kinds.DotDot (remaining ts input) ≡ Some (word kinds.DotDot, remaining ts rest) → PerformsStep advanced old mid → Tabulates ts expr_events expr_rows c mid new result (expr_at d (remaining ts rest)) →
-    Tabulates ts high_events high_rows c old new result (optional (accept_at kinds.DotDot) (expr_at d) (remaining ts input))
+    accept_at kinds.DotDot (remaining ts input) ≡ Some (word kinds.DotDot, remaining ts rest) → PerformsStep advanced old mid → AppendsEntries ts expr_events expr_rows c mid new result (expr_at d (remaining ts rest)) →
+    AppendsEntries ts high_events high_rows c old new result (optional (accept_at kinds.DotDot) (expr_at d) (remaining ts input))
 high_told ts c d old mid new input rest result found h t =
     told_as ts (λ (x : Expr). word kinds.DotDot ++ expr_events x) (λ x s. after (expr_rows x) c (advanced s)) high_events (λ x. after (high_rows x) c)
     (λ x. Some x) (λ x. refl) (λ x s. word_after (expr_rows x) c s) old new result (optional (accept_at kinds.DotDot) (expr_at d) (remaining ts input))

@@ -24,12 +24,12 @@ use Rattle.ob_grammar.specs.declared.cursor.Cursor.{Cursor}
 use Rattle.ob_grammar.specs.declared.stop.Stop.{Stop}
 use Rattle.ob_grammar.specs.declared.stop.Stop.TheVariants as stops
 use Rattle.ob_grammar.specs.Combinators.{Read, several, optional, many, accept_at, name_at, identifier_at}
-use Rattle.ob_grammar.specs.AgreesWith.{remaining, Fails}
+use Rattle.ob_grammar.specs.ParsesAs.{remaining, Fails}
 use Rattle.ob_grammar.specs.ReadNames.{qualident_after}
 use Rattle.ob_grammar.specs.Lookahead.{uncons}
 use Rattle.ob_grammar.specs.ReadStatements.{case_label_at, label_from, label_range_at}
 use Rattle.table_reader.specs.StatementShapes.{high_label_events, high_label_rows, ranges_events, ranges_rows, labels_events, labels_rows, then_events, then_rows}
-use Rattle.table_reader.specs.Tabulating.{IsTabulated, Tabulates}
+use Rattle.table_reader.specs.Tabulating.{HasAppendedEntries, AppendsEntries}
 use Rattle.table_reader.proofs.Combine.{failed_then}
 use Rattle.table_reader.proofs.Parts.{made_told, told_both}
 
@@ -51,7 +51,7 @@ dotted_after n m c s =
     ∙ after_token c (after token c (after (uses (Some m)) c s)) ∙ ap advanced (after_token c (after (uses (Some m)) c s))
 
 pub lone_told : (ts : List Token) (c : Context) (n : ℕ) (old new : TableBuilder) (input : Cursor) → accept_at kinds.Dot (remaining ts input) ≡ None → PerformsStep (after (uses None) c) old new →
-    IsTabulated ts qualident_events (λ x. after (qualident_rows x) c) old new input (qualident_after n (remaining ts input))
+    HasAppendedEntries ts qualident_events (λ x. after (qualident_rows x) c) old new input (qualident_after n (remaining ts input))
 unfolding qualident_after
 lone_told ts c n old new input e h = record {
   out = used n ++ [];
@@ -61,7 +61,7 @@ lone_told ts c n old new input e h = record {
 
 pub dotted_told : (ts : List Token) (c : Context) (n m : ℕ) (old first mid new : TableBuilder) (input here rest : Cursor) → accept_at kinds.Dot (remaining ts input) ≡ Some (word kinds.Dot, remaining ts here) →
     identifier_at (remaining ts here) ≡ Ok (m, remaining ts rest) → PerformsStep (after (uses (Some 0)) c) old first → PerformsStep advanced first mid → PerformsStep advanced mid new →
-    IsTabulated ts qualident_events (λ x. after (qualident_rows x) c) old new rest (qualident_after n (remaining ts input))
+    HasAppendedEntries ts qualident_events (λ x. after (qualident_rows x) c) old new rest (qualident_after n (remaining ts input))
 unfolding qualident_after name_at
 dotted_told ts c n m old first mid new input here rest e f h k l = record {
   out = used n ++ (word kinds.Dot ++ completed m);
@@ -90,7 +90,7 @@ label_seen ls o e = ap label_from e
 -- one token
 pub value_told : (ts : List Token) (c : Context) (old new : TableBuilder) (rest : Cursor) (read : Read) (ms : Events) (tree : Label) →
     read ≡ Ok (ms, remaining ts rest) → label_events tree ≡ ms → label_rows tree ≡ token → PerformsStep advanced old new →
-    IsTabulated ts label_events (λ x. after (label_rows x) c) old new rest read
+    HasAppendedEntries ts label_events (λ x. after (label_rows x) c) old new rest read
 value_told ts c old new rest read ms tree e events effect h = record {
   out = ms;
   is_read = e;
@@ -98,16 +98,16 @@ value_told ts c old new rest read ms tree e events effect h = record {
 }
 
 pub name_told : (ts : List Token) (c : Context) (old new : TableBuilder) (result : Result Cursor Stop) (read all_tokens : Read) → all_tokens ≡ read →
-    Tabulates ts qualident_events qualident_rows c old new result read → Tabulates ts label_events label_rows c old new result all_tokens
+    AppendsEntries ts qualident_events qualident_rows c old new result read → AppendsEntries ts label_events label_rows c old new result all_tokens
 name_told ts c old new result read all_tokens e t =
     rw e (made_told ts c qualident_events qualident_rows label_events label_rows (λ x. labels.Name x) old new result read (λ x. events.name_label x) (λ x. effect.name_label x) t)
 
 -- ---- LabelRange = label [".." label]
 
 pub range_told : (ts : List Token) (c : Context) (old mid new : TableBuilder) (input here : Cursor) (result : Result Cursor Stop) →
-    Tabulates ts label_events label_rows c old mid (Ok here) (case_label_at (remaining ts input)) →
-    Tabulates ts high_label_events high_label_rows c mid new result (optional (accept_at kinds.DotDot) case_label_at (remaining ts here)) →
-    Tabulates ts label_range_events label_range_rows c old new result (label_range_at (remaining ts input))
+    AppendsEntries ts label_events label_rows c old mid (Ok here) (case_label_at (remaining ts input)) →
+    AppendsEntries ts high_label_events high_label_rows c mid new result (optional (accept_at kinds.DotDot) case_label_at (remaining ts here)) →
+    AppendsEntries ts label_range_events label_range_rows c old new result (label_range_at (remaining ts input))
 unfolding label_range_at
 range_told ts c old mid new input here result a b =
     made_told ts c (then_events label_events high_label_events) (then_rows label_rows high_label_rows) label_range_events label_range_rows (λ x. record { low = x.0; high = x.1 }) old new result _
@@ -121,9 +121,9 @@ range_failed ts e ls h = failed_then ts case_label_at (optional (accept_at kinds
 -- ---- one range or more
 
 pub ranges_told : (ts : List Token) (c : Context) (old mid new : TableBuilder) (input here : Cursor) (result : Result Cursor Stop) →
-    Tabulates ts label_range_events label_range_rows c old mid (Ok here) (label_range_at (remaining ts input)) →
-    Tabulates ts ranges_events ranges_rows c mid new result (many (accept_at kinds.Comma) label_range_at (remaining ts here)) →
-    Tabulates ts labels_events labels_rows c old new result (several kinds.Comma label_range_at (remaining ts input))
+    AppendsEntries ts label_range_events label_range_rows c old mid (Ok here) (label_range_at (remaining ts input)) →
+    AppendsEntries ts ranges_events ranges_rows c mid new result (many (accept_at kinds.Comma) label_range_at (remaining ts here)) →
+    AppendsEntries ts labels_events labels_rows c old new result (several kinds.Comma label_range_at (remaining ts input))
 unfolding several
 ranges_told ts c old mid new input here result a b =
     made_told ts c (then_events label_range_events ranges_events) (then_rows label_range_rows ranges_rows) labels_events labels_rows (λ x. record { first = x.0; rest = x.1 }) old new result _

@@ -7,7 +7,7 @@ use Rattle.ob_tree.proofs.Eaches.{each_push}
 use Rattle.ob_grammar.specs.declared.cursor.Cursor.{Cursor}
 use Rattle.ob_grammar.specs.declared.stop.Stop.{Stop}
 use Rattle.ob_grammar.specs.Combinators.{Read, Reader, Start, many}
-use Rattle.ob_grammar.specs.AgreesWith.{Fails, remaining}
+use Rattle.ob_grammar.specs.ParsesAs.{Fails, remaining}
 use Rattle.ob_grammar.proofs.Arrays.{few_ahead}
 use Rattle.ob_grammar.proofs.Loops.{Advances, with_front, goes_on, is_done, marked_some, marked_none}
 use Rattle.ob_grammar.proofs.LoopEnds.{ends}
@@ -18,7 +18,7 @@ use Rattle.module_table.specs.Parts.{Fragment, token, both}
 use Rattle.module_table.specs.Parts.{each as pieces}
 use Rattle.module_table.specs.TableStages.{Stage, stage_of, after, advanced, PerformsStep}
 use Rattle.module_table.proofs.Steps.{after_both, after_each, after_nothing, after_token}
-use Rattle.table_reader.specs.Tabulating.{TabulatesBy, Tabulates}
+use Rattle.table_reader.specs.Tabulating.{AppendsEntriesBy, AppendsEntries}
 use Rattle.table_reader.proofs.Combine.{told_as, told_behind}
 use Rattle.table_reader.proofs.Made.{list_phrase}
 
@@ -64,7 +64,7 @@ module _ {X : Type 0} (ts : List Token) (start : Start) (r : Reader) (f : X → 
   pub listing_more : {A : Type 0} (So Still : List X → Type 0) (g : A → Events) (q : A → Stage → Stage) (make : A → X) (ms : Events) → Advances start r → ((a : A) → f (make a) ≡ ms ++ g a) →
       (old now new : TableBuilder) (input here following next : Cursor) → (new.failed ≡ false → (xs : List X) (a : A) → So xs → Still (xs ++ make a ∷ []) × ((s : Stage) → step (xs ++ make a ∷ []) s ≡ q a (step xs s))) →
       start (remaining ts here) ≡ Some (ms, remaining ts following) → Listing ts start r f step So old now input here →
-      TabulatesBy ts g q now new (Ok next) (r (remaining ts following)) → Listing ts start r f step Still old new input next
+      AppendsEntriesBy ts g q now new (Ok next) (r (remaining ts following)) → Listing ts start r f step Still old new input next
   listing_more So Still g q make ms adv events old now new input here following next grows found l t = record {
     head_is = l.head_is ++ (ms ++ t.out);
     is_read = goes_on start r adv l.head_is (remaining ts here) (ms, remaining ts following) (t.out, remaining ts next) (many start r (remaining ts input)) found t.is_read l.is_read;
@@ -111,7 +111,7 @@ module _ {X : Type 0} (ts : List Token) (start : Start) (r : Reader) (f : X → 
 
   -- after the last iteration
   pub listing_done : (So : List X → Type 0) → Advances start r → (old now : TableBuilder) (input here : Cursor) → start (remaining ts here) ≡ None → Listing ts start r f step So old now input here →
-      TabulatesBy ts (λ (v : Gathered So). each f v.list.items) (λ v. step v.list.items) old now (Ok here) (many start r (remaining ts input))
+      AppendsEntriesBy ts (λ (v : Gathered So). each f v.list.items) (λ v. step v.list.items) old now (Ok here) (many start r (remaining ts input))
   listing_done So adv old now input here none l = record {
     out = l.head_is;
     is_read = is_done start r adv l.head_is (remaining ts here) (many start r (remaining ts input)) none l.is_read;
@@ -127,7 +127,7 @@ module _ {X : Type 0} (ts : List Token) (start : Start) (r : Reader) (f : X → 
 
 -- an iteration takes tokens
 pub listing_smaller : {A : Type 0} (ts : List Token) (start : Start) (r : Reader) (g : A → Events) (q : A → Stage → Stage) (ms : Events) → Advances start r → (now new : TableBuilder) (here following next : Cursor) →
-    start (remaining ts here) ≡ Some (ms, remaining ts following) → TabulatesBy ts g q now new (Ok next) (r (remaining ts following)) → length (remaining ts next) < length (remaining ts here)
+    start (remaining ts here) ≡ Some (ms, remaining ts following) → AppendsEntriesBy ts g q now new (Ok next) (r (remaining ts following)) → length (remaining ts next) < length (remaining ts here)
 listing_smaller ts start r g q ms adv now new here following next found t = adv.shorter (remaining ts here) (ms, remaining ts following) (t.out, remaining ts next) found t.is_read
 
 ---- lists without a further property
@@ -145,7 +145,7 @@ module _ {X : Type 0} (ts : List Token) (start : Start) (r : Reader) (f : X → 
   pub pieces_more : {A : Type 0} (g : A → Events) (q : A → Stage → Stage) (make : A → X) (ms : Events) → Advances start r →
       ((a : A) → f (make a) ≡ ms ++ g a) → ((a : A) (s : Stage) → after (p (make a)) c s ≡ q a s) →
       (old now new : TableBuilder) (input here following next : Cursor) → start (remaining ts here) ≡ Some (ms, remaining ts following) → PieceListing ts start r f p c old now input here →
-      TabulatesBy ts g q now new (Ok next) (r (remaining ts following)) → PieceListing ts start r f p c old new input next
+      AppendsEntriesBy ts g q now new (Ok next) (r (remaining ts following)) → PieceListing ts start r f p c old new input next
   pieces_more g q make ms adv events stepped old now new input here following next found l t =
       listing_more ts start r f (λ xs. after (pieces p xs) c) Any Any g q make ms adv events old now new input here following next
       (λ e xs a so. (tt, λ s. after_each p xs (make a) c s ∙ stepped a (after (pieces p xs) c s))) found l t
@@ -154,13 +154,13 @@ module _ {X : Type 0} (ts : List Token) (start : Start) (r : Reader) (f : X → 
   pub pieces_behind : {A : Type 0} (g : A → Events) (q : A → Fragment) (make : A → X) (ms : Events) → Advances start r →
       ((a : A) → f (make a) ≡ ms ++ g a) → ((a : A) → p (make a) ≡ both token (q a)) →
       (old now mid new : TableBuilder) (input here following next : Cursor) → start (remaining ts here) ≡ Some (ms, remaining ts following) → PieceListing ts start r f p c old now input here →
-      PerformsStep advanced now mid → Tabulates ts g q c mid new (Ok next) (r (remaining ts following)) → PieceListing ts start r f p c old new input next
+      PerformsStep advanced now mid → AppendsEntries ts g q c mid new (Ok next) (r (remaining ts following)) → PieceListing ts start r f p c old new input next
   pieces_behind g q make ms adv events stepped old now mid new input here following next found l h t =
       pieces_more g (λ a s. after (q a) c (advanced s)) make ms adv events (λ a s. ap (λ (x : Fragment). after x c s) (stepped a) ∙ word_after (q a) c s) old now new input here following next found l
       (told_behind ts g (λ a. after (q a) c) advanced now mid new (Ok next) (r (remaining ts following)) h t)
 
   pub pieces_done : Advances start r → (old now : TableBuilder) (input here : Cursor) → start (remaining ts here) ≡ None → PieceListing ts start r f p c old now input here →
-      TabulatesBy ts (λ (v : Vec X). each f v.items) (λ v. after (pieces p v.items) c) old now (Ok here) (many start r (remaining ts input))
+      AppendsEntriesBy ts (λ (v : Vec X). each f v.items) (λ v. after (pieces p v.items) c) old now (Ok here) (many start r (remaining ts input))
   pieces_done adv old now input here none l =
       told_as ts (λ (v : Gathered {X = X} Any). each f v.list.items) (λ v. after (pieces p v.list.items) c) (λ v. each f v.items) (λ v. after (pieces p v.items) c) (λ v. v.list) (λ v. refl) (λ v s. refl)
       old now (Ok here) _ (listing_done ts start r f (λ xs. after (pieces p xs) c) Any adv old now input here none l)
@@ -179,17 +179,17 @@ module _ {X : Type 0} (ts : List Token) (r : Repetition X) (p : X → Fragment) 
   repeat_begun d input = pieces_begun ts r.start r.read (λ x. r.marks ++ r.shown x) p c d input
 
   -- an iteration takes tokens
-  pub repeat_shorter : (now new : TableBuilder) (here following next : Cursor) → r.start (remaining ts here) ≡ Some (r.marks, remaining ts following) → Tabulates ts r.shown p c now new (Ok next) (r.read (remaining ts following)) →
+  pub repeat_shorter : (now new : TableBuilder) (here following next : Cursor) → r.start (remaining ts here) ≡ Some (r.marks, remaining ts following) → AppendsEntries ts r.shown p c now new (Ok next) (r.read (remaining ts following)) →
       length (remaining ts next) < length (remaining ts here)
   repeat_shorter now new here following next found t = listing_smaller ts r.start r.read r.shown (λ x. after (p x) c) r.marks r.advances now new here following next found t
 
   pub repeat_more : (old now new : TableBuilder) (input here following next : Cursor) → r.start (remaining ts here) ≡ Some (r.marks, remaining ts following) → RepeatListing ts r p c old now input here →
-      Tabulates ts r.shown p c now new (Ok next) (r.read (remaining ts following)) → RepeatListing ts r p c old new input next
+      AppendsEntries ts r.shown p c now new (Ok next) (r.read (remaining ts following)) → RepeatListing ts r p c old new input next
   repeat_more old now new input here following next found l t =
       pieces_more ts r.start r.read (λ x. r.marks ++ r.shown x) p c r.shown (λ x. after (p x) c) (λ x. x) r.marks r.advances (λ x. refl) (λ x s. refl) old now new input here following next found l t
 
   pub repeat_behind : (old now mid new : TableBuilder) (input here following next : Cursor) → r.start (remaining ts here) ≡ Some (r.marks, remaining ts following) → RepeatListing ts r (behind_token p) c old now input here →
-      PerformsStep advanced now mid → Tabulates ts r.shown p c mid new (Ok next) (r.read (remaining ts following)) → RepeatListing ts r (behind_token p) c old new input next
+      PerformsStep advanced now mid → AppendsEntries ts r.shown p c mid new (Ok next) (r.read (remaining ts following)) → RepeatListing ts r (behind_token p) c old new input next
   repeat_behind old now mid new input here following next found l h t =
       pieces_behind ts r.start r.read (λ x. r.marks ++ r.shown x) (behind_token p) c r.shown p (λ x. x) r.marks r.advances (λ x. refl) (λ x. refl) old now mid new input here following next found l h t
 
@@ -199,7 +199,7 @@ module _ {X : Type 0} (ts : List Token) (r : Repetition X) (p : X → Fragment) 
   repeat_failed e old now input here following found l h = listing_failed ts r.start r.read (λ x. r.marks ++ r.shown x) (λ xs. after (pieces p xs) c) Any e r.marks r.advances old now input here following found l h
 
   pub repeat_done : (old now : TableBuilder) (input here : Cursor) → r.start (remaining ts here) ≡ None → RepeatListing ts r p c old now input here →
-      TabulatesBy ts (λ (v : Vec X). each (λ x. r.marks ++ r.shown x) v.items) (λ v. after (pieces p v.items) c) old now (Ok here) (many r.start r.read (remaining ts input))
+      AppendsEntriesBy ts (λ (v : Vec X). each (λ x. r.marks ++ r.shown x) v.items) (λ v. after (pieces p v.items) c) old now (Ok here) (many r.start r.read (remaining ts input))
   repeat_done old now input here none l = pieces_done ts r.start r.read (λ x. r.marks ++ r.shown x) p c r.advances old now input here none l
 
 ---- operators, and the operand after each
@@ -211,13 +211,13 @@ module _ {Op X : Type 0} (ts : List Token) (o : Operation Op X) (p : X → Fragm
   pub operations_begun : (d : TableBuilder) (input : Cursor) → OperationListing ts o p c d d input input
   operations_begun d input = pieces_begun ts (operation_start o) o.read (operation_shown o) (λ x. both token (p x.1)) c d input
 
-  pub operation_shorter : (op : Op) (now new : TableBuilder) (here following next : Cursor) → Some (op, remaining ts following) ≡ o.at (remaining ts here) → Tabulates ts o.shown p c now new (Ok next) (o.read (remaining ts following)) →
+  pub operation_shorter : (op : Op) (now new : TableBuilder) (here following next : Cursor) → Some (op, remaining ts following) ≡ o.at (remaining ts here) → AppendsEntries ts o.shown p c now new (Ok next) (o.read (remaining ts following)) →
       length (remaining ts next) < length (remaining ts here)
   operation_shorter op now new here following next found t =
       listing_smaller ts (operation_start o) o.read o.shown (λ x. after (p x) c) (word (o.kind op)) o.advances now new here following next (marked_some o.kind op (remaining ts following) _ found) t
 
   pub operation_told : (op : Op) (old now mid new : TableBuilder) (input here following next : Cursor) → Some (op, remaining ts following) ≡ o.at (remaining ts here) → OperationListing ts o p c old now input here →
-      PerformsStep advanced now mid → Tabulates ts o.shown p c mid new (Ok next) (o.read (remaining ts following)) → OperationListing ts o p c old new input next
+      PerformsStep advanced now mid → AppendsEntries ts o.shown p c mid new (Ok next) (o.read (remaining ts following)) → OperationListing ts o p c old new input next
   operation_told op old now mid new input here following next found l h t =
       pieces_behind ts (operation_start o) o.read (operation_shown o) (λ x. both token (p x.1)) c o.shown p (λ x. (op, x)) (word (o.kind op)) o.advances (λ x. refl) (λ x. refl) old now mid new input here following next (marked_some o.kind op (remaining ts following) _ found) l h t
 
@@ -227,6 +227,6 @@ module _ {Op X : Type 0} (ts : List Token) (o : Operation Op X) (p : X → Fragm
       listing_failed ts (operation_start o) o.read (operation_shown o) (λ xs. after (pieces (λ x. both token (p x.1)) xs) c) Any e (word (o.kind op)) o.advances old now input here following (marked_some o.kind op (remaining ts following) _ found) l h
 
   pub operations_done : (old now : TableBuilder) (input here : Cursor) → None ≡ o.at (remaining ts here) → OperationListing ts o p c old now input here →
-      TabulatesBy ts (λ (v : Vec (Op × X)). each (operation_shown o) v.items) (λ v. after (pieces (λ x. both token (p x.1)) v.items) c) old now (Ok here) (many (operation_start o) o.read (remaining ts input))
+      AppendsEntriesBy ts (λ (v : Vec (Op × X)). each (operation_shown o) v.items) (λ v. after (pieces (λ x. both token (p x.1)) v.items) c) old now (Ok here) (many (operation_start o) o.read (remaining ts input))
   operations_done old now input here none l =
       pieces_done ts (operation_start o) o.read (operation_shown o) (λ x. both token (p x.1)) c o.advances old now input here (marked_none o.kind _ none) l

@@ -25,22 +25,22 @@ use Rattle.ob_grammar.specs.declared.stop.Stop.{Stop}
 use Rattle.ob_grammar.specs.declared.stop.Stop.TheVariants as stops
 use Rattle.ob_grammar.specs.Lookahead.{uncons}
 use Rattle.ob_grammar.specs.Combinators.{Unexpected, Read, Reader, ◌>>=◌, seq, several, prefixed, accept_at, expect_at, identifier_at, name_at}
-use Rattle.ob_grammar.specs.AgreesWith.{Fails, remaining}
+use Rattle.ob_grammar.specs.ParsesAs.{Fails, remaining}
 use Rattle.ob_grammar.specs.ReadStatements.{block_at}
 use Rattle.ob_grammar.specs.ReadModules.{import_item_at, imports_at, with_semicolon, declarations_at, body_with, module_after_name, name_then, module_at, nothing_left, read_all}
 use Rattle.table_reader.specs.DeclarationShapes.{body_events, body_rows, ModuleParts, module_parts_events, parts_step, ModuleEnd, module_end_events, end_step, ModuleRest, imports_events, module_rest_events, module_rest_step, ended_events, ended_rows}
 use Rattle.table_reader.specs.TypeShapes.{list_rows}
-use Rattle.table_reader.specs.Tabulating.{IsTabulated, Tabulates, TabulatesBy, IsTabulatedModule}
+use Rattle.table_reader.specs.Tabulating.{HasAppendedEntries, AppendsEntries, AppendsEntriesBy, HasAppendedModuleEntries}
 use Rattle.table_reader.proofs.Combine.{told_as, told_node, told_then, told_prefixed, told_behind, failed_node, failed_then}
 use Rattle.table_reader.proofs.Following.{regrouped, word_there_told}
 use Rattle.table_reader.proofs.Lists.{word_after}
 use Rattle.table_reader.proofs.SectionTrees.{failed_behind}
 
 pub end_told : (ts : List Token) (name : ℕ) (c : Context) (old first second new : TableBuilder) (input a b : Cursor) (result : Result Cursor Stop) →
-    TabulatesBy ts (λ (u : Unit {0}). word kinds.End) (λ u s. advanced s) old first (Ok a) (expect_at kinds.End (remaining ts input)) →
-    TabulatesBy ts (repeated name) (λ x s. after (with_rows module_end token) c s) first second (Ok b) (name_at (repeated name) (remaining ts a)) →
-    TabulatesBy ts (λ (u : Unit {0}). word kinds.Dot) (λ u s. advanced s) second new result (expect_at kinds.Dot (remaining ts b)) →
-    TabulatesBy ts (module_end_events name) (end_step c) old new result (seq (expect_at kinds.End) (seq (name_at (repeated name)) (expect_at kinds.Dot)) (remaining ts input))
+    AppendsEntriesBy ts (λ (u : Unit {0}). word kinds.End) (λ u s. advanced s) old first (Ok a) (expect_at kinds.End (remaining ts input)) →
+    AppendsEntriesBy ts (repeated name) (λ x s. after (with_rows module_end token) c s) first second (Ok b) (name_at (repeated name) (remaining ts a)) →
+    AppendsEntriesBy ts (λ (u : Unit {0}). word kinds.Dot) (λ u s. advanced s) second new result (expect_at kinds.Dot (remaining ts b)) →
+    AppendsEntriesBy ts (module_end_events name) (end_step c) old new result (seq (expect_at kinds.End) (seq (name_at (repeated name)) (expect_at kinds.Dot)) (remaining ts input))
 end_told ts name c old first second new input a b result t u v =
     told_then ts (λ (u : Unit {0}). word kinds.End) (λ u s. advanced s) (λ (x : ℕ × Unit {0}). repeated name x.0 ++ word kinds.Dot) (λ x s. advanced (after (with_rows module_end token) c s))
     (expect_at kinds.End) (seq (name_at (repeated name)) (expect_at kinds.Dot)) old first new a result (remaining ts input) t
@@ -48,10 +48,10 @@ end_told ts name c old first second new input a b result t u v =
     (name_at (repeated name)) (expect_at kinds.Dot) first second new b result (remaining ts a) u v)
 
 pub parts_told : (ts : List Token) (name d : ℕ) (c : Context) (old first second new : TableBuilder) (input a b : Cursor) (result : Result Cursor Stop) →
-    Tabulates ts (λ x. declarations_events x) (λ x. declarations_rows x) c old first (Ok a) (declarations_at d (remaining ts input)) →
-    Tabulates ts body_events body_rows c first second (Ok b) (body_with (block_at d) (remaining ts a)) →
-    TabulatesBy ts (module_end_events name) (end_step c) second new result (seq (expect_at kinds.End) (seq (name_at (repeated name)) (expect_at kinds.Dot)) (remaining ts b)) →
-    TabulatesBy ts (module_parts_events name) (parts_step c) old new result
+    AppendsEntries ts (λ x. declarations_events x) (λ x. declarations_rows x) c old first (Ok a) (declarations_at d (remaining ts input)) →
+    AppendsEntries ts body_events body_rows c first second (Ok b) (body_with (block_at d) (remaining ts a)) →
+    AppendsEntriesBy ts (module_end_events name) (end_step c) second new result (seq (expect_at kinds.End) (seq (name_at (repeated name)) (expect_at kinds.Dot)) (remaining ts b)) →
+    AppendsEntriesBy ts (module_parts_events name) (parts_step c) old new result
     (seq (declarations_at d) (seq (body_with (block_at d)) (seq (expect_at kinds.End) (seq (name_at (repeated name)) (expect_at kinds.Dot)))) (remaining ts input))
 parts_told ts name d c old first second new input a b result t u v =
     told_then ts (λ (x : Declarations). declarations_events x) (λ x. after (declarations_rows x) c)
@@ -71,8 +71,8 @@ imports_after (Some l) c s =
 
 pub imports_told : (ts : List Token) (c : Context) (old mid new : TableBuilder) (input rest : Cursor) (result : Result Cursor Stop) →
     accept_at kinds.Import (remaining ts input) ≡ Some (word kinds.Import, remaining ts rest) → PerformsStep advanced old mid →
-    Tabulates ts (ended_events (separated kinds.Comma import_events)) (ended_rows (list_rows import_rows)) c mid new result (with_semicolon (several kinds.Comma import_item_at) (remaining ts rest)) →
-    Tabulates ts imports_events (if_present imports_rows) c old new result (imports_at (remaining ts input))
+    AppendsEntries ts (ended_events (separated kinds.Comma import_events)) (ended_rows (list_rows import_rows)) c mid new result (with_semicolon (several kinds.Comma import_item_at) (remaining ts rest)) →
+    AppendsEntries ts imports_events (if_present imports_rows) c old new result (imports_at (remaining ts input))
 unfolding imports_at
 imports_told ts c old mid new input rest result found h t =
     let f : OneOrMore ImportItem → Events = ended_events (separated kinds.Comma import_events) in
@@ -86,11 +86,11 @@ abbrev module_made : ℕ → ModuleRest → Module
 module_made n x = record { name = n; imports = x.1.0; declarations = x.1.1.0; body = x.1.1.1.0; end_name = x.1.1.1.1.1.0 }
 
 pub behind_name_told : (ts : List Token) (n d : ℕ) (c : Context) (old first second new : TableBuilder) (input a b : Cursor) (result : Result Cursor Stop) →
-    TabulatesBy ts (λ (u : Unit {0}). word kinds.Semicolon) (λ u s. advanced s) old first (Ok a) (expect_at kinds.Semicolon (remaining ts input)) →
-    Tabulates ts imports_events (if_present imports_rows) c first second (Ok b) (imports_at (remaining ts a)) →
-    TabulatesBy ts (module_parts_events n) (parts_step c) second new result
+    AppendsEntriesBy ts (λ (u : Unit {0}). word kinds.Semicolon) (λ u s. advanced s) old first (Ok a) (expect_at kinds.Semicolon (remaining ts input)) →
+    AppendsEntries ts imports_events (if_present imports_rows) c first second (Ok b) (imports_at (remaining ts a)) →
+    AppendsEntriesBy ts (module_parts_events n) (parts_step c) second new result
     (seq (declarations_at d) (seq (body_with (block_at d)) (seq (expect_at kinds.End) (seq (name_at (repeated n)) (expect_at kinds.Dot)))) (remaining ts b)) →
-    TabulatesBy ts (module_rest_events n) (module_rest_step c) old new result (module_after_name d n (remaining ts input))
+    AppendsEntriesBy ts (module_rest_events n) (module_rest_step c) old new result (module_after_name d n (remaining ts input))
 unfolding module_after_name
 behind_name_told ts n d c old first second new input a b result t u v =
     let inner : Reader = seq (declarations_at d) (seq (body_with (block_at d)) (seq (expect_at kinds.End) (seq (name_at (repeated n)) (expect_at kinds.Dot)))) in
@@ -106,10 +106,10 @@ module_step : (m : Module) (c : Context) (s : Stage) → after (module_rows m) c
 module_step m c s = effect.module_after m c s
 
 pub module_told : (ts : List Token) (n d : ℕ) (c : Context) (old first second new : TableBuilder) (input here rest : Cursor) (result : Result Cursor Stop) →
-    TabulatesBy ts (λ (u : Unit {0}). word kinds.Module) (λ u s. advanced s) old first (Ok here) (expect_at kinds.Module (remaining ts input)) →
+    AppendsEntriesBy ts (λ (u : Unit {0}). word kinds.Module) (λ u s. advanced s) old first (Ok here) (expect_at kinds.Module (remaining ts input)) →
     identifier_at (remaining ts here) ≡ Ok (n, remaining ts rest) → PerformsStep advanced first second →
-    TabulatesBy ts (module_rest_events n) (module_rest_step c) second new result (module_after_name d n (remaining ts rest)) →
-    Tabulates ts module_events module_rows c old new result (module_at d (remaining ts input))
+    AppendsEntriesBy ts (module_rest_events n) (module_rest_step c) second new result (module_after_name d n (remaining ts rest)) →
+    AppendsEntries ts module_events module_rows c old new result (module_at d (remaining ts input))
 unfolding module_at
 module_told ts n d c old first second new input here rest result t e h u =
     told_as ts (λ (x : Unit {0} × ModuleRest). construct constructs.Module (word kinds.Module ++ (named n ++ module_rest_events n x.1))) (λ x s. module_rest_step c x.1 (advanced (advanced s)))
@@ -126,7 +126,7 @@ module_told ts n d c old first second new input here rest result t e h u =
 left_none : (o : Events) (left : Option (Leaf × List Leaf)) → left ≡ None → nothing_left o left ≡ Ok o
 left_none o left e = rw e refl
 
-pub whole_told : {T : Type 0} (ts : List Token) (f : T → Events) (p : T → Stage → Stage) (d : ℕ) (old new : TableBuilder) (rest : Cursor) (ls : List Leaf) → IsTabulated ts f p old new rest (module_at d ls) → uncons (remaining ts rest) ≡ None → IsTabulatedModule f p old new (read_all d ls)
+pub whole_told : {T : Type 0} (ts : List Token) (f : T → Events) (p : T → Stage → Stage) (d : ℕ) (old new : TableBuilder) (rest : Cursor) (ls : List Leaf) → HasAppendedEntries ts f p old new rest (module_at d ls) → uncons (remaining ts rest) ≡ None → HasAppendedModuleEntries f p old new (read_all d ls)
 unfolding read_all
 whole_told ts f p d old new rest ls t e = record {
   out = t.out;
@@ -144,7 +144,7 @@ whole_failed ts d (stops.TooDeep i) ls f = ap (λ (z : Read). z >>= λ a. nothin
 left_some : (ts : List Token) (rest : Cursor) (o : Events) (x : Leaf × List Leaf) (left : Option (Leaf × List Leaf)) → left ≡ Some x → nothing_left o left ≡ Err (Unexpected left)
 left_some ts rest o x left e = rw e refl
 
-pub whole_left : {T : Type 0} (ts : List Token) (f : T → Events) (p : T → Stage → Stage) (d : ℕ) (old new : TableBuilder) (rest : Cursor) (ls : List Leaf) (x : Leaf × List Leaf) → IsTabulated ts f p old new rest (module_at d ls) → uncons (remaining ts rest) ≡ Some x →
+pub whole_left : {T : Type 0} (ts : List Token) (f : T → Events) (p : T → Stage → Stage) (d : ℕ) (old new : TableBuilder) (rest : Cursor) (ls : List Leaf) (x : Leaf × List Leaf) → HasAppendedEntries ts f p old new rest (module_at d ls) → uncons (remaining ts rest) ≡ Some x →
     Fails ts (stops.Unexpected rest) (read_all d ls)
 unfolding read_all
 whole_left ts f p d old new rest ls x t e = rw t.is_read (left_some ts rest t.out x (uncons (remaining ts rest)) e)
@@ -156,7 +156,7 @@ unfolding module_after_name
 semicolon_failed ts d n e ls h = failed_then ts (expect_at kinds.Semicolon) _ e ls h
 
 pub imports_failed : (ts : List Token) (d n : ℕ) (old first : TableBuilder) (input a : Cursor) (e : Stop) →
-    TabulatesBy ts (λ (u : Unit {0}). word kinds.Semicolon) (λ u s. advanced s) old first (Ok a) (expect_at kinds.Semicolon (remaining ts input)) → Fails ts e (imports_at (remaining ts a)) → Fails ts e (module_after_name d n (remaining ts input))
+    AppendsEntriesBy ts (λ (u : Unit {0}). word kinds.Semicolon) (λ u s. advanced s) old first (Ok a) (expect_at kinds.Semicolon (remaining ts input)) → Fails ts e (imports_at (remaining ts a)) → Fails ts e (module_after_name d n (remaining ts input))
 unfolding module_after_name
 imports_failed ts d n old first input a e t h =
     let inner : Reader = seq (declarations_at d) (seq (body_with (block_at d)) (seq (expect_at kinds.End) (seq (name_at (repeated n)) (expect_at kinds.Dot)))) in
@@ -172,7 +172,7 @@ name_then_failed ts r (stops.Unexpected i) ls f = ap (λ z. z >>= λ a. prefixed
 name_then_failed ts r (stops.TooDeep i) ls f = ap (λ z. z >>= λ a. prefixed (named a.0) (r a.0) a.1) f
 
 pub own_name_failed : (ts : List Token) (d : ℕ) (old first : TableBuilder) (input a : Cursor) (e : Stop) →
-    TabulatesBy ts (λ (u : Unit {0}). word kinds.Module) (λ u s. advanced s) old first (Ok a) (expect_at kinds.Module (remaining ts input)) → Fails ts e (identifier_at (remaining ts a)) → Fails ts e (module_at d (remaining ts input))
+    AppendsEntriesBy ts (λ (u : Unit {0}). word kinds.Module) (λ u s. advanced s) old first (Ok a) (expect_at kinds.Module (remaining ts input)) → Fails ts e (identifier_at (remaining ts a)) → Fails ts e (module_at d (remaining ts input))
 unfolding module_at
 own_name_failed ts d old first input a e t h =
     failed_node ts constructs.Module (seq (expect_at kinds.Module) (name_then named (module_after_name d))) e (remaining ts input)

@@ -27,10 +27,10 @@ use Rattle.table_rules.proofs.TypeLayers as effect
 use Rattle.ob_grammar.specs.declared.cursor.Cursor.{Cursor}
 use Rattle.ob_grammar.specs.declared.stop.Stop.{Stop}
 use Rattle.ob_grammar.specs.Combinators.{Read, Reader, accept_at, expect_at, nothing, optional, seq}
-use Rattle.ob_grammar.specs.AgreesWith.{Fails, remaining}
+use Rattle.ob_grammar.specs.ParsesAs.{Fails, remaining}
 use Rattle.ob_grammar.specs.ReadTypes.{section_at, parameters_at}
 use Rattle.table_reader.specs.TypeShapes.{arrays_events, formal_name_rows, formal_events, formal_rows, inner_at, inner_events, list_rows, opened_at, opened_events, opened_rows, optional_word_events, optional_word_rows}
-use Rattle.table_reader.specs.Tabulating.{Tabulates, TabulatesBy}
+use Rattle.table_reader.specs.Tabulating.{AppendsEntries, AppendsEntriesBy}
 use Rattle.table_reader.proofs.Combine.{told_as, told_node, told_behind, failed_node, failed_then}
 use Rattle.table_reader.proofs.Lists.{word_after}
 use Rattle.table_reader.proofs.Following.{pair_told, word_told, declaring_told, came_then, came_as, regrouped, then_failed}
@@ -54,8 +54,8 @@ array_after c x s =
 
 pub array_told : (ts : List Token) (c : Context) (old here mid new : TableBuilder) (result : Result Cursor Stop) (read : Read) →
     PerformsStep (λ s. added (part_row parts.Array c s.number) s) old here → PerformsStep advanced here mid →
-    TabulatesBy ts (λ (x : Unit {0}). word kinds.Of) (λ x s. advanced s) mid new result read →
-    TabulatesBy ts (λ (x : Unit {0}). word kinds.Of) (λ x s. advanced (advanced (added (part_row parts.Array c s.number) s))) old new result read
+    AppendsEntriesBy ts (λ (x : Unit {0}). word kinds.Of) (λ x s. advanced s) mid new result read →
+    AppendsEntriesBy ts (λ (x : Unit {0}). word kinds.Of) (λ x s. advanced (advanced (added (part_row parts.Array c s.number) s))) old new result read
 array_told ts c old here mid new result read a b t =
     told_behind ts (λ (x : Unit {0}). word kinds.Of) (λ x s. advanced (advanced s)) (λ s. added (part_row parts.Array c s.number) s) old here new result read a
     (told_behind ts (λ (x : Unit {0}). word kinds.Of) (λ x s. advanced s) advanced here mid new result read b t)
@@ -69,8 +69,8 @@ arrays_each [] = refl
 arrays_each (x ∷ xs) = ap (λ (p : Fragment). both (with_rows (part_row parts.Array) (both token token)) p) (arrays_each xs)
 
 pub arrays_told : (ts : List Token) (c : Context) (old new : TableBuilder) (result : Result Cursor Stop) (read : Read) →
-    TabulatesBy ts (λ (v : Vec (Unit {0})). each (λ x. word kinds.Array ++ word kinds.Of) v.items) (λ v. after (pieces array_piece v.items) c) old new result read →
-    Tabulates ts arrays_events open_arrays c old new result read
+    AppendsEntriesBy ts (λ (v : Vec (Unit {0})). each (λ x. word kinds.Array ++ word kinds.Of) v.items) (λ v. after (pieces array_piece v.items) c) old new result read →
+    AppendsEntries ts arrays_events open_arrays c old new result read
 arrays_told ts c old new result read t =
     told_as ts (λ (v : Vec (Unit {0})). each (λ x. word kinds.Array ++ word kinds.Of) v.items) (λ v. after (pieces array_piece v.items) c) arrays_events (λ n. after (open_arrays n) c)
     (λ v. length v.items) (λ v. times_each v.items) (λ v s. ap (λ (p : Fragment). after p c s) (arrays_each v.items)) old new result read t
@@ -94,10 +94,10 @@ inner_after x c s =
     ∙ sym (after_both (optional_word_rows x.0) _ c s)
 
 pub inner_told : (ts : List Token) (c : Context) (r t : Reader) (old first mid new : TableBuilder) (input following here : Cursor) (result : Result Cursor Stop) →
-    Tabulates ts (optional_word_events kinds.Var) optional_word_rows c old first (Ok following) (optional (accept_at kinds.Var) nothing (remaining ts input)) →
-    Tabulates ts (separated kinds.Comma (declared false)) (list_rows (λ n. parameter_rows)) c first mid (Ok here) (r (remaining ts following)) →
-    Tabulates ts (λ x. word kinds.Colon ++ formal_events x) (λ x. both token (formal_rows x)) c mid new result (t (remaining ts here)) →
-    Tabulates ts inner_events section_inner c old new result (seq (optional (accept_at kinds.Var) nothing) (seq r t) (remaining ts input))
+    AppendsEntries ts (optional_word_events kinds.Var) optional_word_rows c old first (Ok following) (optional (accept_at kinds.Var) nothing (remaining ts input)) →
+    AppendsEntries ts (separated kinds.Comma (declared false)) (list_rows (λ n. parameter_rows)) c first mid (Ok here) (r (remaining ts following)) →
+    AppendsEntries ts (λ x. word kinds.Colon ++ formal_events x) (λ x. both token (formal_rows x)) c mid new result (t (remaining ts here)) →
+    AppendsEntries ts inner_events section_inner c old new result (seq (optional (accept_at kinds.Var) nothing) (seq r t) (remaining ts input))
 inner_told ts c r t old first mid new input following here result a b d =
     told_as ts (λ (x : Inner). optional_word_events kinds.Var x.0 ++ (separated kinds.Comma (declared false) x.1.0 ++ (word kinds.Colon ++ formal_events x.1.1))) (λ x. after (parts_of x) c)
     inner_events (λ s. after (section_inner s) c) inner_of (λ x. refl) (λ x s. inner_after x c s) old new result _
@@ -106,7 +106,7 @@ inner_told ts c r t old first mid new input following here result a b d =
     (pair_told ts c (separated kinds.Comma (declared false)) (list_rows (λ n. parameter_rows)) (λ x. word kinds.Colon ++ formal_events x) (λ x. both token (formal_rows x)) r t first mid new following here result b d))
 
 pub inner_failed : (ts : List Token) (c : Context) (e : Stop) (r t : Reader) (old first : TableBuilder) (input following : Cursor) →
-    Tabulates ts (optional_word_events kinds.Var) optional_word_rows c old first (Ok following) (optional (accept_at kinds.Var) nothing (remaining ts input)) →
+    AppendsEntries ts (optional_word_events kinds.Var) optional_word_rows c old first (Ok following) (optional (accept_at kinds.Var) nothing (remaining ts input)) →
     Fails ts e (r (remaining ts following)) → Fails ts e (seq (optional (accept_at kinds.Var) nothing) (seq r t) (remaining ts input))
 inner_failed ts c e r t old first input following a h =
     then_failed ts (optional_word_events kinds.Var) (λ x. after (optional_word_rows x) c) e (optional (accept_at kinds.Var) nothing) (seq r t) old first input following a (failed_then ts r t e (remaining ts following) h)
@@ -114,9 +114,9 @@ inner_failed ts c e r t old first input following a h =
 pub section_told : (ts : List Token) (c around : Context) (row : DeclGroup) (at : ℕ) (old opened last new : TableBuilder) (input here : Cursor) →
     row ≡ decl_group decl_kinds.Parameter c old.number 0 → at ≡ length old.decl_groups.items → around ≡ declaring_at c old.number →
     PerformsStep (added (one_decl_group row)) old opened →
-    Tabulates ts inner_events section_inner around opened last (Ok here)
+    AppendsEntries ts inner_events section_inner around opened last (Ok here)
     (inner_at (remaining ts input)) →
-    PerformsStep (closed at row) last new → Tabulates ts section_events section_rows c old new (Ok here) (section_at (remaining ts input))
+    PerformsStep (closed at row) last new → AppendsEntries ts section_events section_rows c old new (Ok here) (section_at (remaining ts input))
 unfolding section_at
 section_told ts c around row at old opened last new input here d e g a t b =
     told_as ts (λ s. construct constructs.FPSection (inner_events s)) (λ s. after (declaring decl_kinds.Parameter (section_inner s)) c) section_events (λ s. after (section_rows s) c)
@@ -136,10 +136,10 @@ abbrev parameters_of : Option (OneOrMore ParameterSection) × Option Qualident �
 parameters_of x = record { sections = x.0; result = x.1 }
 
 pub parameters_told : (ts : List Token) (c : Context) (old mid new : TableBuilder) (input here : Cursor) (result : Result Cursor Stop) →
-    TabulatesBy ts (λ (_ : Unit {0}). word kinds.LeftParen) (λ x s. advanced s) old mid (Ok here) (expect_at kinds.LeftParen (remaining ts input)) →
-    Tabulates ts opened_events opened_rows c mid new result
+    AppendsEntriesBy ts (λ (_ : Unit {0}). word kinds.LeftParen) (λ x s. advanced s) old mid (Ok here) (expect_at kinds.LeftParen (remaining ts input)) →
+    AppendsEntries ts opened_events opened_rows c mid new result
     (opened_at (remaining ts here)) →
-    Tabulates ts parameters_events parameters_rows c old new result (parameters_at (remaining ts input))
+    AppendsEntries ts parameters_events parameters_rows c old new result (parameters_at (remaining ts input))
 unfolding parameters_at
 parameters_told ts c old mid new input here result a t =
     told_as ts (λ x. word kinds.LeftParen ++ opened_events x) (λ x. after (both token (opened_rows x)) c) parameters_events (λ p. after (parameters_rows p) c)

@@ -18,9 +18,9 @@ use Rattle.module_table.proofs.Steps.{after_both, after_token, after_nothing}
 use Rattle.ob_grammar.specs.declared.cursor.Cursor.{Cursor}
 use Rattle.ob_grammar.specs.declared.stop.Stop.{Stop}
 use Rattle.ob_grammar.specs.Combinators.{Read, Reader, Start, expect_at, seq, prefixed, node, optional}
-use Rattle.ob_grammar.specs.AgreesWith.{Fails, remaining}
+use Rattle.ob_grammar.specs.ParsesAs.{Fails, remaining}
 use Rattle.table_reader.specs.StatementShapes.{then_events, then_rows, word_events, word_rows}
-use Rattle.table_reader.specs.Tabulating.{Tabulates, TabulatesBy}
+use Rattle.table_reader.specs.Tabulating.{AppendsEntries, AppendsEntriesBy}
 use Rattle.table_reader.proofs.Combine.{told_as, told_node, told_then, told_prefixed, told_behind, told_there, told_absent, failed_then}
 use Rattle.table_reader.proofs.Lists.{word_after}
 
@@ -44,28 +44,28 @@ part_failed ts p q e ls h = failed_then ts p.read q.read e ls h
 module _ (ts : List Token) (c : Context) where
   -- a tree of the appended entries
   pub made_told : {A B : Type 0} (f : A → Events) (p : A → Fragment) (g : B → Events) (q : B → Fragment) (make : A → B) (old new : TableBuilder) (result : Result Cursor Stop) (read : Read) →
-      ((x : A) → g (make x) ≡ f x) → ((x : A) → q (make x) ≡ p x) → Tabulates ts f p c old new result read → Tabulates ts g q c old new result read
+      ((x : A) → g (make x) ≡ f x) → ((x : A) → q (make x) ≡ p x) → AppendsEntries ts f p c old new result read → AppendsEntries ts g q c old new result read
   made_told f p g q make old new result read events effect t =
       told_as ts f (λ x. after (p x) c) g (λ x. after (q x) c) make events (λ x s. ap (λ (y : Fragment). after y c s) (effect x)) old new result read t
 
   -- one part, and another after it
   pub told_both : {A B : Type 0} (f : A → Events) (p : A → Fragment) (g : B → Events) (q : B → Fragment) (r s : Reader) (old mid new : TableBuilder) (here : Cursor) (result : Result Cursor Stop) (ls : List Leaf) →
-      Tabulates ts f p c old mid (Ok here) (r ls) → Tabulates ts g q c mid new result (s (remaining ts here)) → Tabulates ts (then_events f g) (then_rows p q) c old new result (seq r s ls)
+      AppendsEntries ts f p c old mid (Ok here) (r ls) → AppendsEntries ts g q c mid new result (s (remaining ts here)) → AppendsEntries ts (then_events f g) (then_rows p q) c old new result (seq r s ls)
   told_both {A} {B} f p g q r s old mid new here result ls a b =
       told_as ts (λ (x : A × B). f x.0 ++ g x.1) (λ x z. after (q x.1) c (after (p x.0) c z)) (then_events f g) (λ x. after (then_rows p q x) c) (λ x. x) (λ x. refl)
       (λ x z. after_both (p x.0) (q x.1) c z) old new result _
       (told_then ts f (λ x. after (p x) c) g (λ x. after (q x) c) r s old mid new here result ls a b)
 
   -- a word
-  pub told_word : (k : Kind) (old new : TableBuilder) (result : Result Cursor Stop) (read : Read) → TabulatesBy ts (λ (x : Unit {0}). word k) (λ x s. advanced s) old new result read →
-      Tabulates ts (word_events k) word_rows c old new result read
+  pub told_word : (k : Kind) (old new : TableBuilder) (result : Result Cursor Stop) (read : Read) → AppendsEntriesBy ts (λ (x : Unit {0}). word k) (λ x s. advanced s) old new result read →
+      AppendsEntries ts (word_events k) word_rows c old new result read
   told_word k old new result read t =
       told_as ts (λ (x : Unit {0}). word k) (λ x s. advanced s) (word_events k) (λ x. after (word_rows x) c) (λ x. x) (λ x. refl) (λ x s. after_token c s) old new result read t
 
   -- a part after an optional word that is present
   pub told_some : {A X : Type 0} (f : A → Events) (p : A → Fragment) (g : X → Events) (q : X → Fragment) (make : A → X) (k : Kind) (start : Start) (r : Reader) (old mid new : TableBuilder) (rest : Cursor) (result : Result Cursor Stop) (ls : List Leaf) →
-      ((x : A) → g (make x) ≡ f x) → ((x : A) → q (make x) ≡ p x) → start ls ≡ Some (word k, remaining ts rest) → PerformsStep advanced old mid → Tabulates ts f p c mid new result (r (remaining ts rest)) →
-      Tabulates ts (shown_there (λ x. word k ++ g x)) (if_present (λ x. both token (q x))) c old new result (optional start r ls)
+      ((x : A) → g (make x) ≡ f x) → ((x : A) → q (make x) ≡ p x) → start ls ≡ Some (word k, remaining ts rest) → PerformsStep advanced old mid → AppendsEntries ts f p c mid new result (r (remaining ts rest)) →
+      AppendsEntries ts (shown_there (λ x. word k ++ g x)) (if_present (λ x. both token (q x))) c old new result (optional start r ls)
   told_some {A} {X} f p g q make k start r old mid new rest result ls events effect found h t =
       told_as ts (λ (x : A). word k ++ f x) (λ x s. after (p x) c (advanced s)) (shown_there (λ (x : X). word k ++ g x)) (λ x. after (if_present (λ (y : X). both token (q y)) x) c) (λ x. Some (make x))
       (λ x. ap (λ (o : Events). word k ++ o) (events x)) (λ x s. ap (λ (y : Fragment). after (both token y) c s) (effect x) ∙ word_after (p x) c s) old new result (optional start r ls)
@@ -74,14 +74,14 @@ module _ (ts : List Token) (c : Context) where
 
   -- a part after an optional word that is absent
   pub told_none : {X : Type 0} (g : X → Events) (q : X → Fragment) (k : Kind) (start : Start) (r : Reader) (d : TableBuilder) (here : Cursor) → start (remaining ts here) ≡ None →
-      Tabulates ts (shown_there (λ x. word k ++ g x)) (if_present (λ x. both token (q x))) c d d (Ok here) (optional start r (remaining ts here))
+      AppendsEntries ts (shown_there (λ x. word k ++ g x)) (if_present (λ x. both token (q x))) c d d (Ok here) (optional start r (remaining ts here))
   told_none {X} g q k start r d here e =
       told_absent ts (shown_there (λ (x : X). word k ++ g x)) (λ x. after (if_present (λ (y : X). both token (q y)) x) c) None start r d here refl (λ s. after_nothing c s) e
 
   -- a statement after its first word
   pub told_statement : {A : Type 0} (f : A → Events) (p : A → Fragment) (make : A → Stmt) (k : Kind) (r : Reader) (old mid new : TableBuilder) (result : Result Cursor Stop) (ls : List Leaf) →
       ((x : A) → stmt_events (make x) ≡ construct constructs.Statement (word k ++ f x)) → ((x : A) → stmt_rows (make x) ≡ both token (p x)) →
-      PerformsStep advanced old mid → Tabulates ts f p c mid new result (r ls) → Tabulates ts stmt_events stmt_rows c old new result (node constructs.Statement (prefixed (word k) r) ls)
+      PerformsStep advanced old mid → AppendsEntries ts f p c mid new result (r ls) → AppendsEntries ts stmt_events stmt_rows c old new result (node constructs.Statement (prefixed (word k) r) ls)
   told_statement {A} f p make k r old mid new result ls events effect h t =
       told_as ts (λ (x : A). construct constructs.Statement (word k ++ f x)) (λ x s. after (p x) c (advanced s)) stmt_events (λ x. after (stmt_rows x) c) make events
       (λ x s. ap (λ (y : Fragment). after y c s) (effect x) ∙ word_after (p x) c s) old new result _
@@ -91,11 +91,11 @@ module _ (ts : List Token) (c : Context) where
 
   -- the same for parts
   pub part_then : {A B : Type 0} (p : Part A) (q : Part B) (old mid new : TableBuilder) (here : Cursor) (result : Result Cursor Stop) (ls : List Leaf) →
-      Tabulates ts p.events p.piece c old mid (Ok here) (p.read ls) → Tabulates ts q.events q.piece c mid new result (q.read (remaining ts here)) →
-      Tabulates ts (then_events p.events q.events) (then_rows p.piece q.piece) c old new result (seq p.read q.read ls)
+      AppendsEntries ts p.events p.piece c old mid (Ok here) (p.read ls) → AppendsEntries ts q.events q.piece c mid new result (q.read (remaining ts here)) →
+      AppendsEntries ts (then_events p.events q.events) (then_rows p.piece q.piece) c old new result (seq p.read q.read ls)
   part_then p q old mid new here result ls a b = told_both p.events p.piece q.events q.piece p.read q.read old mid new here result ls a b
 
   pub word_then : {B : Type 0} (k : Kind) (q : Part B) (old mid new : TableBuilder) (here : Cursor) (result : Result Cursor Stop) (ls : List Leaf) →
-      TabulatesBy ts (λ (x : Unit {0}). word k) (λ x s. advanced s) old mid (Ok here) (expect_at k ls) → Tabulates ts q.events q.piece c mid new result (q.read (remaining ts here)) →
-      Tabulates ts (then_events (word_events k) q.events) (then_rows word_rows q.piece) c old new result (seq (expect_at k) q.read ls)
+      AppendsEntriesBy ts (λ (x : Unit {0}). word k) (λ x s. advanced s) old mid (Ok here) (expect_at k ls) → AppendsEntries ts q.events q.piece c mid new result (q.read (remaining ts here)) →
+      AppendsEntries ts (then_events (word_events k) q.events) (then_rows word_rows q.piece) c old new result (seq (expect_at k) q.read ls)
   word_then k q old mid new here result ls a b = part_then (word_part k) q old mid new here result ls (told_word k old mid (Ok here) (expect_at k ls) a) b

@@ -37,7 +37,7 @@ use Rattle.table_rules.proofs.DeclarationLayers as effect
 use Rattle.ob_grammar.specs.declared.cursor.Cursor.{Cursor}
 use Rattle.ob_grammar.specs.declared.stop.Stop.{Stop}
 use Rattle.ob_grammar.specs.Combinators.{Reader, seq, optional, nothing, accept_at, expect_at, identifier_at, name_at, after_name}
-use Rattle.ob_grammar.specs.AgreesWith.{Fails, remaining}
+use Rattle.ob_grammar.specs.ParsesAs.{Fails, remaining}
 use Rattle.ob_grammar.specs.ReadExpressions.{expr_at}
 use Rattle.ob_grammar.specs.ReadNames.{identdef_after}
 use Rattle.ob_grammar.specs.ReadStatements.{block_at}
@@ -45,7 +45,7 @@ use Rattle.ob_grammar.specs.ReadTypes.{optional_parameters_at}
 use Rattle.ob_grammar.specs.ReadModules.{const_with, type_decl_with, variable_with, section_with, procedures_with, declarations_with, declarations_at, body_with, procedure_named, procedure_with, procedure_at}
 use Rattle.ob_grammar.proofs.Stars.{star_read}
 use Rattle.table_reader.specs.DeclarationShapes.{ended_rows, procedures_events, body_events, body_rows, returned_events, returned_rows, procedure_rest_events, procedure_rest_rows, ending_events, ending_step, Block, procedure_block_events, block_step}
-use Rattle.table_reader.specs.Tabulating.{IsTabulated, Tabulates, TabulatesBy}
+use Rattle.table_reader.specs.Tabulating.{HasAppendedEntries, AppendsEntries, AppendsEntriesBy}
 use Rattle.table_reader.proofs.Combine.{told_as, told_node, told_then, failed_node, failed_then, told_walked}
 use Rattle.table_reader.proofs.Lists.{word_after}
 use Rattle.table_reader.proofs.Made.{boxed}
@@ -68,11 +68,11 @@ piece_boxed g p (Some x) = refl
 ---- the part after the declarations, and the part after the heading
 
 pub ending_told : (ts : List Token) (name d : ℕ) (c : Context) (old first second third new : TableBuilder) (input a b e : Cursor) (result : Result Cursor Stop) →
-    Tabulates ts body_events body_rows c old first (Ok a) (body_with (block_at d) (remaining ts input)) →
-    Tabulates ts returned_events returned_rows c first second (Ok b) (optional (accept_at kinds.Return) (expr_at d) (remaining ts a)) →
-    TabulatesBy ts (λ (u : Unit {0}). word kinds.End) (λ u s. advanced s) second third (Ok e) (expect_at kinds.End (remaining ts b)) →
-    TabulatesBy ts (repeated name) (λ x s. after (with_rows procedure_end token) c s) third new result (name_at (repeated name) (remaining ts e)) →
-    TabulatesBy ts (ending_events name) (ending_step c) old new result
+    AppendsEntries ts body_events body_rows c old first (Ok a) (body_with (block_at d) (remaining ts input)) →
+    AppendsEntries ts returned_events returned_rows c first second (Ok b) (optional (accept_at kinds.Return) (expr_at d) (remaining ts a)) →
+    AppendsEntriesBy ts (λ (u : Unit {0}). word kinds.End) (λ u s. advanced s) second third (Ok e) (expect_at kinds.End (remaining ts b)) →
+    AppendsEntriesBy ts (repeated name) (λ x s. after (with_rows procedure_end token) c s) third new result (name_at (repeated name) (remaining ts e)) →
+    AppendsEntriesBy ts (ending_events name) (ending_step c) old new result
     (seq (body_with (block_at d)) (seq (optional (accept_at kinds.Return) (expr_at d)) (seq (expect_at kinds.End) (name_at (repeated name)))) (remaining ts input))
 ending_told ts name d c old first second third new input a b e result t u v w =
     told_then ts body_events (λ x. after (body_rows x) c)
@@ -85,9 +85,9 @@ ending_told ts name d c old first second third new input a b e result t u v w =
     (expect_at kinds.End) (name_at (repeated name)) second third new e result (remaining ts b) v w))
 
 pub behind_heading_told : (ts : List Token) (name : ℕ) (r s : Reader) (c : Context) (old mid new : TableBuilder) (input here : Cursor) (result : Result Cursor Stop) →
-    Tabulates ts declarations_events declarations_rows c old mid (Ok here) (r (remaining ts input)) →
-    TabulatesBy ts (ending_events name) (ending_step c) mid new result (s (remaining ts here)) →
-    TabulatesBy ts (procedure_block_events name) (block_step c) old new result (seq r s (remaining ts input))
+    AppendsEntries ts declarations_events declarations_rows c old mid (Ok here) (r (remaining ts input)) →
+    AppendsEntriesBy ts (ending_events name) (ending_step c) mid new result (s (remaining ts here)) →
+    AppendsEntriesBy ts (procedure_block_events name) (block_step c) old new result (seq r s (remaining ts input))
 behind_heading_told ts name r s c old mid new input here result t u =
     told_then ts declarations_events (λ d. after (declarations_rows d) c) (ending_events name) (ending_step c)
     r s old mid new here result (remaining ts input) t u
@@ -95,10 +95,10 @@ behind_heading_told ts name r s c old mid new input here result t u =
 -- ---- the heading
 
 abbrev name_with : ℕ → Bool → Identdef
-name_with n b = record { name = n; starred = b }
+name_with n b = record { name = n; is_exported = b }
 
 pub star_told : (ts : List Token) (n : ℕ) (b : Bool) (c : Context) (old new : TableBuilder) (input here : Cursor) → Ok (if_true b (word kinds.Star), remaining ts here) ≡ optional (accept_at kinds.Star) nothing (remaining ts input) →
-    PerformsStep (after (identdef_rows (name_with n b)) c) old new → IsTabulated {T = Bool} ts (λ x. identdef_events (name_with n x)) (λ x. after (identdef_rows (name_with n x)) c) old new here (identdef_after n (remaining ts input))
+    PerformsStep (after (identdef_rows (name_with n b)) c) old new → HasAppendedEntries {T = Bool} ts (λ x. identdef_events (name_with n x)) (λ x. after (identdef_rows (name_with n x)) c) old new here (identdef_after n (remaining ts input))
 unfolding identdef_after identdef_events
 star_told ts n b c old new input here e h = told_walked ts (λ x. identdef_events (name_with n x)) (λ x. after (identdef_rows (name_with n x)) c) b old new here (identdef_after n (remaining ts input)) (rw (sym e, star_read b) refl) h
 
@@ -162,12 +162,12 @@ heading_after n g x c s =
     ∙ parts_after (identdef_rows y.name) (if_present parameters_rows y.parameters) (declarations_rows y.declarations) (body_rows x.1.1.1.1.0) (returned_rows x.1.1.1.1.1.0) c s
 
 pub named_told : (ts : List Token) (n : ℕ) (expr block decls : Reader) (c : Context) (old first second third new : TableBuilder) (input a b e : Cursor) (result : Result Cursor Stop) →
-    IsTabulated {T = Bool} ts (λ x. identdef_events (name_with n x)) (λ x. after (identdef_rows (name_with n x)) c) old first a (identdef_after n (remaining ts input)) →
-    Tabulates ts (shown_there parameters_events) (if_present parameters_rows) c first second (Ok b) (optional_parameters_at (remaining ts a)) →
-    TabulatesBy ts (λ (u : Unit {0}). word kinds.Semicolon) (λ u s. advanced s) second third (Ok e) (expect_at kinds.Semicolon (remaining ts b)) →
-    TabulatesBy ts (procedure_block_events n) (block_step c) third new result
+    HasAppendedEntries {T = Bool} ts (λ x. identdef_events (name_with n x)) (λ x. after (identdef_rows (name_with n x)) c) old first a (identdef_after n (remaining ts input)) →
+    AppendsEntries ts (shown_there parameters_events) (if_present parameters_rows) c first second (Ok b) (optional_parameters_at (remaining ts a)) →
+    AppendsEntriesBy ts (λ (u : Unit {0}). word kinds.Semicolon) (λ u s. advanced s) second third (Ok e) (expect_at kinds.Semicolon (remaining ts b)) →
+    AppendsEntriesBy ts (procedure_block_events n) (block_step c) third new result
     (seq decls (seq (body_with block) (seq (optional (accept_at kinds.Return) expr) (seq (expect_at kinds.End) (name_at (repeated n))))) (remaining ts e)) →
-    Tabulates ts procedure_rest_events procedure_rest_rows c old new result (procedure_named expr block decls n (remaining ts input))
+    AppendsEntries ts procedure_rest_events procedure_rest_rows c old new result (procedure_named expr block decls n (remaining ts input))
 unfolding procedure_named
 named_told ts n expr block decls c old first second third new input a b e result t u v w =
     let inner : Reader = seq decls (seq (body_with block) (seq (optional (accept_at kinds.Return) expr) (seq (expect_at kinds.End) (name_at (repeated n))))) in
@@ -184,15 +184,15 @@ named_told ts n expr block decls c old first second third new input a b e result
     (expect_at kinds.Semicolon) inner second third new e result (remaining ts b) v w)))
 
 pub named_failed : (ts : List Token) (n : ℕ) (expr block decls : Reader) (c : Context) (old first : TableBuilder) (input a : Cursor) (e : Stop) →
-    IsTabulated {T = Bool} ts (λ x. identdef_events (name_with n x)) (λ x. after (identdef_rows (name_with n x)) c) old first a (identdef_after n (remaining ts input)) →
+    HasAppendedEntries {T = Bool} ts (λ x. identdef_events (name_with n x)) (λ x. after (identdef_rows (name_with n x)) c) old first a (identdef_after n (remaining ts input)) →
     Fails ts e (optional_parameters_at (remaining ts a)) → Fails ts e (procedure_named expr block decls n (remaining ts input))
 unfolding procedure_named
 named_failed ts n expr block decls c old first input a e t h =
     failed_behind ts (λ x. identdef_events (name_with n x)) (λ x. after (identdef_rows (name_with n x)) c) (identdef_after n) _ old first a e (remaining ts input) t (failed_then ts optional_parameters_at _ e (remaining ts a) h)
 
 pub named_failed_behind : (ts : List Token) (n : ℕ) (expr block decls : Reader) (c : Context) (old first second : TableBuilder) (input a b : Cursor) (e : Stop) →
-    IsTabulated {T = Bool} ts (λ x. identdef_events (name_with n x)) (λ x. after (identdef_rows (name_with n x)) c) old first a (identdef_after n (remaining ts input)) →
-    Tabulates ts (shown_there parameters_events) (if_present parameters_rows) c first second (Ok b) (optional_parameters_at (remaining ts a)) →
+    HasAppendedEntries {T = Bool} ts (λ x. identdef_events (name_with n x)) (λ x. after (identdef_rows (name_with n x)) c) old first a (identdef_after n (remaining ts input)) →
+    AppendsEntries ts (shown_there parameters_events) (if_present parameters_rows) c first second (Ok b) (optional_parameters_at (remaining ts a)) →
     Fails ts e (expect_at kinds.Semicolon (remaining ts b)) → Fails ts e (procedure_named expr block decls n (remaining ts input))
 unfolding procedure_named
 named_failed_behind ts n expr block decls c old first second input a b e t u h =
@@ -202,10 +202,10 @@ named_failed_behind ts n expr block decls c old first second input a b e t u h =
 -- ---- procedures
 
 pub inner_told : (ts : List Token) (r : ℕ → Reader) (n : ℕ) (c : Context) (old mid new : TableBuilder) (input here rest : Cursor) (result : Result Cursor Stop) →
-    TabulatesBy ts (λ (u : Unit {0}). word kinds.Procedure) (λ u s. advanced s) old mid (Ok here) (expect_at kinds.Procedure (remaining ts input)) →
+    AppendsEntriesBy ts (λ (u : Unit {0}). word kinds.Procedure) (λ u s. advanced s) old mid (Ok here) (expect_at kinds.Procedure (remaining ts input)) →
     identifier_at (remaining ts here) ≡ Ok (n, remaining ts rest) →
-    Tabulates ts procedure_rest_events procedure_rest_rows c mid new result (r n (remaining ts rest)) →
-    Tabulates ts (λ p. word kinds.Procedure ++ procedure_rest_events p) (λ p. both token (procedure_rest_rows p)) c old new result (seq (expect_at kinds.Procedure) (after_name r) (remaining ts input))
+    AppendsEntries ts procedure_rest_events procedure_rest_rows c mid new result (r n (remaining ts rest)) →
+    AppendsEntries ts (λ p. word kinds.Procedure ++ procedure_rest_events p) (λ p. both token (procedure_rest_rows p)) c old new result (seq (expect_at kinds.Procedure) (after_name r) (remaining ts input))
 inner_told ts r n c old mid new input here rest result t e u =
     told_as ts (λ (x : Unit {0} × ProcDecl). word kinds.Procedure ++ procedure_rest_events x.1) (λ x s. after (procedure_rest_rows x.1) c (advanced s))
     (λ (p : ProcDecl). word kinds.Procedure ++ procedure_rest_events p) (λ p. after (both token (procedure_rest_rows p)) c) (λ x. x.1) (λ x. refl) (λ x s. word_after (procedure_rest_rows x.1) c s) old new result _
@@ -215,9 +215,9 @@ inner_told ts r n c old mid new input here rest result t e u =
 pub within_told : (ts : List Token) (expr block decls : Reader) (c around : Context) (row : DeclGroup) (at : ℕ) (old opened blocked last new : TableBuilder) (input rest : Cursor) →
     row ≡ decl_group decl_kinds.Procedure c old.number 0 → around ≡ in_block (declaring_at c old.number) old.number → at ≡ length old.decl_groups.items →
     PerformsStep (added (one_decl_group row)) old opened → PerformsStep (added (one_block (record { first = old.number; outer = c.block }))) opened blocked →
-    Tabulates ts (λ p. word kinds.Procedure ++ procedure_rest_events p) (λ p. both token (procedure_rest_rows p)) around blocked last (Ok rest)
+    AppendsEntries ts (λ p. word kinds.Procedure ++ procedure_rest_events p) (λ p. both token (procedure_rest_rows p)) around blocked last (Ok rest)
     (seq (expect_at kinds.Procedure) (after_name (procedure_named expr block decls)) (remaining ts input)) → PerformsStep (closed at row) last new →
-    Tabulates ts procedure_events procedure_rows c old new (Ok rest) (procedure_with expr block decls (remaining ts input))
+    AppendsEntries ts procedure_events procedure_rows c old new (Ok rest) (procedure_with expr block decls (remaining ts input))
 unfolding procedure_with
 within_told ts expr block decls c around row at old opened blocked last new input rest e g h opens adds t closes =
     let r : Reader = seq (expect_at kinds.Procedure) (after_name (procedure_named expr block decls)) in
@@ -259,11 +259,11 @@ sections_after x c s =
     ∙ after_both p (both q (both r t)) c s ∙ after_both q (both r t) c (after p c s) ∙ after_both r t c (after q c (after p c s))
 
 pub sections_told : (ts : List Token) (expr type procedure : Reader) (c : Context) (old first second third new : TableBuilder) (input a b e : Cursor) (result : Result Cursor Stop) →
-    Tabulates {T = Option (Vec ConstDecl)} ts (shown_there (λ v. shown_part kinds.Const const_events v.items)) (if_present (λ v. part const_rows v.items)) c old first (Ok a) (section_with kinds.Const (const_with expr) (remaining ts input)) →
-    Tabulates {T = Option (Vec TypeDecl)} ts (shown_there (λ v. shown_part kinds.Type type_decl_events v.items)) (if_present (λ v. part type_decl_rows v.items)) c first second (Ok b) (section_with kinds.Type (type_decl_with type) (remaining ts a)) →
-    Tabulates {T = Option (Vec VarDecl)} ts (shown_there (λ v. shown_part kinds.Var variable_events v.items)) (if_present (λ v. part variable_rows v.items)) c second third (Ok e) (section_with kinds.Var (variable_with type) (remaining ts b)) →
-    Tabulates {T = Vec ProcDecl} ts (λ v. procedures_events v.items) (λ v. pieces (ended_rows procedure_rows) v.items) c third new result (procedures_with procedure (remaining ts e)) →
-    Tabulates ts declarations_events declarations_rows c old new result (declarations_with expr type procedure (remaining ts input))
+    AppendsEntries {T = Option (Vec ConstDecl)} ts (shown_there (λ v. shown_part kinds.Const const_events v.items)) (if_present (λ v. part const_rows v.items)) c old first (Ok a) (section_with kinds.Const (const_with expr) (remaining ts input)) →
+    AppendsEntries {T = Option (Vec TypeDecl)} ts (shown_there (λ v. shown_part kinds.Type type_decl_events v.items)) (if_present (λ v. part type_decl_rows v.items)) c first second (Ok b) (section_with kinds.Type (type_decl_with type) (remaining ts a)) →
+    AppendsEntries {T = Option (Vec VarDecl)} ts (shown_there (λ v. shown_part kinds.Var variable_events v.items)) (if_present (λ v. part variable_rows v.items)) c second third (Ok e) (section_with kinds.Var (variable_with type) (remaining ts b)) →
+    AppendsEntries {T = Vec ProcDecl} ts (λ v. procedures_events v.items) (λ v. pieces (ended_rows procedure_rows) v.items) c third new result (procedures_with procedure (remaining ts e)) →
+    AppendsEntries ts declarations_events declarations_rows c old new result (declarations_with expr type procedure (remaining ts input))
 unfolding declarations_with
 sections_told ts expr type procedure c old first second third new input a b e result t u v w =
     told_as ts
@@ -288,7 +288,7 @@ unfolding declarations_with
 first_failed ts expr type procedure x ls h = failed_then ts (section_with kinds.Const (const_with expr)) _ x ls h
 
 pub second_failed : (ts : List Token) (expr type procedure : Reader) (c : Context) (old first : TableBuilder) (input a : Cursor) (x : Stop) →
-    Tabulates {T = Option (Vec ConstDecl)} ts (shown_there (λ v. shown_part kinds.Const const_events v.items)) (if_present (λ v. part const_rows v.items)) c old first (Ok a) (section_with kinds.Const (const_with expr) (remaining ts input)) →
+    AppendsEntries {T = Option (Vec ConstDecl)} ts (shown_there (λ v. shown_part kinds.Const const_events v.items)) (if_present (λ v. part const_rows v.items)) c old first (Ok a) (section_with kinds.Const (const_with expr) (remaining ts input)) →
     Fails ts x (section_with kinds.Type (type_decl_with type) (remaining ts a)) → Fails ts x (declarations_with expr type procedure (remaining ts input))
 unfolding declarations_with
 second_failed ts expr type procedure c old first input a x t h =
@@ -297,8 +297,8 @@ second_failed ts expr type procedure c old first input a x t h =
     (failed_then ts (section_with kinds.Type (type_decl_with type)) (seq (section_with kinds.Var (variable_with type)) (procedures_with procedure)) x (remaining ts a) h)
 
 pub third_failed : (ts : List Token) (expr type procedure : Reader) (c : Context) (old first second : TableBuilder) (input a b : Cursor) (x : Stop) →
-    Tabulates {T = Option (Vec ConstDecl)} ts (shown_there (λ v. shown_part kinds.Const const_events v.items)) (if_present (λ v. part const_rows v.items)) c old first (Ok a) (section_with kinds.Const (const_with expr) (remaining ts input)) →
-    Tabulates {T = Option (Vec TypeDecl)} ts (shown_there (λ v. shown_part kinds.Type type_decl_events v.items)) (if_present (λ v. part type_decl_rows v.items)) c first second (Ok b) (section_with kinds.Type (type_decl_with type) (remaining ts a)) →
+    AppendsEntries {T = Option (Vec ConstDecl)} ts (shown_there (λ v. shown_part kinds.Const const_events v.items)) (if_present (λ v. part const_rows v.items)) c old first (Ok a) (section_with kinds.Const (const_with expr) (remaining ts input)) →
+    AppendsEntries {T = Option (Vec TypeDecl)} ts (shown_there (λ v. shown_part kinds.Type type_decl_events v.items)) (if_present (λ v. part type_decl_rows v.items)) c first second (Ok b) (section_with kinds.Type (type_decl_with type) (remaining ts a)) →
     Fails ts x (section_with kinds.Var (variable_with type) (remaining ts b)) → Fails ts x (declarations_with expr type procedure (remaining ts input))
 unfolding declarations_with
 third_failed ts expr type procedure c old first second input a b x t u h =

@@ -12,7 +12,7 @@ use Rattle.ob_tree.proofs.Same.{same_is}
 use Rattle.ob_grammar.specs.declared.cursor.Cursor.{Cursor}
 use Rattle.ob_grammar.specs.Lookahead.{uncons}
 use Rattle.ob_grammar.specs.Combinators.{accept_at}
-use Rattle.ob_grammar.specs.AgreesWith.{remaining, kind_of}
+use Rattle.ob_grammar.specs.ParsesAs.{remaining, kind_of}
 use Rattle.ob_grammar.proofs.Remaining.{leaves_length}
 use Rattle.ob_grammar.proofs.Sound.{some_is}
 use Rattle.table_reader.specs.SoleNames.{sole_name_of, leading_name, IsSoleName}

@@ -36,12 +36,12 @@ use Rattle.ob_grammar.specs.declared.stop.Stop.{Stop}
 use Rattle.ob_grammar.specs.declared.stop.Stop.TheVariants as stops
 use Rattle.ob_grammar.specs.Combinators.{Read, Reader, seq, node, prefixed, several, optional, many, accept_at, expect_at, name_at, identifier_at, begins, too_deep_error}
 use Rattle.ob_grammar.specs.Lookahead.{uncons, head_is}
-use Rattle.ob_grammar.specs.AgreesWith.{remaining, Fails}
+use Rattle.ob_grammar.specs.ParsesAs.{remaining, Fails}
 use Rattle.ob_grammar.specs.ReadExpressions.{designator_with, expr_at}
 use Rattle.ob_grammar.specs.ReadStatements.{label_first, statement_first, empty_at, label_range_at, case_with, block_with, block_at, branch_with, if_with, cases_with, while_with, repeat_with, for_with, assign_with, statement_at, statement_from, statement_with}
 use Rattle.table_reader.specs.StatementShapes.{then_events, then_rows, word_events, word_rows, labels_events, labels_rows, statements_events, statements_rows, branches_events, branches_rows, body_events, body_rows, value_events, assigned_stage, for_variable_rows, cases_end_events, cases_end_rows, ForLimit, for_limit_events, for_limit_rows}
 use Rattle.table_reader.specs.SelectorSlots.{written}
-use Rattle.table_reader.specs.Tabulating.{IsTabulated, Tabulates, TabulatesBy}
+use Rattle.table_reader.specs.Tabulating.{HasAppendedEntries, AppendsEntries, AppendsEntriesBy}
 use Rattle.table_reader.proofs.Combine.{told_as, told_at, told_node, told_then, told_there, told_behind, failed_node, failed_then}
 use Rattle.table_reader.proofs.Lists.{word_after}
 use Rattle.table_reader.proofs.Made.{boxed}
@@ -51,7 +51,7 @@ use Rattle.table_reader.proofs.Parts.{made_told, told_both, told_statement}
 -- ---- no statement
 
 pub empty_told : (ts : List Token) (c : Context) (d : TableBuilder) (here : Cursor) (read : Read) → read ≡ Ok (construct constructs.EmptyStatement [], remaining ts here) →
-    IsTabulated ts stmt_events (λ x. after (stmt_rows x) c) d d here read
+    HasAppendedEntries ts stmt_events (λ x. after (stmt_rows x) c) d d here read
 empty_told ts c d here read e = record {
   out = construct constructs.EmptyStatement [];
   is_read = e;
@@ -73,7 +73,7 @@ one_begins d ls h e = rw h (rw e refl)
 
 -- by the next token
 pub told_seen : (ts : List Token) (c : Context) (expr block : Reader) (old new : TableBuilder) (result : Result Cursor Stop) (ls : List Leaf) (o : Option (Leaf × List Leaf)) → uncons ls ≡ o →
-    Tabulates ts stmt_events stmt_rows c old new result (statement_from expr block ls o) → Tabulates ts stmt_events stmt_rows c old new result (statement_with expr block ls)
+    AppendsEntries ts stmt_events stmt_rows c old new result (statement_from expr block ls o) → AppendsEntries ts stmt_events stmt_rows c old new result (statement_with expr block ls)
 unfolding statement_with
 told_seen ts c expr block old new result ls o e t = rw e t
 
@@ -94,9 +94,9 @@ assigning_after d (Some x) c s head at e h =
     ap (λ (p : Fragment). after p c s) (effect.assign_made d x) ∙ after_both (designator_rows true d) (both token (expr_rows x)) c s ∙ ap (after (both token (expr_rows x)) c) (sym (designator_written d c s head at e h))
 
 pub assign_told : (ts : List Token) (c : Context) (d n head at : ℕ) (old mid new : TableBuilder) (input here : Cursor) (result : Result Cursor Stop) → head ≡ old.number → at ≡ length old.designators.items →
-    Tabulates ts designator_events (designator_rows false) c old mid (Ok here) (designator_with (expr_at d) n (remaining ts input)) →
-    TabulatesBy ts (value_events kinds.Assign) (assigned_stage head at c) mid new result (optional (accept_at kinds.Assign) (expr_at d) (remaining ts here)) →
-    Tabulates ts stmt_events stmt_rows c old new result (node constructs.Statement (assign_with (expr_at d) n) (remaining ts input))
+    AppendsEntries ts designator_events (designator_rows false) c old mid (Ok here) (designator_with (expr_at d) n (remaining ts input)) →
+    AppendsEntriesBy ts (value_events kinds.Assign) (assigned_stage head at c) mid new result (optional (accept_at kinds.Assign) (expr_at d) (remaining ts here)) →
+    AppendsEntries ts stmt_events stmt_rows c old new result (node constructs.Statement (assign_with (expr_at d) n) (remaining ts input))
 unfolding assign_with
 assign_told ts c d n head at old mid new input here result e h a b =
     told_at ts (λ (x : Designator × Option Expr). construct constructs.Statement (designator_events x.0 ++ value_events kinds.Assign x.1)) (λ x s. assigned_stage head at c x.1 (after (designator_rows false x.0) c s))
@@ -112,8 +112,8 @@ assign_failed ts d n e ls h =
 
 -- if a right side follows, the designator is written
 pub some_given : (ts : List Token) (c : Context) (head at : ℕ) (r : Reader) (old effect mid new : TableBuilder) (input rest : Cursor) (result : Result Cursor Stop) → accept_at kinds.Assign (remaining ts input) ≡ Some (word kinds.Assign, remaining ts rest) →
-    PerformsStep (written at (record { head = head; block = c.block; is_written = true })) old effect → PerformsStep advanced effect mid → Tabulates ts expr_events expr_rows c mid new result (r (remaining ts rest)) →
-    TabulatesBy ts (value_events kinds.Assign) (assigned_stage head at c) old new result (optional (accept_at kinds.Assign) r (remaining ts input))
+    PerformsStep (written at (record { head = head; block = c.block; is_written = true })) old effect → PerformsStep advanced effect mid → AppendsEntries ts expr_events expr_rows c mid new result (r (remaining ts rest)) →
+    AppendsEntriesBy ts (value_events kinds.Assign) (assigned_stage head at c) old new result (optional (accept_at kinds.Assign) r (remaining ts input))
 some_given ts c head at r old effect mid new input rest result e g h t =
     let row : DesignatorRow = record { head = head; block = c.block; is_written = true } in
     told_as ts (λ (x : Expr). word kinds.Assign ++ expr_events x) (λ x s. after (expr_rows x) c (advanced (written at row s))) (value_events kinds.Assign) (assigned_stage head at c)
@@ -131,9 +131,9 @@ block_parts : (x : Stmt × Vec Stmt) → block_rows (block_of x) ≡ then_rows s
 block_parts x = effect.block_out (block_of x) ∙ ap (λ y. both (stmt_rows y.first) (each_after stmt_rows y.rest.items)) (out-roll-StatementSequence (record { first = x.0; rest = x.1 }))
 
 pub block_told : (ts : List Token) (c : Context) (d : ℕ) (old mid new : TableBuilder) (input here : Cursor) (result : Result Cursor Stop) →
-    Tabulates ts stmt_events stmt_rows c old mid (Ok here) (statement_at d (remaining ts input)) →
-    Tabulates ts statements_events statements_rows c mid new result (many (accept_at kinds.Semicolon) (statement_at d) (remaining ts here)) →
-    Tabulates ts block_events block_rows c old new result (block_at d (remaining ts input))
+    AppendsEntries ts stmt_events stmt_rows c old mid (Ok here) (statement_at d (remaining ts input)) →
+    AppendsEntries ts statements_events statements_rows c mid new result (many (accept_at kinds.Semicolon) (statement_at d) (remaining ts here)) →
+    AppendsEntries ts block_events block_rows c old new result (block_at d (remaining ts input))
 unfolding block_with several
 block_told ts c d old mid new input here result a b =
     made_told ts c (then_events stmt_events statements_events) (then_rows stmt_rows statements_rows) block_events block_rows block_of old new result _
@@ -153,8 +153,8 @@ branch_parts : (x : Expr × (Unit {0} × StatementSequence)) → branch_rows (br
 branch_parts x = effect.branch_out (branch_of x) ∙ ap (λ y. both (expr_rows y.condition) (both token (block_rows y.body))) (out-roll-Branch (record { condition = x.0; body = x.1.1 }))
 
 pub branch_told : (ts : List Token) (c : Context) (expr block : Reader) (k : Kind) (old new : TableBuilder) (result : Result Cursor Stop) (ls : List Leaf) →
-    Tabulates ts (then_events expr_events (then_events (word_events k) block_events)) (then_rows expr_rows (then_rows word_rows block_rows)) c old new result (seq expr (seq (expect_at k) block) ls) →
-    Tabulates ts (λ b. branch_events b k) branch_rows c old new result (branch_with expr block k ls)
+    AppendsEntries ts (then_events expr_events (then_events (word_events k) block_events)) (then_rows expr_rows (then_rows word_rows block_rows)) c old new result (seq expr (seq (expect_at k) block) ls) →
+    AppendsEntries ts (λ b. branch_events b k) branch_rows c old new result (branch_with expr block k ls)
 unfolding branch_with
 branch_told ts c expr block k old new result ls t =
     made_told ts c (then_events expr_events (then_events (word_events k) block_events)) (then_rows expr_rows (then_rows word_rows block_rows)) (λ b. branch_events b k) branch_rows branch_of old new result _
@@ -163,10 +163,10 @@ branch_told ts c expr block k old new result ls t =
 -- ---- IF
 
 pub if_told : (ts : List Token) (c : Context) (expr block : Reader) (old mid new : TableBuilder) (result : Result Cursor Stop) (ls : List Leaf) → PerformsStep advanced old mid →
-    Tabulates ts (then_events (λ b. branch_events b kinds.Then) (then_events (branches_events kinds.Then) (then_events (body_events kinds.Else) (word_events kinds.End))))
+    AppendsEntries ts (then_events (λ b. branch_events b kinds.Then) (then_events (branches_events kinds.Then) (then_events (body_events kinds.Else) (word_events kinds.End))))
     (then_rows branch_rows (then_rows branches_rows (then_rows body_rows word_rows))) c mid new result
     (seq (branch_with expr block kinds.Then) (seq (many (accept_at kinds.Elsif) (branch_with expr block kinds.Then)) (seq (optional (accept_at kinds.Else) block) (expect_at kinds.End))) ls) →
-    Tabulates ts stmt_events stmt_rows c old new result (node constructs.Statement (prefixed (word kinds.If) (if_with expr block)) ls)
+    AppendsEntries ts stmt_events stmt_rows c old new result (node constructs.Statement (prefixed (word kinds.If) (if_with expr block)) ls)
 unfolding if_with
 if_told ts c expr block old mid new result ls h t =
     told_statement ts c (then_events (λ b. branch_events b kinds.Then) (then_events (branches_events kinds.Then) (then_events (body_events kinds.Else) (word_events kinds.End))))
@@ -177,10 +177,10 @@ if_told ts c expr block old mid new result ls h t =
 -- ---- WHILE
 
 pub while_told : (ts : List Token) (c : Context) (expr block : Reader) (old mid new : TableBuilder) (result : Result Cursor Stop) (ls : List Leaf) → PerformsStep advanced old mid →
-    Tabulates ts (then_events (λ b. branch_events b kinds.Do) (then_events (branches_events kinds.Do) (word_events kinds.End)))
+    AppendsEntries ts (then_events (λ b. branch_events b kinds.Do) (then_events (branches_events kinds.Do) (word_events kinds.End)))
     (then_rows branch_rows (then_rows branches_rows word_rows)) c mid new result
     (seq (branch_with expr block kinds.Do) (seq (many (accept_at kinds.Elsif) (branch_with expr block kinds.Do)) (expect_at kinds.End)) ls) →
-    Tabulates ts stmt_events stmt_rows c old new result (node constructs.Statement (prefixed (word kinds.While) (while_with expr block)) ls)
+    AppendsEntries ts stmt_events stmt_rows c old new result (node constructs.Statement (prefixed (word kinds.While) (while_with expr block)) ls)
 unfolding while_with
 while_told ts c expr block old mid new result ls h t =
     told_statement ts c (then_events (λ b. branch_events b kinds.Do) (then_events (branches_events kinds.Do) (word_events kinds.End))) (then_rows branch_rows (then_rows branches_rows word_rows))
@@ -190,9 +190,9 @@ while_told ts c expr block old mid new result ls h t =
 -- ---- REPEAT
 
 pub repeat_told : (ts : List Token) (c : Context) (expr block : Reader) (old mid new : TableBuilder) (result : Result Cursor Stop) (ls : List Leaf) → PerformsStep advanced old mid →
-    Tabulates ts (then_events block_events (then_events (word_events kinds.Until) expr_events)) (then_rows block_rows (then_rows word_rows expr_rows)) c mid new result
+    AppendsEntries ts (then_events block_events (then_events (word_events kinds.Until) expr_events)) (then_rows block_rows (then_rows word_rows expr_rows)) c mid new result
     (seq block (seq (expect_at kinds.Until) expr) ls) →
-    Tabulates ts stmt_events stmt_rows c old new result (node constructs.Statement (prefixed (word kinds.Repeat) (repeat_with expr block)) ls)
+    AppendsEntries ts stmt_events stmt_rows c old new result (node constructs.Statement (prefixed (word kinds.Repeat) (repeat_with expr block)) ls)
 unfolding repeat_with
 repeat_told ts c expr block old mid new result ls h t =
     told_statement ts c (then_events block_events (then_events (word_events kinds.Until) expr_events)) (then_rows block_rows (then_rows word_rows expr_rows))
@@ -202,9 +202,9 @@ repeat_told ts c expr block old mid new result ls h t =
 -- ---- CASE
 
 pub cases_told : (ts : List Token) (c : Context) (expr block : Reader) (old mid new : TableBuilder) (result : Result Cursor Stop) (ls : List Leaf) → PerformsStep advanced old mid →
-    Tabulates ts (then_events expr_events (then_events (word_events kinds.Of) cases_end_events)) (then_rows expr_rows (then_rows word_rows cases_end_rows)) c mid new result
+    AppendsEntries ts (then_events expr_events (then_events (word_events kinds.Of) cases_end_events)) (then_rows expr_rows (then_rows word_rows cases_end_rows)) c mid new result
     (seq expr (seq (expect_at kinds.Of) (seq (case_with block) (seq (many (accept_at kinds.Bar) (case_with block)) (expect_at kinds.End)))) ls) →
-    Tabulates ts stmt_events stmt_rows c old new result (node constructs.Statement (prefixed (word kinds.Case) (cases_with expr block)) ls)
+    AppendsEntries ts stmt_events stmt_rows c old new result (node constructs.Statement (prefixed (word kinds.Case) (cases_with expr block)) ls)
 unfolding cases_with
 cases_told ts c expr block old mid new result ls h t =
     told_statement ts c (then_events expr_events (then_events (word_events kinds.Of) cases_end_events)) (then_rows expr_rows (then_rows word_rows cases_end_rows))
@@ -218,9 +218,9 @@ regrouped p q r c s =
     after_both p (both q r) c s ∙ after_both q r c (after p c s) ∙ ap (after r c) (sym (after_both p q c s)) ∙ sym (after_both (both p q) r c s)
 
 pub case_told : (ts : List Token) (c : Context) (block : Reader) (old new : TableBuilder) (input : Cursor) (result : Result Cursor Stop) → begins label_first (remaining ts input) ≡ Some ([], remaining ts input) →
-    Tabulates ts (then_events labels_events (then_events (word_events kinds.Colon) block_events)) (then_rows labels_rows (then_rows word_rows block_rows)) c old new result
+    AppendsEntries ts (then_events labels_events (then_events (word_events kinds.Colon) block_events)) (then_rows labels_rows (then_rows word_rows block_rows)) c old new result
     (seq (several kinds.Comma label_range_at) (seq (expect_at kinds.Colon) block) (remaining ts input)) →
-    Tabulates ts case_events case_rows c old new result (case_with block (remaining ts input))
+    AppendsEntries ts case_events case_rows c old new result (case_with block (remaining ts input))
 unfolding case_with
 case_told ts c block old new input result e t =
     let f : OneOrMore LabelRange × (Unit {0} × StatementSequence) → Events = then_events labels_events (then_events (word_events kinds.Colon) block_events) in
@@ -233,7 +233,7 @@ case_told ts c block old new input result e t =
     (told_there ts f (λ x. after (p x) c) (begins label_first) (seq (several kinds.Comma label_range_at) (seq (expect_at kinds.Colon) block)) [] old new input result (remaining ts input) e t))
 
 pub no_case : (ts : List Token) (c : Context) (block : Reader) (d : TableBuilder) (here : Cursor) → begins label_first (remaining ts here) ≡ None →
-    IsTabulated ts case_events (λ x. after (case_rows x) c) d d here (case_with block (remaining ts here))
+    HasAppendedEntries ts case_events (λ x. after (case_rows x) c) d d here (case_with block (remaining ts here))
 unfolding case_with
 no_case ts c block d here e = record {
   out = construct constructs.Case [];
@@ -254,9 +254,9 @@ for_parts x =
     (out-roll-For (record { variable = x.0; from = x.1.1.0; to = x.1.1.1.1.0; by = x.1.1.1.1.1.0; body = x.1.1.1.1.1.1.1.0 }))
 
 pub for_told : (ts : List Token) (c : Context) (expr block : Reader) (old mid new : TableBuilder) (result : Result Cursor Stop) (ls : List Leaf) → PerformsStep advanced old mid →
-    Tabulates ts (then_events used (then_events (word_events kinds.Assign) (then_events expr_events for_limit_events))) (then_rows for_variable_rows (then_rows word_rows (then_rows expr_rows for_limit_rows))) c mid new result
+    AppendsEntries ts (then_events used (then_events (word_events kinds.Assign) (then_events expr_events for_limit_events))) (then_rows for_variable_rows (then_rows word_rows (then_rows expr_rows for_limit_rows))) c mid new result
     (seq (name_at used) (seq (expect_at kinds.Assign) (seq expr (seq (expect_at kinds.To) (seq expr (seq (optional (accept_at kinds.By) expr) (seq (expect_at kinds.Do) (seq block (expect_at kinds.End)))))))) ls) →
-    Tabulates ts stmt_events stmt_rows c old new result (node constructs.Statement (prefixed (word kinds.For) (for_with expr block)) ls)
+    AppendsEntries ts stmt_events stmt_rows c old new result (node constructs.Statement (prefixed (word kinds.For) (for_with expr block)) ls)
 unfolding for_with
 for_told ts c expr block old mid new result ls h t =
     told_statement ts c (then_events used (then_events (word_events kinds.Assign) (then_events expr_events for_limit_events))) (then_rows for_variable_rows (then_rows word_rows (then_rows expr_rows for_limit_rows)))
@@ -266,7 +266,7 @@ for_told ts c expr block old mid new result ls h t =
 
 -- the variable of a FOR, whose entry is appended before its identifier is read
 pub variable_read : (ts : List Token) (c : Context) (n : ℕ) (old new : TableBuilder) (input rest : Cursor) → identifier_at (remaining ts input) ≡ Ok (n, remaining ts rest) → PerformsStep (after variable_rows c) old new →
-    IsTabulated ts used (λ x. after (for_variable_rows x) c) old new rest (name_at used (remaining ts input))
+    HasAppendedEntries ts used (λ x. after (for_variable_rows x) c) old new rest (name_at used (remaining ts input))
 unfolding name_at
 variable_read ts c n old new input rest e h = record {
   out = used n;

@@ -39,12 +39,12 @@ use Rattle.ob_grammar.specs.declared.cursor.Cursor.{Cursor}
 use Rattle.ob_grammar.specs.declared.stop.Stop.{Stop}
 use Rattle.ob_grammar.specs.Lookahead.{uncons}
 use Rattle.ob_grammar.specs.Combinators.{Read, Reader, accept_at, expect_at, many, node, nothing, optional, prefixed, seq, several, unless}
-use Rattle.ob_grammar.specs.AgreesWith.{Fails, remaining}
+use Rattle.ob_grammar.specs.ParsesAs.{Fails, remaining}
 use Rattle.ob_grammar.specs.ReadExpressions.{expr_at}
 use Rattle.ob_grammar.specs.ReadNames.{qualident_at, identdef_at}
 use Rattle.ob_grammar.specs.ReadTypes.{field_start, fields_with, record_with, optional_parameters_at, type_at, type_from, type_with, var_with}
 use Rattle.table_reader.specs.TypeShapes.{base_events, base_rows, type_after_token_events, type_after_token_rows, closed_events, ended_events, ended_rows, field_events, field_rows, more_lengths_rows, more_events, length_rows, list_rows, record_stage, optional_fields_events, optional_fields_rows, optional_parameters_events, optional_parameters_rows}
-use Rattle.table_reader.specs.Tabulating.{Tabulates, TabulatesBy}
+use Rattle.table_reader.specs.Tabulating.{AppendsEntries, AppendsEntriesBy}
 use Rattle.table_reader.proofs.Made.{boxed}
 use Rattle.table_reader.proofs.Combine.{told_at, told_as, told_node, told_then, told_prefixed, told_behind, told_walked, failed_node, failed_prefixed, failed_then}
 use Rattle.table_reader.proofs.Lists.{word_after}
@@ -61,9 +61,9 @@ var_after x c s =
     ∙ sym (regrouped _ _ (type_after_token_rows x.1) c s)
 
 pub var_told : (ts : List Token) (c : Context) (d : ℕ) (old mid new : TableBuilder) (input here : Cursor) (result : Result Cursor Stop) →
-    Tabulates ts (separated kinds.Comma identdef_events) (list_rows identdef_rows) c old mid (Ok here) (several kinds.Comma identdef_at (remaining ts input)) →
-    Tabulates ts (type_after_token_events kinds.Colon) type_after_token_rows c mid new result (seq (expect_at kinds.Colon) (type_at d) (remaining ts here)) →
-    Tabulates ts var_events var_rows c old new result (var_with (type_at d) (remaining ts input))
+    AppendsEntries ts (separated kinds.Comma identdef_events) (list_rows identdef_rows) c old mid (Ok here) (several kinds.Comma identdef_at (remaining ts input)) →
+    AppendsEntries ts (type_after_token_events kinds.Colon) type_after_token_rows c mid new result (seq (expect_at kinds.Colon) (type_at d) (remaining ts here)) →
+    AppendsEntries ts var_events var_rows c old new result (var_with (type_at d) (remaining ts input))
 unfolding var_with
 var_told ts c d old mid new input here result a b =
     told_as ts (λ (x : OneOrMore Identdef × TypeForm). separated kinds.Comma identdef_events x.0 ++ type_after_token_events kinds.Colon x.1) (λ x. after (both (list_rows identdef_rows x.0) (type_after_token_rows x.1)) c)
@@ -76,8 +76,8 @@ var_failed ts d e ls h = failed_then ts (several kinds.Comma identdef_at) (seq (
 
 pub field_told : (ts : List Token) (c around : Context) (d : ℕ) (row : DeclGroup) (at : ℕ) (old opened last new : TableBuilder) (input here : Cursor) →
     row ≡ decl_group decl_kinds.Field c old.number 0 → at ≡ length old.decl_groups.items → around ≡ declaring_at c old.number → PerformsStep (added (one_decl_group row)) old opened →
-    Tabulates ts var_events var_rows around opened last (Ok here) (var_with (type_at d) (remaining ts input)) →
-    PerformsStep (closed at row) last new → Tabulates ts field_events field_rows c old new (Ok here) (node constructs.FieldList (var_with (type_at d)) (remaining ts input))
+    AppendsEntries ts var_events var_rows around opened last (Ok here) (var_with (type_at d) (remaining ts input)) →
+    PerformsStep (closed at row) last new → AppendsEntries ts field_events field_rows c old new (Ok here) (node constructs.FieldList (var_with (type_at d)) (remaining ts input))
 field_told ts c around d row at old opened last new input here n e g a t b =
     told_node ts var_events (λ v. after (field_rows v) c) constructs.FieldList (var_with (type_at d)) old new (Ok here) (remaining ts input)
     (declaring_told ts decl_kinds.Field c var_events var_rows row around at old opened last new here _ n e g a t b)
@@ -94,9 +94,9 @@ fields_parts : (x : VarDecl × (Vec VarDecl × Bool)) → fields_rows (fields_of
 fields_parts x = effect.fields_out (fields_of x) ∙ ap (λ y. both (field_rows y.first) (ended_rows (y.rest, y.closing_semicolon))) (out-roll-Fields (record { first = x.0; rest = x.1.0; closing_semicolon = x.1.1 }))
 
 pub fields_told : (ts : List Token) (c : Context) (d : ℕ) (old mid new : TableBuilder) (input here : Cursor) (result : Result Cursor Stop) →
-    Tabulates ts field_events field_rows c old mid (Ok here) (field_at d (remaining ts input)) →
-    Tabulates ts ended_events ended_rows c mid new result (seq (many field_start (field_at d)) (optional (accept_at kinds.Semicolon) nothing) (remaining ts here)) →
-    Tabulates ts fields_events fields_rows c old new result (fields_with (type_at d) (remaining ts input))
+    AppendsEntries ts field_events field_rows c old mid (Ok here) (field_at d (remaining ts input)) →
+    AppendsEntries ts ended_events ended_rows c mid new result (seq (many field_start (field_at d)) (optional (accept_at kinds.Semicolon) nothing) (remaining ts here)) →
+    AppendsEntries ts fields_events fields_rows c old new result (fields_with (type_at d) (remaining ts input))
 unfolding fields_with
 fields_told ts c d old mid new input here result a b =
     told_as ts (λ (x : VarDecl × (Vec VarDecl × Bool)). field_events x.0 ++ ended_events x.1) (λ x. after (both (field_rows x.0) (ended_rows x.1)) c)
@@ -116,8 +116,8 @@ abbrev pub boxed_piece : Box Fields → Fragment
 boxed_piece f = fields_rows f.value
 
 pub some_fields_told : (ts : List Token) (c : Context) (d : ℕ) (old new : TableBuilder) (input : Cursor) (result : Result Cursor Stop) →
-    unless kinds.End (remaining ts input) ≡ Some ([], remaining ts input) → Tabulates ts fields_events fields_rows c old new result (fields_with (type_at d) (remaining ts input)) →
-    Tabulates ts optional_fields_events optional_fields_rows c old new result (optional (unless kinds.End) (fields_with (type_at d)) (remaining ts input))
+    unless kinds.End (remaining ts input) ≡ Some ([], remaining ts input) → AppendsEntries ts fields_events fields_rows c old new result (fields_with (type_at d) (remaining ts input)) →
+    AppendsEntries ts optional_fields_events optional_fields_rows c old new result (optional (unless kinds.End) (fields_with (type_at d)) (remaining ts input))
 some_fields_told ts c d old new input result found t =
     there_told ts c boxed_outline boxed_piece (unless kinds.End) (fields_with (type_at d)) old new input result found
     (told_as ts fields_events (λ f. after (fields_rows f) c) boxed_outline (λ f. after (boxed_piece f) c) (λ f. boxed old.uses.alloc f) (λ f. refl) (λ f s. refl) old new result _ t)
@@ -132,9 +132,9 @@ base_at = optional (accept_at kinds.LeftParen) (seq qualident_at (expect_at kind
 
 pub parts_told : (ts : List Token) (c around : Context) (base : Option Qualident) (d : ℕ) (old row following context last new : TableBuilder) (input here : Cursor) (result : Result Cursor Stop) →
     around ≡ in_record c old.number → PerformsStep (λ s. added (record_row base c s.number) s) old row → PerformsStep advanced row following → PerformsStep (after (base_rows base) around) following context →
-    Tabulates ts optional_fields_events optional_fields_rows around context last (Ok here) (optional (unless kinds.End) (fields_with (type_at d)) (remaining ts input)) →
-    TabulatesBy ts (λ (_ : Unit {0}). word kinds.End) (λ x s. advanced s) last new result (expect_at kinds.End (remaining ts here)) →
-    TabulatesBy ts closed_events (record_stage base c) old new result (parts_at d (remaining ts input))
+    AppendsEntries ts optional_fields_events optional_fields_rows around context last (Ok here) (optional (unless kinds.End) (fields_with (type_at d)) (remaining ts input)) →
+    AppendsEntriesBy ts (λ (_ : Unit {0}). word kinds.End) (λ x s. advanced s) last new result (expect_at kinds.End (remaining ts here)) →
+    AppendsEntriesBy ts closed_events (record_stage base c) old new result (parts_at d (remaining ts input))
 parts_told ts c around base d old row following context last new input here result e a b h t u =
     let f : Option (Box Fields) × Unit {0} → Events = λ x. optional_fields_events x.0 ++ word kinds.End in
     told_at ts f (λ x s. advanced (after (optional_fields_rows x.0) around (after (base_rows base) around (advanced (added (record_row base c s.number) s)))))
@@ -158,8 +158,8 @@ record_after base f c s =
 
 pub record_told : (ts : List Token) (c : Context) (base : Option Qualident) (d : ℕ) (old mid new : TableBuilder) (input here : Cursor) (result : Result Cursor Stop) →
     base_at (remaining ts input) ≡ Ok (base_events base, remaining ts here) → PerformsStep (λ s. added (part_row parts.Record c s.number) s) old mid →
-    TabulatesBy ts closed_events (record_stage base c) mid new result (parts_at d (remaining ts here)) →
-    Tabulates ts type_events type_rows c old new result (node constructs.RecordType (prefixed (word kinds.Record) (record_with (type_at d))) (remaining ts input))
+    AppendsEntriesBy ts closed_events (record_stage base c) mid new result (parts_at d (remaining ts here)) →
+    AppendsEntries ts type_events type_rows c old new result (node constructs.RecordType (prefixed (word kinds.Record) (record_with (type_at d))) (remaining ts input))
 unfolding record_with
 record_told ts c base d old mid new input here result e a t =
     let f : Unit {0} × Option (Box Fields) → Events = λ x. base_events base ++ closed_events x.1 in
@@ -186,9 +186,9 @@ lengths_parts : (x : Expr × Vec Expr) → lengths_rows (lengths_of x) ≡ both 
 lengths_parts x = effect.lengths_out (lengths_of x) ∙ ap (λ y. both (expr_rows y.first) (more_lengths_rows y.rest)) (out-roll-ExprList (record { first = x.0; rest = x.1 }))
 
 pub lengths_told : (ts : List Token) (c : Context) (d : ℕ) (old mid new : TableBuilder) (input here : Cursor) (result : Result Cursor Stop) →
-    Tabulates ts expr_events expr_rows c old mid (Ok here) (expr_at d (remaining ts input)) →
-    Tabulates ts (more_events kinds.Comma expr_events) more_lengths_rows c mid new result (many (accept_at kinds.Comma) (expr_at d) (remaining ts here)) →
-    Tabulates ts expr_list_events lengths_rows c old new result (several kinds.Comma (expr_at d) (remaining ts input))
+    AppendsEntries ts expr_events expr_rows c old mid (Ok here) (expr_at d (remaining ts input)) →
+    AppendsEntries ts (more_events kinds.Comma expr_events) more_lengths_rows c mid new result (many (accept_at kinds.Comma) (expr_at d) (remaining ts here)) →
+    AppendsEntries ts expr_list_events lengths_rows c old new result (several kinds.Comma (expr_at d) (remaining ts input))
 unfolding several
 lengths_told ts c d old mid new input here result a b =
     told_as ts (λ (x : Expr × Vec Expr). expr_events x.0 ++ more_events kinds.Comma expr_events x.1) (λ x. after (both (expr_rows x.0) (more_lengths_rows x.1)) c)
@@ -203,8 +203,8 @@ length_after e c s =
 
 -- after an entry of a type's component at a token, by which the builder advances
 pub told_part : {A : Type 0} (ts : List Token) (c : Context) (part : Part) (f : A → Events) (p : A → Stage → Stage) (old mid following new : TableBuilder) (result : Result Cursor Stop) (read : Read) →
-    PerformsStep (λ s. added (part_row part c s.number) s) old mid → PerformsStep advanced mid following → TabulatesBy ts f p following new result read →
-    TabulatesBy ts f (λ x s. p x (advanced (added (part_row part c s.number) s))) old new result read
+    PerformsStep (λ s. added (part_row part c s.number) s) old mid → PerformsStep advanced mid following → AppendsEntriesBy ts f p following new result read →
+    AppendsEntriesBy ts f (λ x s. p x (advanced (added (part_row part c s.number) s))) old new result read
 told_part ts c part f p old mid following new result read a b t =
     told_behind ts f (λ x s. p x (advanced s)) (λ s. added (part_row part c s.number) s) old mid new result read a (told_behind ts f p advanced mid following new result read b t)
 
@@ -219,9 +219,9 @@ array_after l t c s =
 
 pub array_told : (ts : List Token) (c around : Context) (d : ℕ) (old mid following last new : TableBuilder) (input here : Cursor) (result : Result Cursor Stop) →
     around ≡ in_array c zero → PerformsStep (λ s. added (part_row parts.Array c s.number) s) old mid → PerformsStep advanced mid following →
-    Tabulates ts expr_list_events lengths_rows c following last (Ok here) (several kinds.Comma (expr_at d) (remaining ts input)) →
-    Tabulates ts (type_after_token_events kinds.Of) type_after_token_rows around last new result (seq (expect_at kinds.Of) (type_at d) (remaining ts here)) →
-    Tabulates ts type_events type_rows c old new result
+    AppendsEntries ts expr_list_events lengths_rows c following last (Ok here) (several kinds.Comma (expr_at d) (remaining ts input)) →
+    AppendsEntries ts (type_after_token_events kinds.Of) type_after_token_rows around last new result (seq (expect_at kinds.Of) (type_at d) (remaining ts here)) →
+    AppendsEntries ts type_events type_rows c old new result
     (node constructs.ArrayType (prefixed (word kinds.Array) (seq (several kinds.Comma (expr_at d)) (seq (expect_at kinds.Of) (type_at d)))) (remaining ts input))
 array_told ts c around d old mid following last new input here result e a b t u =
     let f : ExprList × TypeForm → Events = λ x. expr_list_events x.0 ++ type_after_token_events kinds.Of x.1 in
@@ -248,8 +248,8 @@ pointer_after t c s =
 
 pub pointer_told : (ts : List Token) (c around : Context) (d : ℕ) (old mid following new : TableBuilder) (input : Cursor) (result : Result Cursor Stop) →
     around ≡ in_pointer c zero → PerformsStep (λ s. added (part_row parts.Pointer c s.number) s) old mid → PerformsStep advanced mid following →
-    Tabulates ts (type_after_token_events kinds.To) type_after_token_rows around following new result (seq (expect_at kinds.To) (type_at d) (remaining ts input)) →
-    Tabulates ts type_events type_rows c old new result (node constructs.PointerType (prefixed (word kinds.Pointer) (seq (expect_at kinds.To) (type_at d))) (remaining ts input))
+    AppendsEntries ts (type_after_token_events kinds.To) type_after_token_rows around following new result (seq (expect_at kinds.To) (type_at d) (remaining ts input)) →
+    AppendsEntries ts type_events type_rows c old new result (node constructs.PointerType (prefixed (word kinds.Pointer) (seq (expect_at kinds.To) (type_at d))) (remaining ts input))
 pointer_told ts c around d old mid following new input result e a b t =
     let p : TypeForm → Stage → Stage = λ x s. after (type_after_token_rows x) around (advanced (added (part_row parts.Pointer c s.number) s)) in
     let r : Reader = seq (expect_at kinds.To) (type_at d) in
@@ -275,8 +275,8 @@ procedure_after o c s =
 
 block_told : (ts : List Token) (c around : Context) (old mid following new : TableBuilder) (result : Result Cursor Stop) (read : Read) →
     around ≡ in_block c old.number → PerformsStep (added (block_rows c old.number)) old mid → PerformsStep advanced mid following →
-    Tabulates ts optional_parameters_events optional_parameters_rows around following new result read →
-    Tabulates ts optional_parameters_events (λ o. opens_block (both token (optional_parameters_rows o))) c old new result read
+    AppendsEntries ts optional_parameters_events optional_parameters_rows around following new result read →
+    AppendsEntries ts optional_parameters_events (λ o. opens_block (both token (optional_parameters_rows o))) c old new result read
 block_told ts c around old mid following new result read e a b t =
     told_at ts optional_parameters_events (λ o s. after (optional_parameters_rows o) around (advanced (added (block_rows c old.number) s)))
     optional_parameters_events (λ o. after (opens_block (both token (optional_parameters_rows o))) c) (λ o. o) (λ o. refl) old new result read
@@ -287,8 +287,8 @@ block_told ts c around old mid following new result read e a b t =
 
 pub procedure_told : (ts : List Token) (c around : Context) (old part block following new : TableBuilder) (input : Cursor) (result : Result Cursor Stop) →
     around ≡ in_block c part.number → PerformsStep (λ s. added (part_row parts.Procedure c s.number) s) old part → PerformsStep (added (block_rows c part.number)) part block → PerformsStep advanced block following →
-    Tabulates ts optional_parameters_events optional_parameters_rows around following new result (optional_parameters_at (remaining ts input)) →
-    Tabulates ts type_events type_rows c old new result (node constructs.ProcedureType (prefixed (word kinds.Procedure) optional_parameters_at) (remaining ts input))
+    AppendsEntries ts optional_parameters_events optional_parameters_rows around following new result (optional_parameters_at (remaining ts input)) →
+    AppendsEntries ts type_events type_rows c old new result (node constructs.ProcedureType (prefixed (word kinds.Procedure) optional_parameters_at) (remaining ts input))
 procedure_told ts c around old part block following new input result e h a b t =
     let p : Option Parameters → Stage → Stage = λ o s. after (opens_block (both token (optional_parameters_rows o))) c (added (part_row parts.Procedure c s.number) s) in
     told_as ts (λ o. construct constructs.ProcedureType (word kinds.Procedure ++ optional_parameters_events o)) p type_events (λ x. after (type_rows x) c)
@@ -301,7 +301,7 @@ procedure_told ts c around old part block following new input result e h a b t =
 ---- a type name
 
 pub named_told : (ts : List Token) (c : Context) (q : Qualident) (r : Reader) (old new : TableBuilder) (ls : List Leaf) (rest : Cursor) →
-    r ls ≡ Ok (qualident_events q, remaining ts rest) → PerformsStep (after (type_name_rows q) c) old new → Tabulates ts type_events type_rows c old new (Ok rest) (node constructs.NamedType r ls)
+    r ls ≡ Ok (qualident_events q, remaining ts rest) → PerformsStep (after (type_name_rows q) c) old new → AppendsEntries ts type_events type_rows c old new (Ok rest) (node constructs.NamedType r ls)
 named_told ts c q r old new ls rest e h =
     told_as ts (λ (x : Qualident). construct constructs.NamedType (qualident_events x)) (λ x. after (type_name_rows x) c) type_events (λ x. after (type_rows x) c)
     (λ x. forms.Named x) (λ x. events.named_made x) (λ x s. ap (λ (p : Fragment). after p c s) (effect.named_made x)) old new (Ok rest) _
@@ -312,7 +312,7 @@ named_told ts c q r old new ls rest e h =
 
 -- a type with this first token
 pub told_type : {A : Type 0} (ts : List Token) (f : A → Events) (p : A → Stage → Stage) (d : ℕ) (old new : TableBuilder) (result : Result Cursor Stop) (ls : List Leaf) (o : Option (Leaf × List Leaf)) → uncons ls ≡ o →
-    TabulatesBy ts f p old new result (type_from (expr_at d) (type_at d) o) → TabulatesBy ts f p old new result (type_with (expr_at d) (type_at d) ls)
+    AppendsEntriesBy ts f p old new result (type_from (expr_at d) (type_at d) o) → AppendsEntriesBy ts f p old new result (type_with (expr_at d) (type_at d) ls)
 unfolding type_with
 told_type ts f p d old new result ls o e t = rw e t
 

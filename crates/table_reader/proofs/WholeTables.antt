@@ -7,12 +7,12 @@ use Rattle.ob_scan.specs.declared.kind.Kind.TheVariants.{Ident}
 use Rattle.ob_scan.specs.declared.token.Token.{Token}
 use Rattle.ob_tree.specs.declared.declaration.Module.{Module}
 use Rattle.ob_tree.specs.Declaring.{module_events}
-use Rattle.ob_tree.specs.Derives.{Derives, endings_in}
+use Rattle.ob_tree.specs.Derives.{Derives, end_names_in}
 use Rattle.ob_tree.specs.TreeEvents.{Events}
 use Rattle.ob_grammar.specs.Ends.{AreTokenNumbers}
 use Rattle.ob_grammar.specs.Combinators.{ReadError}
 use Rattle.ob_grammar.specs.Parsed.{IsEndFault, IsFirstWrong, IsOneTree, IsRightEnd, IsTheTree, kinds_of, read_as_module}
-use Rattle.ob_grammar.proofs.OneTree.{endings_are_known, one_tree}
+use Rattle.ob_grammar.proofs.OneTree.{endings_are_known, tree_is_unique}
 use Rattle.module_table.specs.Parts.{Rows}
 use Rattle.module_table.specs.Trees.{AreTreeRows}
 use Rattle.table_rules.specs.Declaring.{rows_of}
@@ -27,22 +27,22 @@ pub record Whole (us : List Token) (rows : Rows) : Type 0 where
   pub of : Module
   pub tree : IsOneTree us of
   pub rows_are : rows ≡ rows_of of
-  pub endings_are : map ending_of rows.ends ≡ endings_in (module_events of)
+  pub endings_are : map ending_of rows.ends ≡ end_names_in (module_events of)
   pub in_range : All (AreTokenNumbers us) (map ending_of rows.ends)
 
 -- a module whose event sequence was read is the tree of the tokens
 pub whole_tree : (us : List Token) (out : Events) (rows : Rows) (m : Module) → read_as_module us ≡ Ok out → module_events m ≡ out → rows ≡ rows_of m →
-    (Derives (kinds_of us) m → map ending_of (rows_of m).ends ≡ endings_in (module_events m)) → Whole us rows
+    (Derives (kinds_of us) m → map ending_of (rows_of m).ends ≡ end_names_in (module_events m)) → Whole us rows
 whole_tree us out rows m read has_events are law =
     let as_read = read ∙ ap read_as (sym has_events) in
-    let one = one_tree us m as_read in
-    let endings = ap (λ (r : Rows). map ending_of r.ends) are ∙ law one.derived in
+    let one = tree_is_unique us m as_read in
+    let collect_end_names = ap (λ (r : Rows). map ending_of r.ends) are ∙ law one.derived in
     record {
       of = m;
       tree = one;
       rows_are = are;
-      endings_are = endings;
-      in_range = subst (All (AreTokenNumbers us)) (sym endings) (endings_are_known us (module_events m) as_read);
+      endings_are = collect_end_names;
+      in_range = subst (All (AreTokenNumbers us)) (sym collect_end_names) (endings_are_known us (module_events m) as_read);
     }
 
 -- if its names after END are right

@@ -5,7 +5,7 @@ use Rattle.ob_scan.specs.declared.kind.Kind.TheVariants as kinds
 use Rattle.ob_tree.specs.declared.token.Leaf.{Leaf}
 use Rattle.ob_tree.specs.declared.token.Leaf.TheVariants as leafs
 
--- the kind is one of these operators
+-- a token of this kind is an operator between two factors, two terms or two simple expressions
 abbrev pub is_operator : Kind → Bool
 is_operator kinds.Star = true
 is_operator kinds.Slash = true
@@ -25,7 +25,7 @@ is_operator kinds.In = true
 is_operator kinds.Is = true
 is_operator k = false
 
--- the token is one of these operators
+-- this token is an operator between two factors, two terms or two simple expressions
 abbrev pub operator_first : Leaf → Bool
 operator_first (leafs.Name n) = false
 operator_first (leafs.Value v n) = false

@@ -1,4 +1,4 @@
--- Reserved entries for selectors: they are appended by an estimate, which is corrected when the selectors have been read.
+-- Reserved selector entries. Their number is an estimate, which is corrected while and after the selectors are parsed.
 use Rattle.std.specs.Prelude.{◌≡◌, ℕ, zero, suc, ◌+◌, ◌<◌, ◌≤◌, ◌⊎◌, false, List, [], ◌∷◌, set}
 use Rattle.std.specs.List.{insert, remove_range}
 use Rattle.module_table.specs.declared.rows.Designator.{Designator as DesignatorRow}
@@ -7,11 +7,11 @@ use Rattle.module_table.specs.declared.rows.Step.TheVariants as steps
 use Rattle.module_table.specs.declared.builder.TableBuilder.{TableBuilder}
 use Rattle.module_table.specs.TableStages.{Stage, stage_of}
 
--- a reserved entry for a selector of the designator with this head
+-- a reserved selector entry; `head` is the index of the designator's first identifier
 abbrev pub placeholder : ℕ → SelectorRow
 placeholder head = record { of = head; step = steps.Target }
 
--- n reserved entries
+-- n reserved selector entries of one designator
 abbrev pub slots : ℕ → ℕ → List SelectorRow
 slots head zero = []
 slots head (suc n) = placeholder head ∷ slots head n
@@ -28,7 +28,8 @@ removed from end s = record { number = s.number; rows = record (s.rows) { select
 unfoldable pub written : ℕ → DesignatorRow → Stage → Stage
 written at row s = record { number = s.number; rows = record (s.rows) { designators = set s.rows.designators at row } }
 
--- the index `slot` is before the end of the reserved entries, or one more entry was inserted at the end; `now` is the new end
+-- unless an allocation failed: `slot` is before `end`, the end of the reserved entries, and nothing has changed; or `slot` isn't, and one
+-- entry was inserted at `end`; `now` is the new end
 abbrev pub EnsuresSlot : ℕ → ℕ → ℕ → TableBuilder → TableBuilder → ℕ → Type 0
 EnsuresSlot head slot end old new now = new.failed ≡ false → (old.failed ≡ false)
     × (((slot < end) × (stage_of new ≡ stage_of old) × (now ≡ end)) ⊎ ((end ≤ slot) × (stage_of new ≡ inserted end (placeholder head) (stage_of old)) × (now ≡ end + 1)))

@@ -29,56 +29,56 @@ compared_events = shown_there (λ c. word (relation_kind c.0) ++ sum_events c.1.
 abbrev pub compared_rows : Compared → Fragment
 compared_rows = if_present (λ c. both token (sum_rows c.1.value))
 
--- a sign, if it is present
+-- the events of a sign, if it is present
 abbrev pub sign_events : Option Sign → Events
 sign_events = shown_there (λ x. word (sign_kind x))
 
 abbrev pub sign_rows : Option Sign → Fragment
 sign_rows = if_present (λ x. token)
 
--- terms, each after an operator
+-- the events of the further terms of a simple expression, each after an operator
 abbrev pub terms_events : Vec (AddOperator × Term) → Events
 terms_events v = shown_each (λ p. word (add_kind p.0) ++ term_events p.1) v.items
 
 abbrev pub terms_rows : Vec (AddOperator × Term) → Fragment
 terms_rows v = each (λ p. both token (term_rows p.1)) v.items
 
--- factors, each after an operator
+-- the events of the further factors of a term, each after an operator
 abbrev pub factors_events : Vec (MulOperator × Factor) → Events
 factors_events v = shown_each (λ p. word (mul_kind p.0) ++ factor_events p.1) v.items
 
 abbrev pub factors_rows : Vec (MulOperator × Factor) → Fragment
 factors_rows v = each (λ p. both token (factor_rows p.1)) v.items
 
--- the upper bound of a range, if it is present
+-- the events of `..` and the upper bound of a range in a set, if they are present
 abbrev pub high_events : Option Expr → Events
 high_events = shown_there (λ e. word kinds.DotDot ++ expr_events e)
 
 abbrev pub high_rows : Option Expr → Fragment
 high_rows = if_present (λ e. both token (expr_rows e))
 
--- elements, each after a comma
+-- the events of the further elements of a set, each after a comma
 abbrev pub elements_events : Vec Element → Events
 elements_events v = shown_after kinds.Comma element_events v.items
 
 abbrev pub elements_rows : Vec Element → Fragment
 elements_rows v = each_after element_rows v.items
 
--- expressions, each after a comma
+-- the events of the further expressions of a list, each after a comma
 abbrev pub exprs_events : Vec Expr → Events
 exprs_events v = shown_after kinds.Comma expr_events v.items
 
 abbrev pub exprs_rows : Vec Expr → Fragment
 exprs_rows v = each_after expr_rows v.items
 
--- the elements of a set, if it has any
+-- the events of the elements of a set, if it has any
 abbrev pub set_events : Option (Box ElementList) → Events
 set_events = shown_there (λ l. element_list_events l.value)
 
 abbrev pub set_rows : Option (Box ElementList) → Fragment
 set_rows = if_present (λ l. element_list_rows l.value)
 
--- the arguments of a call, if it has any
+-- the events of the arguments of a call, if it has any
 abbrev pub arguments_events : Option (Box ExprList) → Events
 arguments_events = shown_there (λ l. expr_list_events l.value)
 

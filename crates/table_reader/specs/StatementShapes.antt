@@ -22,10 +22,11 @@ use Rattle.table_rules.specs.Expressions.{each_after, expr_rows}
 use Rattle.table_rules.specs.Statements.{label_rows, label_range_rows, case_rows, stmt_rows, block_rows, branch_rows, variable_rows}
 use Rattle.table_reader.specs.SelectorSlots.{written}
 
--- one part after the other
+-- the events of two consecutive parts: those of the first part, then those of the second
 abbrev pub then_events : {A B : Type 0} → (A → Events) → (B → Events) → A × B → Events
 then_events f g x = f x.0 ++ g x.1
 
+-- the entries of two consecutive parts: those of the first part, then those of the second
 abbrev pub then_rows : {A B : Type 0} → (A → Fragment) → (B → Fragment) → A × B → Fragment
 then_rows p q x = both (p x.0) (q x.1)
 
@@ -36,7 +37,7 @@ word_events k x = word k
 abbrev pub word_rows : Unit {0} → Fragment
 word_rows x = token
 
--- the upper bound of a range of labels, if it is present
+-- the events of `..` and the upper bound of a range of labels, if they are present
 abbrev pub high_label_events : Option Label → Events
 high_label_events = shown_there (λ l. word kinds.DotDot ++ label_events l)
 
@@ -64,7 +65,7 @@ statements_events v = shown_after kinds.Semicolon stmt_events v.items
 abbrev pub statements_rows : Vec Stmt → Fragment
 statements_rows v = each_after stmt_rows v.items
 
--- branches, each after ELSIF, with this keyword before their statements
+-- the events of branches, each after ELSIF; the keyword, THEN or DO, is between the condition and the statements of each
 abbrev pub branches_events : Kind → Vec Branch → Events
 branches_events k v = shown_after kinds.Elsif (λ b. branch_events b k) v.items
 
@@ -78,31 +79,31 @@ cases_events v = shown_after kinds.Bar case_events v.items
 abbrev pub cases_rows : Vec Case → Fragment
 cases_rows v = each_after case_rows v.items
 
--- the statements after a keyword, if they are present
+-- the events of this keyword and the statements after it, if they are present
 abbrev pub body_events : Kind → Option (Box StatementSequence) → Events
 body_events k = shown_there (λ b. word k ++ block_events b.value)
 
 abbrev pub body_rows : Option (Box StatementSequence) → Fragment
 body_rows = if_present (λ b. both token (block_rows b.value))
 
--- the expression after a keyword, if it is present
+-- the events of this keyword and the expression after it, if they are present
 abbrev pub value_events : Kind → Option Expr → Events
 value_events k = shown_there (λ e. word k ++ expr_events e)
 
 abbrev pub value_rows : Option Expr → Fragment
 value_rows = if_present (λ e. both token (expr_rows e))
 
--- the right side of an assignment, if it is present: then the entry of the designator with this head, at index `at`, says that it is
--- written
+-- the stage after the right side of an assignment, if present: the assigned designator's entry, at index `at`, says that it is assigned
+-- to; the entries of the right side are appended; `head` is the index of the designator's first identifier
 abbrev pub assigned_stage : ℕ → ℕ → Context → Option Expr → Stage → Stage
 assigned_stage head at c None s = s
 assigned_stage head at c (Some e) s = after (both token (expr_rows e)) c (written at (record { head = head; block = c.block; is_written = true }) s)
 
--- the variable of a FOR statement
+-- the entries of the variable of a FOR statement; its index doesn't matter
 abbrev pub for_variable_rows : ℕ → Fragment
 for_variable_rows n = variable_rows
 
--- the cases of a CASE statement, and its END
+-- the cases of a CASE statement, the first one apart from the others, and its END
 abbrev pub CasesEnd : Type 0
 CasesEnd = Case × (Vec Case × Unit {0})
 
@@ -112,7 +113,7 @@ cases_end_events = then_events case_events (then_events cases_events (word_event
 abbrev pub cases_end_rows : CasesEnd → Fragment
 cases_end_rows = then_rows case_rows (then_rows cases_rows word_rows)
 
--- a FOR statement from its DO on
+-- the parts of a FOR statement from its DO on: DO, statements and END
 abbrev pub ForBody : Type 0
 ForBody = Unit {0} × (StatementSequence × Unit {0})
 
@@ -122,7 +123,7 @@ for_body_events = then_events (word_events kinds.Do) (then_events block_events (
 abbrev pub for_body_rows : ForBody → Fragment
 for_body_rows = then_rows word_rows (then_rows block_rows word_rows)
 
--- a FOR statement from its TO on
+-- the parts of a FOR statement from its TO on: TO, the limit, the step if it is present, and the parts from DO on
 abbrev pub ForLimit : Type 0
 ForLimit = Unit {0} × (Expr × (Option Expr × ForBody))
 

@@ -1,49 +1,52 @@
--- The results of the pass over the tokens: what was parsed, and the entries that were appended for it.
+-- Relations between the result of a parsing function and the entries that it appends.
 use Rattle.std.specs.Prelude.{◌≡◌, false, List, Result, Ok, Err}
 use Rattle.ob_scan.specs.declared.token.Token.{Token}
 use Rattle.ob_tree.specs.TreeEvents.{Events}
 use Rattle.ob_grammar.specs.declared.cursor.Cursor.{Cursor}
 use Rattle.ob_grammar.specs.declared.stop.Stop.{Stop}
 use Rattle.ob_grammar.specs.Combinators.{Read, ReadError}
-use Rattle.ob_grammar.specs.AgreesWith.{Fails, remaining}
+use Rattle.ob_grammar.specs.ParsesAs.{Fails, remaining}
 use Rattle.module_table.specs.declared.builder.TableBuilder.{TableBuilder}
 use Rattle.module_table.specs.declared.builder.Context.{Context}
 use Rattle.module_table.specs.TableStages.{Stage, stage_of, after}
 use Rattle.module_table.specs.Parts.{Fragment}
 
--- some tree has these events, and appending its entries leads from the old stage of the builder to the new one; no program makes this
--- tree
+-- some tree has these events, and `step` for this tree leads from the old stage of the builder to the new one; the tree exists only in
+-- proofs
 pub record HasTree {T : Type 0} (events_of : T → Events) (step : T → Stage → Stage) (out : Events) (old new : TableBuilder) : Type 0 where
   pub tree : T
   pub has_events : events_of tree ≡ out
   pub comes : stage_of new ≡ step tree (stage_of old)
 
--- if no allocation of the new builder failed, none of the old one did, and there is a tree for it
-abbrev pub TabulatesTree : {T : Type 0} → (T → Events) → (T → Stage → Stage) → Events → TableBuilder → TableBuilder → Type 0
-TabulatesTree events_of step out old new = new.failed ≡ false → (old.failed ≡ false) × HasTree events_of step out old new
+-- unless an allocation of the new builder failed: none of the old builder failed; and `step`, for some tree with the events `out`, leads
+-- from the old builder's stage to the new one's
+abbrev pub AppendsTreeEntries : {T : Type 0} → (T → Events) → (T → Stage → Stage) → Events → TableBuilder → TableBuilder → Type 0
+AppendsTreeEntries events_of step out old new = new.failed ≡ false → (old.failed ≡ false) × HasTree events_of step out old new
 
--- the reader read events up to this cursor, and the entries of a tree with these events were appended
-pub record IsTabulated {T : Type 0} (ts : List Token) (events_of : T → Events) (step : T → Stage → Stage) (old new : TableBuilder) (rest : Cursor) (read : Read) : Type 0 where
+-- the reader returns the events up to the cursor `rest`; unless an allocation failed, the entries of a tree with these events are appended
+pub record HasAppendedEntries {T : Type 0} (ts : List Token) (events_of : T → Events) (step : T → Stage → Stage) (old new : TableBuilder) (rest : Cursor) (read : Read) : Type 0 where
   pub out : Events
   pub is_read : read ≡ Ok (out, remaining ts rest)
-  pub tabulates : TabulatesTree events_of step out old new
+  pub tabulates : AppendsTreeEntries events_of step out old new
 
--- a part was parsed and its entries appended, or the reader fails
-abbrev pub TabulatesBy : {T : Type 0} → List Token → (T → Events) → (T → Stage → Stage) → TableBuilder → TableBuilder → Result Cursor Stop → Read → Type 0
-TabulatesBy ts events_of step old new (Ok rest) read = IsTabulated ts events_of step old new rest read
-TabulatesBy ts events_of step old new (Err e) read = Fails ts e read
+-- with `Ok` the parser stops at the cursor where the grammar's reader stops, and exactly the entries of what it read are appended, unless
+-- an allocation failed; with `Err` the reader fails for the same reason, or an allocation failed
+abbrev pub AppendsEntriesBy : {T : Type 0} → List Token → (T → Events) → (T → Stage → Stage) → TableBuilder → TableBuilder → Result Cursor Stop → Read → Type 0
+AppendsEntriesBy ts events_of step old new (Ok rest) read = HasAppendedEntries ts events_of step old new rest read
+AppendsEntriesBy ts events_of step old new (Err e) read = Fails ts e read
 
--- `TabulatesBy` for a part whose step appends its entries
-abbrev pub Tabulates : {T : Type 0} → List Token → (T → Events) → (T → Fragment) → Context → TableBuilder → TableBuilder → Result Cursor Stop → Read → Type 0
-Tabulates ts events_of piece context old new result read = TabulatesBy ts events_of (λ x. after (piece x) context) old new result read
+-- `AppendsEntriesBy`, with the step that appends the entries of the fragment `piece x` for the parsed tree x
+abbrev pub AppendsEntries : {T : Type 0} → List Token → (T → Events) → (T → Fragment) → Context → TableBuilder → TableBuilder → Result Cursor Stop → Read → Type 0
+AppendsEntries ts events_of piece context old new result read = AppendsEntriesBy ts events_of (λ x. after (piece x) context) old new result read
 
--- the reader read all tokens, and the entries of a tree with these events were appended
-pub record IsTabulatedModule {T : Type 0} (events_of : T → Events) (step : T → Stage → Stage) (old new : TableBuilder) (read : Result Events ReadError) : Type 0 where
+-- the reader's result is the events of all tokens; unless an allocation failed, the entries of a tree with these events are appended
+pub record HasAppendedModuleEntries {T : Type 0} (events_of : T → Events) (step : T → Stage → Stage) (old new : TableBuilder) (read : Result Events ReadError) : Type 0 where
   pub out : Events
   pub is_read : read ≡ Ok out
-  pub tabulates : TabulatesTree events_of step out old new
+  pub tabulates : AppendsTreeEntries events_of step out old new
 
--- all tokens were parsed and their entries appended, or the reader fails
-abbrev pub TabulatesModule : {T : Type 0} → List Token → (T → Events) → (T → Stage → Stage) → TableBuilder → TableBuilder → Result (Unit {0}) Stop → Result Events ReadError → Type 0
-TabulatesModule ts events_of step old new (Ok u) read = IsTabulatedModule events_of step old new read
-TabulatesModule ts events_of step old new (Err e) read = Fails ts e read
+-- with `Ok` the reader reads all tokens, and their entries are appended, unless an allocation failed; with `Err` the reader fails for the
+-- same reason, or an allocation failed
+abbrev pub AppendsModuleEntries : {T : Type 0} → List Token → (T → Events) → (T → Stage → Stage) → TableBuilder → TableBuilder → Result (Unit {0}) Stop → Result Events ReadError → Type 0
+AppendsModuleEntries ts events_of step old new (Ok u) read = HasAppendedModuleEntries events_of step old new read
+AppendsModuleEntries ts events_of step old new (Err e) read = Fails ts e read

@@ -28,18 +28,18 @@ use Rattle.ob_grammar.specs.Combinators.{Reader, accept_at, expect_at, many, nam
 use Rattle.ob_grammar.specs.ReadNames.{qualident_at}
 use Rattle.ob_grammar.specs.ReadTypes.{section_at}
 
--- the further items of a list, each after a token of this kind
+-- the events of the further items of a list, each after a token of this kind; `f` returns the events of an item
 abbrev pub more_events : {X : Type 0} → Kind → (X → Events) → Vec X → Events
 more_events k f v = shown_after k f v.items
 
 abbrev pub more_rows : {X : Type 0} → (X → Fragment) → Vec X → Fragment
 more_rows p v = each_after p v.items
 
--- one item or more
+-- the entries of one item or more with a separator between items; `p` returns the entries of an item
 abbrev pub list_rows : {X : Type 0} → (X → Fragment) → OneOrMore X → Fragment
 list_rows p l = both (p l.first) (each_after p l.rest.items)
 
--- an optional token
+-- the events of a token of this kind if the flag is true, none otherwise
 abbrev pub optional_word_events : Kind → Bool → Events
 optional_word_events k b = shown_so b (word k)
 
@@ -48,15 +48,15 @@ optional_word_rows b = if_true b token
 
 -- ---- formal parameters
 
--- a name as a formal type
+-- the entries of a type name as a formal type
 abbrev pub formal_name_rows : Qualident → Fragment
 formal_name_rows q = with_rows (name_part q) (qualident_rows q)
 
--- n times ARRAY OF
+-- the events of n times ARRAY OF
 abbrev pub arrays_events : ℕ → Events
 arrays_events n = times n (word kinds.Array ++ word kinds.Of)
 
--- a formal type
+-- the events of a formal type: a number of ARRAY OF, and a type name
 abbrev pub formal_events : ℕ × Qualident → Events
 formal_events x = arrays_events x.0 ++ qualident_events x.1
 
@@ -66,28 +66,28 @@ formal_at = seq (many (accept_at kinds.Array) (expect_at kinds.Of)) qualident_at
 abbrev pub formal_rows : ℕ × Qualident → Fragment
 formal_rows x = both (open_arrays x.0) (formal_name_rows x.1)
 
--- the parts of a section
+-- the events of a section of formal parameters, without the section itself: VAR if present, the names, a colon and the formal type
 abbrev pub inner_events : ParameterSection → Events
 inner_events s = shown_so s.variable (word kinds.Var) ++ (separated kinds.Comma (declared false) s.names ++ (word kinds.Colon ++ (arrays_events s.open_arrays ++ qualident_events s.of)))
 
 abbrev pub inner_at : Reader
 inner_at = seq (optional (accept_at kinds.Var) nothing) (seq (several kinds.Comma (name_at (declared false))) (seq (expect_at kinds.Colon) formal_at))
 
--- the sections of formal parameters, if there are any
+-- the events of the sections of formal parameters, if there are any
 abbrev pub sections_events : Option (OneOrMore ParameterSection) → Events
 sections_events = shown_there (separated kinds.Semicolon section_events)
 
 abbrev pub sections_rows : Option (OneOrMore ParameterSection) → Fragment
 sections_rows = if_present (λ l. both (section_rows l.first) (each_after section_rows l.rest.items))
 
--- the type of a result, if it is present
+-- the events of a colon and the type of a result, if they are present
 abbrev pub result_type_events : Option Qualident → Events
 result_type_events = shown_there (λ q. word kinds.Colon ++ qualident_events q)
 
 abbrev pub result_type_rows : Option Qualident → Fragment
 result_type_rows = if_present (λ q. both token (qualident_rows q))
 
--- the closing parenthesis of formal parameters, and the type of the result
+-- the events of the closing parenthesis of formal parameters, and of the result type if it is present
 abbrev pub closing_events : Option Qualident → Events
 closing_events o = word kinds.RightParen ++ result_type_events o
 
@@ -97,7 +97,7 @@ closing_rows o = both token (result_type_rows o)
 abbrev pub closing_at : Reader
 closing_at = seq (expect_at kinds.RightParen) (optional (accept_at kinds.Colon) qualident_at)
 
--- formal parameters after their opening parenthesis
+-- the events of formal parameters after their opening parenthesis
 abbrev pub opened_events : Option (OneOrMore ParameterSection) × Option Qualident → Events
 opened_events x = sections_events x.0 ++ closing_events x.1
 
@@ -107,7 +107,7 @@ opened_rows x = both (sections_rows x.0) (closing_rows x.1)
 abbrev pub opened_at : Reader
 opened_at = seq (optional (unless kinds.RightParen) (several kinds.Semicolon section_at)) closing_at
 
--- formal parameters, if they are present
+-- the events of formal parameters, if they are present
 abbrev pub optional_parameters_events : Option Parameters → Events
 optional_parameters_events = shown_there parameters_events
 
@@ -116,57 +116,57 @@ optional_parameters_rows = if_present parameters_rows
 
 -- ---- types
 
--- a type after a token of this kind
+-- the events of a token of this kind and a type
 abbrev pub type_after_token_events : Kind → TypeForm → Events
 type_after_token_events k t = word k ++ type_events t
 
 abbrev pub type_after_token_rows : TypeForm → Fragment
 type_after_token_rows t = both token (type_rows t)
 
--- the further lengths of an array, each of which is an array of its own
+-- the entries of a further length of an array, which begins an array type of its own
 abbrev pub length_rows : Expr → Fragment
 length_rows e = both (with_rows (part_row parts.Array) token) (expr_rows e)
 
 abbrev pub more_lengths_rows : Vec Expr → Fragment
 more_lengths_rows v = each length_rows v.items
 
--- a field list
+-- the events of a field list
 abbrev pub field_events : VarDecl → Events
 field_events v = construct constructs.FieldList (var_events v)
 
 abbrev pub field_rows : VarDecl → Fragment
 field_rows v = declaring decl_kinds.Field (var_rows v)
 
--- field lists, each after a semicolon
+-- the entries of the further field lists of a record, each after a semicolon
 abbrev pub more_fields_rows : Vec VarDecl → Fragment
 more_fields_rows = more_rows field_rows
 
--- the further field lists, and the semicolon that may follow them
+-- the events of the further field lists of a record, and of the semicolon after them if the flag is true
 abbrev pub ended_events : Vec VarDecl × Bool → Events
 ended_events x = more_events kinds.Semicolon field_events x.0 ++ optional_word_events kinds.Semicolon x.1
 
 abbrev pub ended_rows : Vec VarDecl × Bool → Fragment
 ended_rows x = both (more_fields_rows x.0) (optional_word_rows x.1)
 
--- the base of a record, if it is present
+-- the events of the base type of a record, in parentheses, if it is present
 abbrev pub base_events : Option Qualident → Events
 base_events = shown_there (λ q. word kinds.LeftParen ++ (qualident_events q ++ word kinds.RightParen))
 
 abbrev pub base_rows : Option Qualident → Fragment
 base_rows = if_present (λ q. both token (both (qualident_rows q) token))
 
--- the field lists of a record, if there are any
+-- the events of the field lists of a record, if there are any
 abbrev pub optional_fields_events : Option (Box Fields) → Events
 optional_fields_events = shown_there (λ f. fields_events f.value)
 
 abbrev pub optional_fields_rows : Option (Box Fields) → Fragment
 optional_fields_rows = if_present (λ f. fields_rows f.value)
 
--- the stage after a record with this base, from its RECORD to its END
+-- the stage of the table builder after a record type with this base and these fields, from RECORD to END
 abbrev pub record_stage : Option Qualident → Context → Option (Box Fields) → Stage → Stage
 record_stage base c f s =
     advanced (after (optional_fields_rows f) (in_record c s.number) (after (base_rows base) (in_record c s.number) (advanced (added (record_row base c s.number) s))))
 
--- the fields of a record and its END
+-- the events of the fields of a record, if it has any, and its END
 abbrev pub closed_events : Option (Box Fields) → Events
 closed_events f = optional_fields_events f ++ word kinds.End

@@ -1,5 +1,8 @@
-//! Declarations: constants, types, variables and procedures (Oberon-07 report, sections 5, 6, 7 and 10). Each function parses one
-//! production, as the parser does, and appends its table entries.
+//! Declarations: constants, types, variables and procedures (Oberon-07 report, sections 5, 6, 7 and 10). Each function parses the
+//! production or part that its name states, and appends the table entries of what it parses.
+//! Clauses: the builder has counted exactly the tokens before the cursor, before a call (`requires`) and, with `Ok`, after it (`number`).
+//! `effect`: the function returns what the grammar's reader, the last argument, returns for these tokens, unless it returns the error
+//! `Memory`. With `Ok`, unless an allocation failed, it has appended exactly the entries (`.._rows`) of the parsed tree.
 
 ghost use Rattle.std.specs.Prelude.{◌≡◌, ◌+◌, ◌<◌, ◌^◌, ◌++◌, ℕ, Option, IfOk};
 ghost use Rattle.std.specs.Global.{Vec};
@@ -24,12 +27,12 @@ ghost use Rattle.ob_grammar.specs.ReadNames.{identdef_at};
 ghost use Rattle.ob_grammar.specs.ReadStatements.{block_at};
 ghost use Rattle.ob_grammar.specs.ReadTypes.{type_at, var_with};
 ghost use Rattle.ob_grammar.specs.ReadModules.{ConsumesToken, is_identifier, with_semicolon, const_with, type_decl_with, variable_with, section_with, procedures_with, body_with, procedure_named, procedure_with, procedure_at, declarations_at};
-ghost use Rattle.ob_grammar.specs.AgreesWith.{remaining};
+ghost use Rattle.ob_grammar.specs.ParsesAs.{remaining};
 ghost use Rattle.ob_grammar.proofs.Loops.{const_shortens, type_decl_shortens, variable_shortens};
 ghost use Rattle.ob_grammar.proofs.SoundExpressions.{expr_at_sound};
 ghost use Rattle.ob_grammar.proofs.SoundTypes.{type_at_sound};
 ghost use Rattle.table_reader.specs.DeclarationShapes.{ended_events, ended_rows, procedures_events, body_events, body_rows, returned_events, returned_rows, procedure_rest_events, procedure_rest_rows, procedure_block_events, block_step, ending_events, ending_step};
-ghost use Rattle.table_reader.specs.Tabulating.{Tabulates, TabulatesBy};
+ghost use Rattle.table_reader.specs.Tabulating.{AppendsEntries, AppendsEntriesBy};
 
 use crate::ends::procedure_end_name;
 use crate::expressions::expression;
@@ -46,7 +49,7 @@ use module_table::{Block as BlockRow, DeclKind};
 use ob_grammar::cursor::Cursor;
 use ob_grammar::declarations::begins_declaration;
 use ob_grammar::stop::Stop;
-use ob_grammar::tokens::{accept, depth_stop, identifier, is_at, skip};
+use ob_grammar::tokens::{accept, depth_stop, identifier, next_is, skip};
 use ob_scan::Kind;
 use ob_tree::declaration::{ConstDecl, TypeDecl, VarDecl};
 use ob_tree::name::Identdef as Name;
@@ -54,14 +57,16 @@ use table_rules::walk::types::append_identdef;
 
 /// A kind of declarations with a section of its own: constants, types or variables.
 trait Declaration {
-    // the reader of a declaration in which this many levels of nesting are left, its events, and its entries
+    // The grammar's reader of such a declaration, without the semicolon. Its argument is the number of nesting levels that are left.
     ghost read: { ℕ → Reader };
 
+    // The events of a parsed declaration: its tokens and constructs in order.
     ghost events: { Self → Events };
 
+    // The table entries of a parsed declaration.
     ghost effect: { Self → Fragment };
 
-    // the construct that the declaration is
+    // The construct of the grammar that such a declaration is.
     ghost production: { Construct };
 
     /// Parses a declaration without its semicolon.
@@ -73,9 +78,10 @@ trait Declaration {
         depth: u32,
     ) -> Result<Cursor, Stop>
         requires { builder.old.number ≡ input.at }
-        ensures effect { Tabulates source.now.tokens.now events effect context builder.old builder.new result (read depth (remaining source.now.tokens.now input)) }
+        ensures effect { AppendsEntries source.now.tokens.now events effect context builder.old builder.new result (read depth (remaining source.now.tokens.now input)) }
         ensures number { IfOk result (λ rest. builder.new.number ≡ rest.at) };
 
+    // A proof that the reader consumes at least one token.
     ghost shortens: { (depth : ℕ) → ConsumesToken (node production (read depth)) };
 }
 
@@ -158,7 +164,7 @@ impl Declaration for VarDecl {
 }
 
 /// Parses a declaration of this kind and its semicolon.
-fn ended<D: Declaration>(
+fn declaration_with_semicolon<D: Declaration>(
     builder: &mut TableBuilder,
     context: Context,
     source: &ParserInput,
@@ -167,7 +173,7 @@ fn ended<D: Declaration>(
     decl_kind: DeclKind,
 ) -> Result<Cursor, Stop>
     requires { builder.old.number ≡ input.at }
-    ensures effect { Tabulates source.now.tokens.now (ended_events (λ x. construct D.production (D.events x))) (ended_rows (λ x. declaring decl_kind (D.effect x))) context builder.old builder.new result
+    ensures effect { AppendsEntries source.now.tokens.now (ended_events (λ x. construct D.production (D.events x))) (ended_rows (λ x. declaring decl_kind (D.effect x))) context builder.old builder.new result
         (with_semicolon (node D.production (D.read depth)) (remaining source.now.tokens.now input)) }
     ensures number { IfOk result (λ rest. builder.new.number ≡ rest.at) }
 {
@@ -199,13 +205,13 @@ fn declared<D: Declaration>(
     decl_kind: DeclKind,
 ) -> Result<Cursor, Stop>
     requires { builder.old.number ≡ input.at }
-    ensures effect { Tabulates {T = Vec D} source.now.tokens.now (λ v. each (ended_events (λ x. construct D.production (D.events x))) v.items) (λ v. parts.each (ended_rows (λ x. declaring decl_kind (D.effect x))) v.items) context builder.old builder.new result
+    ensures effect { AppendsEntries {T = Vec D} source.now.tokens.now (λ v. each (ended_events (λ x. construct D.production (D.events x))) v.items) (λ v. parts.each (ended_rows (λ x. declaring decl_kind (D.effect x))) v.items) context builder.old builder.new result
         (many (begins is_identifier) (with_semicolon (node D.production (D.read depth))) (remaining source.now.tokens.now input)) }
     ensures number { IfOk result (λ rest. builder.new.number ≡ rest.at) }
 {
     let mut here = input;
     'more: while begins_declaration(source.tokens, here) {
-        match ended::<D>(builder, context, source, here, depth, decl_kind) {
+        match declaration_with_semicolon::<D>(builder, context, source, here, depth, decl_kind) {
             Ok(next) => here = next,
             Err(stop) => return Err(stop),
         }
@@ -224,7 +230,7 @@ fn declaration_section<D: Declaration>(
     decl_kind: DeclKind,
 ) -> Result<Cursor, Stop>
     requires { builder.old.number ≡ input.at }
-    ensures effect { Tabulates {T = Option (Vec D)} source.now.tokens.now (if_present (λ v. part keyword (λ x. construct D.production (D.events x)) v.items)) (parts.if_present (λ v. tabulates.part (λ x. declaring decl_kind (D.effect x)) v.items)) context builder.old builder.new result
+    ensures effect { AppendsEntries {T = Option (Vec D)} source.now.tokens.now (if_present (λ v. part keyword (λ x. construct D.production (D.events x)) v.items)) (parts.if_present (λ v. tabulates.part (λ x. declaring decl_kind (D.effect x)) v.items)) context builder.old builder.new result
         (section_with keyword (node D.production (D.read depth)) (remaining source.now.tokens.now input)) }
     ensures number { IfOk result (λ rest. builder.new.number ≡ rest.at) }
 {
@@ -237,7 +243,7 @@ fn declaration_section<D: Declaration>(
     }
 }
 
-/// Parses the procedures of a declaration sequence.
+/// Parses the procedures of a declaration sequence, which may have none, each with its semicolon.
 #[cycle(declarations)]
 fn procedures(
     builder: &mut TableBuilder,
@@ -247,12 +253,12 @@ fn procedures(
     depth: u32,
 ) -> Result<Cursor, Stop>
     requires { builder.old.number ≡ input.at }
-    ensures effect { Tabulates {T = Vec ProcDecl} source.now.tokens.now (λ v. procedures_events v.items) (λ v. parts.each (ended_rows procedure_rows) v.items) context builder.old builder.new result
+    ensures effect { AppendsEntries {T = Vec ProcDecl} source.now.tokens.now (λ v. procedures_events v.items) (λ v. parts.each (ended_rows procedure_rows) v.items) context builder.old builder.new result
         (procedures_with (procedure_at depth) (remaining source.now.tokens.now input)) }
     ensures number { IfOk result (λ rest. builder.new.number ≡ rest.at) }
 {
     let mut here = input;
-    'more: while is_at(source.tokens, here, Kind::Procedure) {
+    'more: while next_is(source.tokens, here, Kind::Procedure) {
         match procedure_with_semicolon(builder, context, source, here, depth) {
             Ok(next) => here = next,
             Err(stop) => return Err(stop),
@@ -261,8 +267,7 @@ fn procedures(
     Ok(here)
 }
 
-/// Parses a procedure and its semicolon. Like some other functions of this crate it is always inlined, so that a level of nesting takes
-/// as many calls as in `ob_parse`.
+/// Parses a procedure and its semicolon. It is always inlined, so that a level of nesting takes as few calls as in `ob_parse`.
 #[inline(always)]
 #[cycle(declarations)]
 fn procedure_with_semicolon(
@@ -273,7 +278,7 @@ fn procedure_with_semicolon(
     depth: u32,
 ) -> Result<Cursor, Stop>
     requires { builder.old.number ≡ input.at }
-    ensures effect { Tabulates source.now.tokens.now (ended_events procedure_events) (ended_rows procedure_rows) context builder.old builder.new result
+    ensures effect { AppendsEntries source.now.tokens.now (ended_events procedure_events) (ended_rows procedure_rows) context builder.old builder.new result
         (with_semicolon (procedure_at depth) (remaining source.now.tokens.now input)) }
     ensures number { IfOk result (λ rest. builder.new.number ≡ rest.at) }
 {
@@ -283,7 +288,7 @@ fn procedure_with_semicolon(
     }
 }
 
-/// Parses a procedure, for which `depth` levels of nesting are left. It is a level itself.
+/// Parses a procedure, which takes one of the `depth` nesting levels that are left. If none is left, returns an error.
 #[cycle(declarations)]
 fn procedure(
     builder: &mut TableBuilder,
@@ -293,22 +298,22 @@ fn procedure(
     depth: u32,
 ) -> Result<Cursor, Stop>
     requires { builder.old.number ≡ input.at }
-    ensures effect { Tabulates source.now.tokens.now procedure_events procedure_rows context builder.old builder.new result (procedure_at depth (remaining source.now.tokens.now input)) }
+    ensures effect { AppendsEntries source.now.tokens.now procedure_events procedure_rows context builder.old builder.new result (procedure_at depth (remaining source.now.tokens.now input)) }
     ensures number { IfOk result (λ rest. builder.new.number ≡ rest.at) }
 {
     if depth == 0 {
         return Err(depth_stop(
             source.tokens,
             input,
-            is_at(source.tokens, input, Kind::Procedure),
+            next_is(source.tokens, input, Kind::Procedure),
         ));
     }
-    procedure_within(builder, context, source, input, depth - 1)
+    procedure_after_depth_check(builder, context, source, input, depth - 1)
 }
 
-/// Parses a procedure, in whose parts `depth` levels of nesting are left.
+/// Parses a procedure. `depth` is the number of nesting levels left for its parts: the procedure's own level is already subtracted.
 #[cycle(declarations)]
-fn procedure_within(
+fn procedure_after_depth_check(
     builder: &mut TableBuilder,
     context: Context,
     source: &ParserInput,
@@ -316,7 +321,7 @@ fn procedure_within(
     depth: u32,
 ) -> Result<Cursor, Stop>
     requires { builder.old.number ≡ input.at }
-    ensures effect { Tabulates source.now.tokens.now procedure_events procedure_rows context builder.old builder.new result
+    ensures effect { AppendsEntries source.now.tokens.now procedure_events procedure_rows context builder.old builder.new result
         (procedure_with (expr_at depth) (block_at depth) (declarations_at depth) (remaining source.now.tokens.now input)) }
     ensures number { IfOk result (λ rest. builder.new.number ≡ rest.at) }
 {
@@ -337,7 +342,7 @@ fn procedure_within(
     }
 }
 
-/// Parses a procedure inside its own block. Its name is declared in the enclosing block.
+/// Parses a procedure from its PROCEDURE on. `context` has the procedure's declaration group, which declares its name, and its own block.
 #[inline(always)]
 #[cycle(declarations)]
 fn procedure_in_block(
@@ -347,9 +352,10 @@ fn procedure_in_block(
     input: Cursor,
     depth: u32,
 ) -> Result<Cursor, Stop>
+    // The declaration group of the procedure begins at the next token, PROCEDURE.
     requires decl_group { context.decl_group ≡ builder.old.number }
     requires number { builder.old.number ≡ input.at }
-    ensures effect { Tabulates source.now.tokens.now (λ p. word kinds.Procedure ++ procedure_rest_events p) (λ p. both token (procedure_rest_rows p)) context builder.old builder.new result
+    ensures effect { AppendsEntries source.now.tokens.now (λ p. word kinds.Procedure ++ procedure_rest_events p) (λ p. both token (procedure_rest_rows p)) context builder.old builder.new result
         (seq (expect_at kinds.Procedure) (after_name (procedure_named (expr_at depth) (block_at depth) (declarations_at depth))) (remaining source.now.tokens.now input)) }
     ensures number { IfOk result (λ rest. builder.new.number ≡ rest.at) }
 {
@@ -373,14 +379,15 @@ fn procedure_after_name(
     depth: u32,
     name: u32,
 ) -> Result<Cursor, Stop>
+    // The index of the procedure's name, one more than that of PROCEDURE, fits into 32 bits. The builder hasn't counted the name yet.
     requires decl_group { context.decl_group + 1 < 2 ^ 32 }
     requires number { builder.old.number + 1 ≡ input.at }
-    ensures effect { Tabulates source.now.tokens.now procedure_rest_events procedure_rest_rows context builder.old builder.new result
+    ensures effect { AppendsEntries source.now.tokens.now procedure_rest_events procedure_rest_rows context builder.old builder.new result
         (procedure_named (expr_at depth) (block_at depth) (declarations_at depth) name (remaining source.now.tokens.now input)) }
     ensures number { IfOk result (λ rest. builder.new.number ≡ rest.at) }
 {
-    let (starred, here) = skip(source.tokens, input, Kind::Star);
-    append_identdef(builder, context, Name { name, starred });
+    let (is_exported, here) = skip(source.tokens, input, Kind::Star);
+    append_identdef(builder, context, Name { name, is_exported });
     match optional_parameters(builder, context, source.tokens, here) {
         Ok(here) => match expect_word(builder, source.tokens, here, Kind::Semicolon) {
             Ok(here) => procedure_block(builder, context, source, here, depth, name),
@@ -400,15 +407,16 @@ fn procedure_block(
     depth: u32,
     name: u32,
 ) -> Result<Cursor, Stop>
+    // The index of the procedure's name, one more than that of PROCEDURE, fits into 32 bits.
     requires decl_group { context.decl_group + 1 < 2 ^ 32 }
     requires number { builder.old.number ≡ input.at }
-    ensures effect { TabulatesBy source.now.tokens.now (procedure_block_events name) (block_step context) builder.old builder.new result
+    ensures effect { AppendsEntriesBy source.now.tokens.now (procedure_block_events name) (block_step context) builder.old builder.new result
         (seq (declarations_at depth) (seq (body_with (block_at depth)) (seq (optional (accept_at kinds.Return) (expr_at depth))
         (seq (expect_at kinds.End) (name_at (repeated name))))) (remaining source.now.tokens.now input)) }
     ensures number { IfOk result (λ rest. builder.new.number ≡ rest.at) }
 {
     match declarations(builder, context, source, input, depth) {
-        Ok(here) => ending(builder, context, source, here, depth, name),
+        Ok(here) => procedure_ending(builder, context, source, here, depth, name),
         Err(stop) => Err(stop),
     }
 }
@@ -422,7 +430,7 @@ pub(crate) fn body(
     depth: u32,
 ) -> Result<Cursor, Stop>
     requires { builder.old.number ≡ input.at }
-    ensures effect { Tabulates source.now.tokens.now body_events body_rows context builder.old builder.new result (body_with (block_at depth) (remaining source.now.tokens.now input)) }
+    ensures effect { AppendsEntries source.now.tokens.now body_events body_rows context builder.old builder.new result (body_with (block_at depth) (remaining source.now.tokens.now input)) }
     ensures number { IfOk result (λ rest. builder.new.number ≡ rest.at) }
 {
     match accept(source.tokens, input, Kind::Begin) {
@@ -443,7 +451,7 @@ fn optional_return(
     depth: u32,
 ) -> Result<Cursor, Stop>
     requires { builder.old.number ≡ input.at }
-    ensures effect { Tabulates source.now.tokens.now returned_events returned_rows context builder.old builder.new result (optional (accept_at kinds.Return) (expr_at depth) (remaining source.now.tokens.now input)) }
+    ensures effect { AppendsEntries source.now.tokens.now returned_events returned_rows context builder.old builder.new result (optional (accept_at kinds.Return) (expr_at depth) (remaining source.now.tokens.now input)) }
     ensures number { IfOk result (λ rest. builder.new.number ≡ rest.at) }
 {
     match accept(source.tokens, input, Kind::Return) {
@@ -456,7 +464,7 @@ fn optional_return(
 }
 
 /// Parses the part of a procedure after its declarations. `name` is the index of the name that has to be repeated after END.
-fn ending(
+fn procedure_ending(
     builder: &mut TableBuilder,
     context: Context,
     source: &ParserInput,
@@ -464,9 +472,10 @@ fn ending(
     depth: u32,
     name: u32,
 ) -> Result<Cursor, Stop>
+    // The index of the procedure's name, one more than that of PROCEDURE, fits into 32 bits.
     requires decl_group { context.decl_group + 1 < 2 ^ 32 }
     requires number { builder.old.number ≡ input.at }
-    ensures effect { TabulatesBy source.now.tokens.now (ending_events name) (ending_step context) builder.old builder.new result
+    ensures effect { AppendsEntriesBy source.now.tokens.now (ending_events name) (ending_step context) builder.old builder.new result
         (seq (body_with (block_at depth)) (seq (optional (accept_at kinds.Return) (expr_at depth))
         (seq (expect_at kinds.End) (name_at (repeated name)))) (remaining source.now.tokens.now input)) }
     ensures number { IfOk result (λ rest. builder.new.number ≡ rest.at) }
@@ -483,7 +492,7 @@ fn ending(
     }
 }
 
-/// Parses the declarations of a module or a procedure, in which `depth` levels of nesting are left.
+/// Parses the declarations of a module or a procedure. `depth` is the number of nesting levels that are left for them.
 #[cycle(declarations)]
 pub(crate) fn declarations(
     builder: &mut TableBuilder,
@@ -493,7 +502,7 @@ pub(crate) fn declarations(
     depth: u32,
 ) -> Result<Cursor, Stop>
     requires { builder.old.number ≡ input.at }
-    ensures effect { Tabulates source.now.tokens.now declarations_events declarations_rows context builder.old builder.new result (declarations_at depth (remaining source.now.tokens.now input)) }
+    ensures effect { AppendsEntries source.now.tokens.now declarations_events declarations_rows context builder.old builder.new result (declarations_at depth (remaining source.now.tokens.now input)) }
     ensures number { IfOk result (λ rest. builder.new.number ≡ rest.at) }
 {
     match declaration_section::<ConstDecl>(

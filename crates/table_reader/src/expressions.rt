@@ -1,5 +1,8 @@
-//! Expressions (Oberon-07 report, section 8). `depth` is the number of nested levels that are left for what a function parses. Each
-//! function parses one production, as the parser does, and appends its table entries.
+//! Expressions (Oberon-07 report, section 8). Each function parses the production or part that its name states, and appends the table
+//! entries of what it parses. `depth` is the number of nested levels that are left for it.
+//! Clauses: the builder has counted exactly the tokens before the cursor, before a call (`requires`) and, with `Ok`, after it (`number`).
+//! `effect`: the function returns what the grammar's reader, the last argument, returns for these tokens, unless it returns the error
+//! `Memory`. With `Ok`, unless an allocation failed, it has appended exactly the entries (`.._rows`, `.._stage`) of the parsed tree.
 
 ghost use Rattle.std.specs.Prelude.{◌≡◌, ◌+◌, ◌<◌, true, false, length, Ok, IfOk};
 ghost use Rattle.ob_scan.specs.declared.kind.Kind.TheVariants as kinds;
@@ -10,16 +13,16 @@ ghost use Rattle.ob_tree.specs.Expressions.{expr_events, sum_events, term_events
 ghost use Rattle.table_rules.specs.Expressions.{expr_rows, sum_rows, term_rows, factor_rows, designator_rows, element_rows, element_list_rows};
 ghost use Rattle.module_table.specs.TableStages.{after};
 ghost use Rattle.ob_grammar.specs.Combinators.{many, several, optional, unless, nothing, accept_at, expect_at, name_at, begins, seq, prefixed, node};
-ghost use Rattle.ob_grammar.specs.AgreesWith.{remaining};
+ghost use Rattle.ob_grammar.specs.ParsesAs.{remaining};
 ghost use Rattle.ob_grammar.specs.ReadExpressions.{relation_start, sign_start, add_start, mul_start, element_with, selector_first, selector_with, designator_with, expr_at, sum_at, term_at, factor_at, negated_at};
 ghost use Rattle.ob_grammar.specs.Lookahead.{uncons, head_is};
 ghost use Rattle.table_reader.specs.Operators.{is_operator, operator_first};
 ghost use Rattle.table_reader.specs.Shapes.{compared_events, compared_rows, sign_events, sign_rows, terms_events, terms_rows, factors_events, factors_rows, set_events, set_rows, elements_events, elements_rows, high_events, high_rows, arguments_events, arguments_rows};
 ghost use Rattle.table_reader.specs.SelectorShapes.{dot_at, SelectorShape, selector_shape_events, selector_stage, SelectorsShape, selectors_shape_events, selectors_stage, Counts, CountsMore};
-ghost use Rattle.table_reader.specs.Tabulating.{Tabulates, TabulatesBy, IsTabulated};
+ghost use Rattle.table_reader.specs.Tabulating.{AppendsEntries, AppendsEntriesBy, HasAppendedEntries};
 
 use crate::slots::{
-    dot_is_next, ensure_slot, estimate_selectors, reserve_slots, selector_count, sole_name,
+    ensure_slot, estimate_selectors, member_placeholder, reserve_slots, selector_count, sole_name,
     trim_slots,
 };
 use crate::source::ParserInput;
@@ -28,16 +31,17 @@ use module_table::builder::{Context, TableBuilder};
 use module_table::{Designator as DesignatorRow, Selector as SelectorRow, Step};
 use ob_grammar::cursor::Cursor;
 use ob_grammar::operators::{
-    add_operator, begins_expression, begins_factor, begins_selector, mul_operator, relation, sign,
+    begins_expression, begins_factor, begins_selector, parse_add_operator, parse_mul_operator,
+    relation, sign,
 };
 use ob_grammar::stop::Stop;
-use ob_grammar::tokens::{accept, depth_stop, identifier, is_at};
+use ob_grammar::tokens::{accept, depth_stop, identifier, next_is};
 use ob_scan::{Kind, Token};
 use ob_tree::token::Leaf;
 use table_rules::walk::uses::append_use;
 
-/// Parses an expression, which is a level itself. Most expressions are a single factor: one test of the next token for any operator
-/// replaces the tests of `sum` and `term` for their own operators.
+/// Parses an expression, which takes one of the `depth` nesting levels. Most expressions are a single factor: for these, one test that no
+/// operator follows replaces the tests of `sum` and `term` for their own operators.
 #[cycle(expressions)]
 pub(crate) fn expression(
     builder: &mut TableBuilder,
@@ -47,7 +51,7 @@ pub(crate) fn expression(
     depth: u32,
 ) -> Result<Cursor, Stop>
     requires { builder.old.number ≡ input.at }
-    ensures effect { Tabulates source.now.tokens.now expr_events expr_rows context builder.old builder.new result (expr_at depth (remaining source.now.tokens.now input)) }
+    ensures effect { AppendsEntries source.now.tokens.now expr_events expr_rows context builder.old builder.new result (expr_at depth (remaining source.now.tokens.now input)) }
     ensures number { IfOk result (λ rest. builder.new.number ≡ rest.at) }
 {
     if depth == 0 {
@@ -65,7 +69,7 @@ pub(crate) fn expression(
             }
             match more_factors(builder, context, source, here, depth - 1) {
                 Ok(here) => match more_terms(builder, context, source, here, depth - 1) {
-                    Ok(here) => compared(builder, context, source, here, depth - 1),
+                    Ok(here) => comparison(builder, context, source, here, depth - 1),
                     Err(stop) => Err(stop),
                 },
                 Err(stop) => Err(stop),
@@ -75,7 +79,7 @@ pub(crate) fn expression(
     }
 }
 
-/// Whether this is an operator between factors, terms or simple expressions.
+/// Whether a token of this kind is an operator between two factors, two terms or two simple expressions.
 #[inline(always)]
 fn is_operator(kind: Kind) -> bool
     ensures { result ≡ is_operator kind }
@@ -89,7 +93,7 @@ fn is_operator(kind: Kind) -> bool
     }
 }
 
-/// Whether an operator between factors, terms or simple expressions is next.
+/// Whether the next token is an operator between two factors, two terms or two simple expressions.
 #[inline(always)]
 fn is_operator_at(tokens: &[Token], input: Cursor) -> bool
     ensures { result ≡ head_is operator_first (uncons (remaining tokens.now input)) }
@@ -102,7 +106,7 @@ fn is_operator_at(tokens: &[Token], input: Cursor) -> bool
 
 /// Parses a relation and its right operand, if a relation is next.
 #[cycle(expressions)]
-fn compared(
+fn comparison(
     builder: &mut TableBuilder,
     context: Context,
     source: &ParserInput,
@@ -110,7 +114,7 @@ fn compared(
     depth: u32,
 ) -> Result<Cursor, Stop>
     requires { builder.old.number ≡ input.at }
-    ensures effect { Tabulates source.now.tokens.now compared_events compared_rows context builder.old builder.new result (optional relation_start (sum_at depth) (remaining source.now.tokens.now input)) }
+    ensures effect { AppendsEntries source.now.tokens.now compared_events compared_rows context builder.old builder.new result (optional relation_start (sum_at depth) (remaining source.now.tokens.now input)) }
     ensures number { IfOk result (λ rest. builder.new.number ≡ rest.at) }
 {
     match relation(source.tokens, input) {
@@ -122,7 +126,7 @@ fn compared(
     }
 }
 
-/// Parses a simple expression.
+/// Parses a simple expression: an optional sign, and terms with operators between them.
 #[cycle(expressions)]
 fn sum(
     builder: &mut TableBuilder,
@@ -132,7 +136,7 @@ fn sum(
     depth: u32,
 ) -> Result<Cursor, Stop>
     requires { builder.old.number ≡ input.at }
-    ensures effect { Tabulates source.now.tokens.now sum_events sum_rows context builder.old builder.new result (sum_at depth (remaining source.now.tokens.now input)) }
+    ensures effect { AppendsEntries source.now.tokens.now sum_events sum_rows context builder.old builder.new result (sum_at depth (remaining source.now.tokens.now input)) }
     ensures number { IfOk result (λ rest. builder.new.number ≡ rest.at) }
 {
     let here = optional_sign(builder, context, source, input);
@@ -150,7 +154,7 @@ fn optional_sign(
     input: Cursor,
 ) -> Cursor
     requires { builder.old.number ≡ input.at }
-    ensures effect { IsTabulated source.now.tokens.now sign_events (λ x. after (sign_rows x) context) builder.old builder.new result (optional sign_start nothing (remaining source.now.tokens.now input)) }
+    ensures effect { HasAppendedEntries source.now.tokens.now sign_events (λ x. after (sign_rows x) context) builder.old builder.new result (optional sign_start nothing (remaining source.now.tokens.now input)) }
     ensures number { builder.new.number ≡ result.at }
 {
     let (sign, rest) = sign(source.tokens, input);
@@ -171,11 +175,11 @@ fn more_terms(
     depth: u32,
 ) -> Result<Cursor, Stop>
     requires { builder.old.number ≡ input.at }
-    ensures effect { Tabulates source.now.tokens.now terms_events terms_rows context builder.old builder.new result (many add_start (term_at depth) (remaining source.now.tokens.now input)) }
+    ensures effect { AppendsEntries source.now.tokens.now terms_events terms_rows context builder.old builder.new result (many add_start (term_at depth) (remaining source.now.tokens.now input)) }
     ensures number { IfOk result (λ rest. builder.new.number ≡ rest.at) }
 {
     let mut here = input;
-    'more: while let Some((_, following)) = add_operator(source.tokens, here) {
+    'more: while let Some((_, following)) = parse_add_operator(source.tokens, here) {
         builder.advance();
         match term(builder, context, source, following, depth) {
             Ok(next) => here = next,
@@ -185,7 +189,7 @@ fn more_terms(
     Ok(here)
 }
 
-/// Parses a term.
+/// Parses a term: factors with operators between them.
 #[cycle(expressions)]
 fn term(
     builder: &mut TableBuilder,
@@ -195,7 +199,7 @@ fn term(
     depth: u32,
 ) -> Result<Cursor, Stop>
     requires { builder.old.number ≡ input.at }
-    ensures effect { Tabulates source.now.tokens.now term_events term_rows context builder.old builder.new result (term_at depth (remaining source.now.tokens.now input)) }
+    ensures effect { AppendsEntries source.now.tokens.now term_events term_rows context builder.old builder.new result (term_at depth (remaining source.now.tokens.now input)) }
     ensures number { IfOk result (λ rest. builder.new.number ≡ rest.at) }
 {
     match factor(builder, context, source, input, depth) {
@@ -214,11 +218,11 @@ fn more_factors(
     depth: u32,
 ) -> Result<Cursor, Stop>
     requires { builder.old.number ≡ input.at }
-    ensures effect { Tabulates source.now.tokens.now factors_events factors_rows context builder.old builder.new result (many mul_start (factor_at depth) (remaining source.now.tokens.now input)) }
+    ensures effect { AppendsEntries source.now.tokens.now factors_events factors_rows context builder.old builder.new result (many mul_start (factor_at depth) (remaining source.now.tokens.now input)) }
     ensures number { IfOk result (λ rest. builder.new.number ≡ rest.at) }
 {
     let mut here = input;
-    'more: while let Some((_, following)) = mul_operator(source.tokens, here) {
+    'more: while let Some((_, following)) = parse_mul_operator(source.tokens, here) {
         builder.advance();
         match factor(builder, context, source, following, depth) {
             Ok(next) => here = next,
@@ -239,7 +243,7 @@ fn factor(
     depth: u32,
 ) -> Result<Cursor, Stop>
     requires { builder.old.number ≡ input.at }
-    ensures effect { Tabulates source.now.tokens.now factor_events factor_rows context builder.old builder.new result (factor_at depth (remaining source.now.tokens.now input)) }
+    ensures effect { AppendsEntries source.now.tokens.now factor_events factor_rows context builder.old builder.new result (factor_at depth (remaining source.now.tokens.now input)) }
     ensures number { IfOk result (λ rest. builder.new.number ≡ rest.at) }
 {
     match input.next(source.tokens) {
@@ -254,7 +258,9 @@ fn factor(
         Some((Leaf::Word(Kind::LeftParen), rest)) => parenthesized_factor(
             builder, context, source, rest, depth,
         ),
-        Some((Leaf::Word(Kind::Tilde), rest)) => negated(builder, context, source, rest, depth),
+        Some((Leaf::Word(Kind::Tilde), rest)) => negated_factor(
+            builder, context, source, rest, depth,
+        ),
         _ => Err(Stop::Unexpected(input)),
     }
 }
@@ -268,8 +274,9 @@ fn set(
     input: Cursor,
     depth: u32,
 ) -> Result<Cursor, Stop>
+    // The builder hasn't counted the opening brace yet.
     requires { builder.old.number + 1 ≡ input.at }
-    ensures effect { Tabulates source.now.tokens.now factor_events factor_rows context builder.old builder.new result
+    ensures effect { AppendsEntries source.now.tokens.now factor_events factor_rows context builder.old builder.new result
         (node constructs.Factor (prefixed (word kinds.LeftBrace) (seq (optional (unless kinds.RightBrace) (several kinds.Comma (element_with (expr_at depth)))) (expect_at kinds.RightBrace))) (remaining source.now.tokens.now input)) }
     ensures number { IfOk result (λ rest. builder.new.number ≡ rest.at) }
 {
@@ -289,8 +296,9 @@ fn parenthesized_factor(
     input: Cursor,
     depth: u32,
 ) -> Result<Cursor, Stop>
+    // The builder hasn't counted the opening parenthesis yet.
     requires { builder.old.number + 1 ≡ input.at }
-    ensures effect { Tabulates source.now.tokens.now factor_events factor_rows context builder.old builder.new result
+    ensures effect { AppendsEntries source.now.tokens.now factor_events factor_rows context builder.old builder.new result
         (node constructs.Factor (prefixed (word kinds.LeftParen) (seq (expr_at depth) (expect_at kinds.RightParen))) (remaining source.now.tokens.now input)) }
     ensures number { IfOk result (λ rest. builder.new.number ≡ rest.at) }
 {
@@ -301,17 +309,18 @@ fn parenthesized_factor(
     }
 }
 
-/// Parses the factor after a `~`, which is a level itself.
+/// Parses the factor after a `~`, with one level of nesting less. Fails if no level is left.
 #[cycle(expressions)]
-fn negated(
+fn negated_factor(
     builder: &mut TableBuilder,
     context: Context,
     source: &ParserInput,
     input: Cursor,
     depth: u32,
 ) -> Result<Cursor, Stop>
+    // The builder hasn't counted the `~` yet.
     requires { builder.old.number + 1 ≡ input.at }
-    ensures effect { Tabulates source.now.tokens.now factor_events factor_rows context builder.old builder.new result
+    ensures effect { AppendsEntries source.now.tokens.now factor_events factor_rows context builder.old builder.new result
         (node constructs.Factor (prefixed (word kinds.Tilde) (negated_at depth)) (remaining source.now.tokens.now input)) }
     ensures number { IfOk result (λ rest. builder.new.number ≡ rest.at) }
 {
@@ -332,10 +341,10 @@ fn elements(
     depth: u32,
 ) -> Result<Cursor, Stop>
     requires { builder.old.number ≡ input.at }
-    ensures effect { Tabulates source.now.tokens.now set_events set_rows context builder.old builder.new result (optional (unless kinds.RightBrace) (several kinds.Comma (element_with (expr_at depth))) (remaining source.now.tokens.now input)) }
+    ensures effect { AppendsEntries source.now.tokens.now set_events set_rows context builder.old builder.new result (optional (unless kinds.RightBrace) (several kinds.Comma (element_with (expr_at depth))) (remaining source.now.tokens.now input)) }
     ensures number { IfOk result (λ rest. builder.new.number ≡ rest.at) }
 {
-    if is_at(source.tokens, input, Kind::RightBrace) {
+    if next_is(source.tokens, input, Kind::RightBrace) {
         return Ok(input);
     }
     element_list(builder, context, source, input, depth)
@@ -351,7 +360,7 @@ fn element_list(
     depth: u32,
 ) -> Result<Cursor, Stop>
     requires { builder.old.number ≡ input.at }
-    ensures effect { Tabulates source.now.tokens.now element_list_events element_list_rows context builder.old builder.new result (several kinds.Comma (element_with (expr_at depth)) (remaining source.now.tokens.now input)) }
+    ensures effect { AppendsEntries source.now.tokens.now element_list_events element_list_rows context builder.old builder.new result (several kinds.Comma (element_with (expr_at depth)) (remaining source.now.tokens.now input)) }
     ensures number { IfOk result (λ rest. builder.new.number ≡ rest.at) }
 {
     match element(builder, context, source, input, depth) {
@@ -370,7 +379,7 @@ fn more_elements(
     depth: u32,
 ) -> Result<Cursor, Stop>
     requires { builder.old.number ≡ input.at }
-    ensures effect { Tabulates source.now.tokens.now elements_events elements_rows context builder.old builder.new result (many (accept_at kinds.Comma) (element_with (expr_at depth)) (remaining source.now.tokens.now input)) }
+    ensures effect { AppendsEntries source.now.tokens.now elements_events elements_rows context builder.old builder.new result (many (accept_at kinds.Comma) (element_with (expr_at depth)) (remaining source.now.tokens.now input)) }
     ensures number { IfOk result (λ rest. builder.new.number ≡ rest.at) }
 {
     let mut here = input;
@@ -394,18 +403,18 @@ fn element(
     depth: u32,
 ) -> Result<Cursor, Stop>
     requires { builder.old.number ≡ input.at }
-    ensures effect { Tabulates source.now.tokens.now element_events element_rows context builder.old builder.new result (element_with (expr_at depth) (remaining source.now.tokens.now input)) }
+    ensures effect { AppendsEntries source.now.tokens.now element_events element_rows context builder.old builder.new result (element_with (expr_at depth) (remaining source.now.tokens.now input)) }
     ensures number { IfOk result (λ rest. builder.new.number ≡ rest.at) }
 {
     match expression(builder, context, source, input, depth) {
-        Ok(here) => high(builder, context, source, here, depth),
+        Ok(here) => upper_bound(builder, context, source, here, depth),
         Err(stop) => Err(stop),
     }
 }
 
 /// Parses `..` and the upper bound of a range, if `..` is next.
 #[cycle(expressions)]
-fn high(
+fn upper_bound(
     builder: &mut TableBuilder,
     context: Context,
     source: &ParserInput,
@@ -413,7 +422,7 @@ fn high(
     depth: u32,
 ) -> Result<Cursor, Stop>
     requires { builder.old.number ≡ input.at }
-    ensures effect { Tabulates source.now.tokens.now high_events high_rows context builder.old builder.new result (optional (accept_at kinds.DotDot) (expr_at depth) (remaining source.now.tokens.now input)) }
+    ensures effect { AppendsEntries source.now.tokens.now high_events high_rows context builder.old builder.new result (optional (accept_at kinds.DotDot) (expr_at depth) (remaining source.now.tokens.now input)) }
     ensures number { IfOk result (λ rest. builder.new.number ≡ rest.at) }
 {
     match accept(source.tokens, input, Kind::DotDot) {
@@ -425,7 +434,7 @@ fn high(
     }
 }
 
-/// Parses a designator after its first identifier, which has the index `number`. The entry says that the designator is only read;
+/// Parses a designator after its first identifier, which has the index `number`. The designator's entry says that it isn't assigned to;
 /// `assigned_value` corrects the entry if `:=` follows.
 #[inline(always)]
 #[cycle(expressions)]
@@ -437,8 +446,9 @@ pub(crate) fn designator(
     input: Cursor,
     depth: u32,
 ) -> Result<Cursor, Stop>
+    // The builder hasn't counted the first identifier yet.
     requires { builder.old.number + 1 ≡ input.at }
-    ensures effect { Tabulates source.now.tokens.now designator_events (designator_rows false) context builder.old builder.new result (designator_with (expr_at depth) number (remaining source.now.tokens.now input)) }
+    ensures effect { AppendsEntries source.now.tokens.now designator_events (designator_rows false) context builder.old builder.new result (designator_with (expr_at depth) number (remaining source.now.tokens.now input)) }
     ensures number { IfOk result (λ rest. builder.new.number ≡ rest.at) }
 {
     let head = builder.number;
@@ -447,7 +457,7 @@ pub(crate) fn designator(
         block: context.block,
         is_written: false,
     });
-    append_use(builder, context, dot_is_next(source.tokens, input));
+    append_use(builder, context, member_placeholder(source.tokens, input));
     // `selectors` would do nothing either; this test saves its call.
     if !begins_selector(source.tokens, input) {
         return Ok(input);
@@ -455,8 +465,8 @@ pub(crate) fn designator(
     selectors(builder, context, source, input, depth, head)
 }
 
-/// Parses the selectors of the designator with this head. Their entries precede those of the expressions in them, so entries are reserved
-/// for them first. Their number is an estimate: missing entries are inserted later, and surplus ones removed.
+/// Parses the selectors of the designator whose first identifier has the index `head`. All selector entries precede the entries of the
+/// expressions in the selectors, so selector entries are reserved first, by an estimate: missing ones are inserted, surplus ones removed.
 #[inline(never)]
 #[cycle(expressions)]
 fn selectors(
@@ -468,7 +478,7 @@ fn selectors(
     head: u32,
 ) -> Result<Cursor, Stop>
     requires { builder.old.number ≡ input.at }
-    ensures effect { TabulatesBy {T = SelectorsShape (dot_at source.now.tokens.now input)} source.now.tokens.now selectors_shape_events (selectors_stage head context) builder.old builder.new result (many (begins selector_first) (selector_with (expr_at depth)) (remaining source.now.tokens.now input)) }
+    ensures effect { AppendsEntriesBy {T = SelectorsShape (dot_at source.now.tokens.now input)} source.now.tokens.now selectors_shape_events (selectors_stage head context) builder.old builder.new result (many (begins selector_first) (selector_with (expr_at depth)) (remaining source.now.tokens.now input)) }
     ensures number { IfOk result (λ rest. builder.new.number ≡ rest.at) }
 {
     let at = selector_count(builder);
@@ -490,7 +500,7 @@ fn selectors(
     Ok(here)
 }
 
-/// Parses a selector of the designator with this head, whose entry is reserved at index `slot`.
+/// Parses a selector of the designator whose first identifier has the index `head`. The selector's entry is reserved at index `slot`.
 #[cycle(expressions)]
 fn selector(
     builder: &mut TableBuilder,
@@ -501,9 +511,10 @@ fn selector(
     head: u32,
     slot: usize,
 ) -> Result<Cursor, Stop>
+    // Unless an allocation failed, `slot` is the index of a selector entry.
     requires slot { builder.old.failed ≡ false → slot < length builder.old.selectors.items }
     requires number { builder.old.number ≡ input.at }
-    ensures effect { TabulatesBy {T = SelectorShape (dot_at source.now.tokens.now input)} source.now.tokens.now selector_shape_events (selector_stage head slot context) builder.old builder.new result (selector_with (expr_at depth) (remaining source.now.tokens.now input)) }
+    ensures effect { AppendsEntriesBy {T = SelectorShape (dot_at source.now.tokens.now input)} source.now.tokens.now selector_shape_events (selector_stage head slot context) builder.old builder.new result (selector_with (expr_at depth) (remaining source.now.tokens.now input)) }
     ensures number { IfOk result (λ rest. builder.new.number ≡ rest.at) }
 {
     match input.next(source.tokens) {
@@ -521,7 +532,7 @@ fn selector(
     }
 }
 
-/// Parses the name of a field after its dot.
+/// Parses the field name after the dot of a selector, whose entry is at index `slot`.
 fn field(
     builder: &mut TableBuilder,
     context: Context,
@@ -530,8 +541,9 @@ fn field(
     head: u32,
     slot: usize,
 ) -> Result<Cursor, Stop>
+    // The builder hasn't counted the dot yet.
     requires { builder.old.number + 1 ≡ input.at }
-    ensures effect { TabulatesBy {T = SelectorShape true} source.now.tokens.now selector_shape_events (selector_stage head slot context) builder.old builder.new result
+    ensures effect { AppendsEntriesBy {T = SelectorShape true} source.now.tokens.now selector_shape_events (selector_stage head slot context) builder.old builder.new result
         (node constructs.Selector (prefixed (word kinds.Dot) (name_at marks.selected)) (remaining source.now.tokens.now input)) }
     ensures number { IfOk result (λ rest. builder.new.number ≡ rest.at) }
 {
@@ -549,7 +561,7 @@ fn field(
     }
 }
 
-/// Sets the entry of the selector `^` at index `slot`, and advances the builder by this token.
+/// Sets the selector entry at index `slot` to a `^`, and advances the builder by this token. `rest` is the cursor after it.
 fn caret_selector(
     builder: &mut TableBuilder,
     context: Context,
@@ -558,8 +570,9 @@ fn caret_selector(
     head: u32,
     slot: usize,
 ) -> Cursor
+    // The builder hasn't counted the `^` yet.
     requires { builder.old.number + 1 ≡ rest.at }
-    ensures effect { IsTabulated {T = SelectorShape false} source.now.tokens.now selector_shape_events (selector_stage head slot context) builder.old builder.new result (Ok (construct constructs.Selector (word kinds.Caret), remaining source.now.tokens.now rest)) }
+    ensures effect { HasAppendedEntries {T = SelectorShape false} source.now.tokens.now selector_shape_events (selector_stage head slot context) builder.old builder.new result (Ok (construct constructs.Selector (word kinds.Caret), remaining source.now.tokens.now rest)) }
     ensures number { builder.new.number ≡ result.at }
 {
     builder.set_selector(
@@ -572,7 +585,7 @@ fn caret_selector(
     advance_token(builder, rest)
 }
 
-/// Parses the indices after an opening bracket.
+/// Parses the indices after an opening bracket, and the closing bracket. The selector's entry is at index `slot`.
 #[cycle(expressions)]
 fn index(
     builder: &mut TableBuilder,
@@ -583,9 +596,10 @@ fn index(
     head: u32,
     slot: usize,
 ) -> Result<Cursor, Stop>
+    // Unless an allocation failed, `slot` is the index of a selector entry. The builder hasn't counted the opening bracket yet.
     requires slot { builder.old.failed ≡ false → slot < length builder.old.selectors.items }
     requires number { builder.old.number + 1 ≡ input.at }
-    ensures effect { TabulatesBy {T = SelectorShape false} source.now.tokens.now selector_shape_events (selector_stage head slot context) builder.old builder.new result
+    ensures effect { AppendsEntriesBy {T = SelectorShape false} source.now.tokens.now selector_shape_events (selector_stage head slot context) builder.old builder.new result
         (node constructs.Selector (prefixed (word kinds.LeftBracket) (seq (several kinds.Comma (expr_at depth)) (expect_at kinds.RightBracket))) (remaining source.now.tokens.now input)) }
     ensures number { IfOk result (λ rest. builder.new.number ≡ rest.at) }
 {
@@ -605,7 +619,7 @@ fn index(
     }
 }
 
-/// Parses the part of a call, or of a type guard, after its opening parenthesis.
+/// Parses a call or a type guard after its opening parenthesis. The selector's entry is at index `slot`.
 #[cycle(expressions)]
 fn call(
     builder: &mut TableBuilder,
@@ -616,9 +630,10 @@ fn call(
     head: u32,
     slot: usize,
 ) -> Result<Cursor, Stop>
+    // Unless an allocation failed, `slot` is the index of a selector entry. The builder hasn't counted the opening parenthesis yet.
     requires slot { builder.old.failed ≡ false → slot < length builder.old.selectors.items }
     requires number { builder.old.number + 1 ≡ input.at }
-    ensures effect { TabulatesBy {T = SelectorShape false} source.now.tokens.now selector_shape_events (selector_stage head slot context) builder.old builder.new result
+    ensures effect { AppendsEntriesBy {T = SelectorShape false} source.now.tokens.now selector_shape_events (selector_stage head slot context) builder.old builder.new result
         (node constructs.Selector (prefixed (word kinds.LeftParen) (seq (optional (unless kinds.RightParen) (several kinds.Comma (expr_at depth))) (expect_at kinds.RightParen))) (remaining source.now.tokens.now input)) }
     ensures number { IfOk result (λ rest. builder.new.number ≡ rest.at) }
 {
@@ -648,12 +663,13 @@ fn arguments(
     input: Cursor,
     depth: u32,
 ) -> Result<Cursor, Stop>
+    // Unless an allocation failed, a token precedes the arguments, so their number fits into 32 bits.
     requires begun { builder.old.failed ≡ false → 0 < builder.old.number }
     requires number { builder.old.number ≡ input.at }
-    ensures effect { Tabulates source.now.tokens.now arguments_events arguments_rows context builder.old builder.new result (optional (unless kinds.RightParen) (several kinds.Comma (expr_at depth)) (remaining source.now.tokens.now input)) }
+    ensures effect { AppendsEntries source.now.tokens.now arguments_events arguments_rows context builder.old builder.new result (optional (unless kinds.RightParen) (several kinds.Comma (expr_at depth)) (remaining source.now.tokens.now input)) }
     ensures number { IfOk result (λ rest. builder.new.number ≡ rest.at) }
 {
-    if is_at(source.tokens, input, Kind::RightParen) {
+    if next_is(source.tokens, input, Kind::RightParen) {
         return Ok(input);
     }
     match expression_list(builder, context, source, input, depth) {
@@ -662,7 +678,7 @@ fn arguments(
     }
 }
 
-/// Parses one expression or more, separated by commas, and counts them.
+/// Parses one expression or more, separated by commas. Returns the cursor after them, and their number.
 #[cycle(expressions)]
 pub(crate) fn expression_list(
     builder: &mut TableBuilder,
@@ -671,6 +687,7 @@ pub(crate) fn expression_list(
     input: Cursor,
     depth: u32,
 ) -> Result<(Cursor, u32), Stop>
+    // Unless an allocation failed, a token precedes the list, so the number of its expressions fits into 32 bits.
     requires begun { builder.old.failed ≡ false → 0 < builder.old.number }
     requires number { builder.old.number ≡ input.at }
     ensures effect { Counts source.now.tokens.now context builder.old builder.new result (several kinds.Comma (expr_at depth) (remaining source.now.tokens.now input)) }
@@ -682,7 +699,8 @@ pub(crate) fn expression_list(
     }
 }
 
-/// Parses the further expressions of a list, each after a comma. Returns the number of all expressions of the list, the first included.
+/// Parses the further expressions of a list, each after a comma. Returns the cursor after them, and the number of all expressions of the
+/// list, including the first.
 #[cycle(expressions)]
 fn more_expressions(
     builder: &mut TableBuilder,
@@ -691,6 +709,7 @@ fn more_expressions(
     input: Cursor,
     depth: u32,
 ) -> Result<(Cursor, u32), Stop>
+    // Unless an allocation failed, a token precedes the list, so the number of its expressions fits into 32 bits.
     requires begun { builder.old.failed ≡ false → 0 < builder.old.number }
     requires number { builder.old.number ≡ input.at }
     ensures effect { CountsMore source.now.tokens.now context builder.old builder.new result (many (accept_at kinds.Comma) (expr_at depth) (remaining source.now.tokens.now input)) }
@@ -703,8 +722,8 @@ fn more_expressions(
         match expression(builder, context, source, following, depth) {
             Ok(next) => {
                 here = next;
-                // Each iteration has read a comma, so the count does not saturate; this is not proved for a builder whose allocation
-                // failed.
+                // Each iteration consumes a comma, so the count fits into 32 bits. After a failed allocation this can't be proved, so the
+                // addition is a saturating one.
                 count = u32::saturating_add(count, 1);
             }
             Err(stop) => return Err(stop),

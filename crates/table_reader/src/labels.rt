@@ -1,15 +1,18 @@
-//! The labels of a case (Oberon-07 report, section 9.5). Each function parses one production, as the parser does, and appends its table
-//! entries.
+//! The labels of a case (Oberon-07 report, section 9.5). Each function parses the production or part that its name states, and appends
+//! the table entries of what it parses.
+//! Clauses: the builder has counted exactly the tokens before the cursor, before a call (`requires`) and, with `Ok`, after it (`number`).
+//! `effect`: the function returns what the grammar's reader, the last argument, returns for these tokens, unless it returns the error
+//! `Memory`. With `Ok`, unless an allocation failed, it has appended exactly the entries (`.._rows`) of the parsed tree.
 
 ghost use Rattle.std.specs.Prelude.{◌≡◌, IfOk};
 ghost use Rattle.ob_scan.specs.declared.kind.Kind.TheVariants as kinds;
 ghost use Rattle.ob_tree.specs.Statements.{label_events, label_range_events};
 ghost use Rattle.table_rules.specs.Statements.{label_rows, label_range_rows};
 ghost use Rattle.ob_grammar.specs.Combinators.{accept_at, many, optional, several};
-ghost use Rattle.ob_grammar.specs.AgreesWith.{remaining};
+ghost use Rattle.ob_grammar.specs.ParsesAs.{remaining};
 ghost use Rattle.ob_grammar.specs.ReadStatements.{case_label_at, label_range_at};
 ghost use Rattle.table_reader.specs.StatementShapes.{high_label_events, high_label_rows, ranges_events, ranges_rows, labels_events, labels_rows};
-ghost use Rattle.table_reader.specs.Tabulating.{Tabulates};
+ghost use Rattle.table_reader.specs.Tabulating.{AppendsEntries};
 
 use crate::uses::qualident_after;
 use crate::words::advance_token;
@@ -21,7 +24,7 @@ use ob_scan::{Kind, Token};
 use ob_tree::expression::Literal;
 use ob_tree::token::Leaf;
 
-/// Parses a label.
+/// Parses a label of a case: an integer, a string or a qualified identifier.
 fn label(
     builder: &mut TableBuilder,
     context: Context,
@@ -29,7 +32,7 @@ fn label(
     input: Cursor,
 ) -> Result<Cursor, Stop>
     requires { builder.old.number ≡ input.at }
-    ensures effect { Tabulates tokens.now label_events label_rows context builder.old builder.new result (case_label_at (remaining tokens.now input)) }
+    ensures effect { AppendsEntries tokens.now label_events label_rows context builder.old builder.new result (case_label_at (remaining tokens.now input)) }
     ensures number { IfOk result (λ rest. builder.new.number ≡ rest.at) }
 {
     match input.next(tokens) {
@@ -48,7 +51,7 @@ fn label_range(
     input: Cursor,
 ) -> Result<Cursor, Stop>
     requires { builder.old.number ≡ input.at }
-    ensures effect { Tabulates tokens.now label_range_events label_range_rows context builder.old builder.new result (label_range_at (remaining tokens.now input)) }
+    ensures effect { AppendsEntries tokens.now label_range_events label_range_rows context builder.old builder.new result (label_range_at (remaining tokens.now input)) }
     ensures number { IfOk result (λ rest. builder.new.number ≡ rest.at) }
 {
     match label(builder, context, tokens, input) {
@@ -65,7 +68,7 @@ fn high_label(
     input: Cursor,
 ) -> Result<Cursor, Stop>
     requires { builder.old.number ≡ input.at }
-    ensures effect { Tabulates tokens.now high_label_events high_label_rows context builder.old builder.new result (optional (accept_at kinds.DotDot) case_label_at (remaining tokens.now input)) }
+    ensures effect { AppendsEntries tokens.now high_label_events high_label_rows context builder.old builder.new result (optional (accept_at kinds.DotDot) case_label_at (remaining tokens.now input)) }
     ensures number { IfOk result (λ rest. builder.new.number ≡ rest.at) }
 {
     match accept(tokens, input, Kind::DotDot) {
@@ -85,7 +88,7 @@ pub(crate) fn label_ranges(
     input: Cursor,
 ) -> Result<Cursor, Stop>
     requires { builder.old.number ≡ input.at }
-    ensures effect { Tabulates tokens.now labels_events labels_rows context builder.old builder.new result (several kinds.Comma label_range_at (remaining tokens.now input)) }
+    ensures effect { AppendsEntries tokens.now labels_events labels_rows context builder.old builder.new result (several kinds.Comma label_range_at (remaining tokens.now input)) }
     ensures number { IfOk result (λ rest. builder.new.number ≡ rest.at) }
 {
     match label_range(builder, context, tokens, input) {
@@ -102,7 +105,7 @@ fn more_label_ranges(
     input: Cursor,
 ) -> Result<Cursor, Stop>
     requires { builder.old.number ≡ input.at }
-    ensures effect { Tabulates tokens.now ranges_events ranges_rows context builder.old builder.new result (many (accept_at kinds.Comma) label_range_at (remaining tokens.now input)) }
+    ensures effect { AppendsEntries tokens.now ranges_events ranges_rows context builder.old builder.new result (many (accept_at kinds.Comma) label_range_at (remaining tokens.now input)) }
     ensures number { IfOk result (λ rest. builder.new.number ≡ rest.at) }
 {
     let mut here = input;

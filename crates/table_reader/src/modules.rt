@@ -1,4 +1,8 @@
-//! Modules (Oberon-07 report, section 11). Each function parses one production, as the parser does, and appends its table entries.
+//! Modules (Oberon-07 report, section 11). Each function parses the production or part that its name states, and appends the table
+//! entries of what it parses.
+//! Clauses: the builder has counted exactly the tokens before the cursor, before a call (`requires`) and, with `Ok`, after it (`number`).
+//! `effect`: the function returns what the grammar's reader, the last argument, returns for these tokens, unless it returns the error
+//! `Memory`. With `Ok`, unless an allocation failed, it has appended exactly the entries (`.._rows`, `.._step`) of the parsed tree.
 
 ghost use Rattle.std.specs.Prelude.{◌≡◌, IfOk};
 ghost use Rattle.ob_scan.specs.declared.kind.Kind.TheVariants as kinds;
@@ -8,12 +12,12 @@ ghost use Rattle.table_rules.specs.Declaring.{module_rows, import_rows, imports_
 ghost use Rattle.module_table.specs.TableStages.{after};
 ghost use Rattle.module_table.specs.Parts.{if_present};
 ghost use Rattle.ob_grammar.specs.Combinators.{accept_at, expect_at, many, name_at, seq, several};
-ghost use Rattle.ob_grammar.specs.AgreesWith.{remaining};
+ghost use Rattle.ob_grammar.specs.ParsesAs.{remaining};
 ghost use Rattle.ob_grammar.specs.ReadStatements.{block_at};
 ghost use Rattle.ob_grammar.specs.ReadModules.{import_item_at, imports_at, declarations_at, body_with, module_at, module_after_name, read_all, with_semicolon};
 ghost use Rattle.table_reader.specs.DeclarationShapes.{module_end_events, end_step, module_parts_events, parts_step, module_rest_events, module_rest_step, ended_events, ended_rows, imports_events};
 ghost use Rattle.table_reader.specs.TypeShapes.{more_events, more_rows, list_rows};
-ghost use Rattle.table_reader.specs.Tabulating.{Tabulates, TabulatesBy, TabulatesModule};
+ghost use Rattle.table_reader.specs.Tabulating.{AppendsEntries, AppendsEntriesBy, AppendsModuleEntries};
 
 use crate::declarations::{body, declarations};
 use crate::ends::module_end_name;
@@ -35,7 +39,7 @@ fn import(
     input: Cursor,
 ) -> Result<Cursor, Stop>
     requires { builder.old.number ≡ input.at }
-    ensures effect { Tabulates tokens.now import_events import_rows context builder.old builder.new result (import_item_at (remaining tokens.now input)) }
+    ensures effect { AppendsEntries tokens.now import_events import_rows context builder.old builder.new result (import_item_at (remaining tokens.now input)) }
     ensures number { IfOk result (λ rest. builder.new.number ≡ rest.at) }
 {
     match import_item(tokens, input) {
@@ -55,7 +59,7 @@ fn more_imports(
     input: Cursor,
 ) -> Result<Cursor, Stop>
     requires { builder.old.number ≡ input.at }
-    ensures effect { Tabulates tokens.now (more_events kinds.Comma import_events) (more_rows import_rows) context builder.old builder.new result (many (accept_at kinds.Comma) import_item_at (remaining tokens.now input)) }
+    ensures effect { AppendsEntries tokens.now (more_events kinds.Comma import_events) (more_rows import_rows) context builder.old builder.new result (many (accept_at kinds.Comma) import_item_at (remaining tokens.now input)) }
     ensures number { IfOk result (λ rest. builder.new.number ≡ rest.at) }
 {
     let mut here = input;
@@ -77,7 +81,7 @@ fn import_list(
     input: Cursor,
 ) -> Result<Cursor, Stop>
     requires { builder.old.number ≡ input.at }
-    ensures effect { Tabulates tokens.now (separated kinds.Comma import_events) (list_rows import_rows) context builder.old builder.new result (several kinds.Comma import_item_at (remaining tokens.now input)) }
+    ensures effect { AppendsEntries tokens.now (separated kinds.Comma import_events) (list_rows import_rows) context builder.old builder.new result (several kinds.Comma import_item_at (remaining tokens.now input)) }
     ensures number { IfOk result (λ rest. builder.new.number ≡ rest.at) }
 {
     match import(builder, context, tokens, input) {
@@ -94,7 +98,7 @@ fn imports_and_semicolon(
     input: Cursor,
 ) -> Result<Cursor, Stop>
     requires { builder.old.number ≡ input.at }
-    ensures effect { Tabulates tokens.now (ended_events (separated kinds.Comma import_events)) (ended_rows (list_rows import_rows)) context builder.old builder.new result (with_semicolon (several kinds.Comma import_item_at) (remaining tokens.now input)) }
+    ensures effect { AppendsEntries tokens.now (ended_events (separated kinds.Comma import_events)) (ended_rows (list_rows import_rows)) context builder.old builder.new result (with_semicolon (several kinds.Comma import_item_at) (remaining tokens.now input)) }
     ensures number { IfOk result (λ rest. builder.new.number ≡ rest.at) }
 {
     match import_list(builder, context, tokens, input) {
@@ -111,7 +115,7 @@ fn imports(
     input: Cursor,
 ) -> Result<Cursor, Stop>
     requires { builder.old.number ≡ input.at }
-    ensures effect { Tabulates tokens.now imports_events (if_present imports_rows) context builder.old builder.new result (imports_at (remaining tokens.now input)) }
+    ensures effect { AppendsEntries tokens.now imports_events (if_present imports_rows) context builder.old builder.new result (imports_at (remaining tokens.now input)) }
     ensures number { IfOk result (λ rest. builder.new.number ≡ rest.at) }
 {
     match accept(tokens, input, Kind::Import) {
@@ -123,8 +127,8 @@ fn imports(
     }
 }
 
-/// Parses the end of a module after its statements. `name` is the index of the name that has to be repeated after END.
-fn ending(
+/// Parses the end of a module: END, a name and a dot. `name` is the index of the module's name, which has to be repeated after END.
+fn module_ending(
     builder: &mut TableBuilder,
     context: Context,
     tokens: &[Token],
@@ -132,7 +136,7 @@ fn ending(
     name: u32,
 ) -> Result<Cursor, Stop>
     requires { builder.old.number ≡ input.at }
-    ensures effect { TabulatesBy tokens.now (module_end_events name) (end_step context) builder.old builder.new result
+    ensures effect { AppendsEntriesBy tokens.now (module_end_events name) (end_step context) builder.old builder.new result
         (seq (expect_at kinds.End) (seq (name_at (repeated name)) (expect_at kinds.Dot)) (remaining tokens.now input)) }
     ensures number { IfOk result (λ rest. builder.new.number ≡ rest.at) }
 {
@@ -145,7 +149,7 @@ fn ending(
     }
 }
 
-/// Parses the part of a module after its imports. `name` is the index of the name that has to be repeated after END.
+/// Parses a module after its imports. `name` is the index of the module's name, which has to be repeated after END.
 fn module_remainder(
     builder: &mut TableBuilder,
     context: Context,
@@ -155,14 +159,14 @@ fn module_remainder(
     name: u32,
 ) -> Result<Cursor, Stop>
     requires { builder.old.number ≡ input.at }
-    ensures effect { TabulatesBy source.now.tokens.now (module_parts_events name) (parts_step context) builder.old builder.new result
+    ensures effect { AppendsEntriesBy source.now.tokens.now (module_parts_events name) (parts_step context) builder.old builder.new result
         (seq (declarations_at depth) (seq (body_with (block_at depth)) (seq (expect_at kinds.End)
         (seq (name_at (repeated name)) (expect_at kinds.Dot)))) (remaining source.now.tokens.now input)) }
     ensures number { IfOk result (λ rest. builder.new.number ≡ rest.at) }
 {
     match declarations(builder, context, source, input, depth) {
         Ok(here) => match body(builder, context, source, here, depth) {
-            Ok(here) => ending(builder, context, source.tokens, here, name),
+            Ok(here) => module_ending(builder, context, source.tokens, here, name),
             Err(stop) => Err(stop),
         },
         Err(stop) => Err(stop),
@@ -179,7 +183,7 @@ fn module_after_name(
     name: u32,
 ) -> Result<Cursor, Stop>
     requires { builder.old.number ≡ input.at }
-    ensures effect { TabulatesBy source.now.tokens.now (module_rest_events name) (module_rest_step context) builder.old builder.new result (module_after_name depth name (remaining source.now.tokens.now input)) }
+    ensures effect { AppendsEntriesBy source.now.tokens.now (module_rest_events name) (module_rest_step context) builder.old builder.new result (module_after_name depth name (remaining source.now.tokens.now input)) }
     ensures number { IfOk result (λ rest. builder.new.number ≡ rest.at) }
 {
     match expect_word(builder, source.tokens, input, Kind::Semicolon) {
@@ -191,7 +195,7 @@ fn module_after_name(
     }
 }
 
-/// Parses a module, in which `depth` levels of nesting are left.
+/// Parses a module. `depth` is the number of nesting levels that are left for it.
 fn module(
     builder: &mut TableBuilder,
     context: Context,
@@ -200,7 +204,7 @@ fn module(
     depth: u32,
 ) -> Result<Cursor, Stop>
     requires { builder.old.number ≡ input.at }
-    ensures effect { Tabulates source.now.tokens.now module_events module_rows context builder.old builder.new result (module_at depth (remaining source.now.tokens.now input)) }
+    ensures effect { AppendsEntries source.now.tokens.now module_events module_rows context builder.old builder.new result (module_at depth (remaining source.now.tokens.now input)) }
     ensures number { IfOk result (λ rest. builder.new.number ≡ rest.at) }
 {
     match expect_word(builder, source.tokens, input, Kind::Module) {
@@ -224,7 +228,9 @@ pub(crate) fn parse_all_tokens(
     depth: u32,
 ) -> Result<(), Stop>
     requires { builder.old.number ≡ input.at }
-    ensures { TabulatesModule source.now.tokens.now module_events (λ m. after (module_rows m) context) builder.old builder.new result (read_all depth (remaining source.now.tokens.now input)) }
+    // With `Ok` the tokens are a module, and its entries are appended unless an allocation failed. With `Err` the grammar's reader fails
+    // too, or memory ran out.
+    ensures { AppendsModuleEntries source.now.tokens.now module_events (λ m. after (module_rows m) context) builder.old builder.new result (read_all depth (remaining source.now.tokens.now input)) }
 {
     match module(builder, context, source, input, depth) {
         Ok(here) => match here.next(source.tokens) {

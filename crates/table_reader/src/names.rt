@@ -1,4 +1,7 @@
-//! Names (Oberon-07 report, section 4). Each function parses one production, as the parser does, and appends its table entries.
+//! Names (Oberon-07 report, section 4). Each function parses the names that its own name states, and appends their table entries.
+//! Clauses: the builder has counted exactly the tokens before the cursor, before a call (`requires`) and, with `Ok`, after it (`number`).
+//! `effect`: the function returns what the grammar's reader, the last argument, returns for these tokens, unless it returns the error
+//! `Memory`. With `Ok`, unless an allocation failed, it has appended exactly the entries (`.._rows`) of the parsed names.
 
 ghost use Rattle.std.specs.Prelude.{◌≡◌, IfOk};
 ghost use Rattle.ob_scan.specs.declared.kind.Kind.TheVariants as kinds;
@@ -7,10 +10,10 @@ ghost use Rattle.ob_tree.specs.Names.{qualident_events, identdef_events};
 ghost use Rattle.table_rules.specs.Statements.{qualident_rows};
 ghost use Rattle.table_rules.specs.Types.{identdef_rows};
 ghost use Rattle.ob_grammar.specs.Combinators.{accept_at, many, several};
-ghost use Rattle.ob_grammar.specs.AgreesWith.{remaining};
+ghost use Rattle.ob_grammar.specs.ParsesAs.{remaining};
 ghost use Rattle.ob_grammar.specs.ReadNames.{qualident_at, identdef_at};
 ghost use Rattle.table_reader.specs.TypeShapes.{more_events, more_rows, list_rows};
-ghost use Rattle.table_reader.specs.Tabulating.{Tabulates};
+ghost use Rattle.table_reader.specs.Tabulating.{AppendsEntries};
 
 use module_table::builder::{Context, TableBuilder};
 use ob_grammar::cursor::Cursor;
@@ -21,7 +24,7 @@ use ob_scan::{Kind, Token};
 use table_rules::walk::types::append_identdef;
 use table_rules::walk::uses::append_qualident;
 
-/// Parses a use of a qualified identifier.
+/// Parses a use of a qualified identifier, and appends its entry.
 pub(crate) fn used_qualident(
     builder: &mut TableBuilder,
     context: Context,
@@ -29,7 +32,7 @@ pub(crate) fn used_qualident(
     input: Cursor,
 ) -> Result<Cursor, Stop>
     requires { builder.old.number ≡ input.at }
-    ensures effect { Tabulates tokens.now qualident_events qualident_rows context builder.old builder.new result (qualident_at (remaining tokens.now input)) }
+    ensures effect { AppendsEntries tokens.now qualident_events qualident_rows context builder.old builder.new result (qualident_at (remaining tokens.now input)) }
     ensures number { IfOk result (λ rest. builder.new.number ≡ rest.at) }
 {
     match qualident(tokens, input) {
@@ -41,7 +44,7 @@ pub(crate) fn used_qualident(
     }
 }
 
-/// Parses a declaring identifier.
+/// Parses a declared identifier, with its export mark if it has one.
 pub(crate) fn declared_name(
     builder: &mut TableBuilder,
     context: Context,
@@ -49,7 +52,7 @@ pub(crate) fn declared_name(
     input: Cursor,
 ) -> Result<Cursor, Stop>
     requires { builder.old.number ≡ input.at }
-    ensures effect { Tabulates tokens.now identdef_events identdef_rows context builder.old builder.new result (identdef_at (remaining tokens.now input)) }
+    ensures effect { AppendsEntries tokens.now identdef_events identdef_rows context builder.old builder.new result (identdef_at (remaining tokens.now input)) }
     ensures number { IfOk result (λ rest. builder.new.number ≡ rest.at) }
 {
     match identdef(tokens, input) {
@@ -61,7 +64,7 @@ pub(crate) fn declared_name(
     }
 }
 
-/// Parses the further declaring identifiers, each after a comma.
+/// Parses the further declared identifiers of a list, each after a comma.
 fn more_declared_names(
     builder: &mut TableBuilder,
     context: Context,
@@ -69,7 +72,7 @@ fn more_declared_names(
     input: Cursor,
 ) -> Result<Cursor, Stop>
     requires { builder.old.number ≡ input.at }
-    ensures effect { Tabulates tokens.now (more_events kinds.Comma identdef_events) (more_rows identdef_rows) context builder.old builder.new result (many (accept_at kinds.Comma) identdef_at (remaining tokens.now input)) }
+    ensures effect { AppendsEntries tokens.now (more_events kinds.Comma identdef_events) (more_rows identdef_rows) context builder.old builder.new result (many (accept_at kinds.Comma) identdef_at (remaining tokens.now input)) }
     ensures number { IfOk result (λ rest. builder.new.number ≡ rest.at) }
 {
     let mut here = input;
@@ -83,7 +86,7 @@ fn more_declared_names(
     Ok(here)
 }
 
-/// Parses one declaring identifier or more, separated by commas.
+/// Parses one declared identifier or more, separated by commas.
 pub(crate) fn declared_names(
     builder: &mut TableBuilder,
     context: Context,
@@ -91,7 +94,7 @@ pub(crate) fn declared_names(
     input: Cursor,
 ) -> Result<Cursor, Stop>
     requires { builder.old.number ≡ input.at }
-    ensures effect { Tabulates tokens.now (separated kinds.Comma identdef_events) (list_rows identdef_rows) context builder.old builder.new result (several kinds.Comma identdef_at (remaining tokens.now input)) }
+    ensures effect { AppendsEntries tokens.now (separated kinds.Comma identdef_events) (list_rows identdef_rows) context builder.old builder.new result (several kinds.Comma identdef_at (remaining tokens.now input)) }
     ensures number { IfOk result (λ rest. builder.new.number ≡ rest.at) }
 {
     match declared_name(builder, context, tokens, input) {

@@ -1,4 +1,4 @@
-//! The main call.
+//! The main call: from the tokens of a module to its table.
 
 ghost use Rattle.std.specs.Prelude.{◌≡◌, ◌<◌, ◌^◌, length, slice_get, Some, Ok, IfOk, IfErr};
 ghost use Rattle.module_table.specs.Tables.{rows_in};
@@ -12,7 +12,7 @@ ghost use Rattle.ob_tree.specs.Leaves.{leaves_from};
 ghost use Rattle.ob_tree.specs.declared.declaration.Module.{Module};
 ghost use Rattle.ob_grammar.specs.Parsed.{IsTheTree, IsFaultOf, kinds_of};
 ghost use Rattle.ob_grammar.specs.ReadModules.{read_all};
-ghost use Rattle.table_reader.specs.Tabulating.{TabulatesModule};
+ghost use Rattle.table_reader.specs.Tabulating.{AppendsModuleEntries};
 
 use crate::ends::first_wrong_end;
 use crate::modules::parse_all_tokens;
@@ -27,15 +27,18 @@ use std::alloc::Global;
 use table_rules::finish_table;
 use table_rules::laws::{end_names_follow_events, tree_table_is_valid};
 
-/// Parses all tokens as one module.
+/// Parses all tokens as one module, after a pass that matches brackets.
 fn parse_with_brackets(
     alloc: Global,
     builder: &mut TableBuilder,
     tokens: &[Token],
 ) -> Result<(), Stop>
+    // The builder has counted no token yet.
     requires few { length tokens.now < 2 ^ 32 }
     requires number { builder.old.number ≡ 0 }
-    ensures { TabulatesModule tokens.now module_events (λ m. after (module_rows m) outermost) builder.old builder.new result (read_all 200 (leaves_from 0 (kinds_of tokens.now))) }
+    // With `Ok` the grammar reads the tokens as a module, and its entries are appended unless an allocation failed. With `Err` the
+    // grammar's reader fails too, or memory ran out.
+    ensures { AppendsModuleEntries tokens.now module_events (λ m. after (module_rows m) outermost) builder.old builder.new result (read_all 200 (leaves_from 0 (kinds_of tokens.now))) }
 {
     let brackets = match_brackets(alloc, tokens)?;
     let source = ParserInput {
@@ -45,20 +48,20 @@ fn parse_with_brackets(
     parse_all_tokens(builder, Context::OUTERMOST, &source, Cursor::ALL, MAX_DEPTH)
 }
 
-/// The table of the module whose tokens these are: the entries of the tree that `parse` would return, without that tree, or the error
-/// that `parse` would return.
+/// The table of the module with these tokens: the entries of the syntax tree that derives the tokens. The tree itself isn't made.
 ///
-/// Errors: those of `parse`. Memory if an allocation fails.
+/// Errors: with `Syntax` no tree derives the tokens; with `TooDeep` none of at most 200 nested levels does; `EndName` if a name after END
+/// isn't that of its procedure or module; `Memory` if an allocation fails.
 ///
-/// Recursion takes a few calls for each of at most 200 levels, for which a stack of 2 MiB is enough. Lists are parsed by loops.
+/// Recursion takes a few calls for each nested level of the tokens, at most 200 levels; a stack of 2 MiB is enough. Loops parse lists.
 pub fn read_table(alloc: Global, bytes: &[u8], tokens: &Tokens) -> Result<Table, ParseFault>
-    // The tokens are those of the bytes.
+    // The scanner returns these tokens for the bytes.
     requires { IsOutcome bytes.now (Ok tokens.now) }
-    // The entries are exactly those of the one tree that derives the tokens.
+    // With `Ok` the table has exactly the entries of the one tree that derives the tokens.
     ensures table { IfOk result (λ t. (m : Module) × IsTheTree bytes.now tokens.now m × (rows_in t ≡ rows_of m)) }
-    // The entries satisfy the invariants of tables of trees.
+    // With `Ok` the entries satisfy the invariants of the table of a syntax tree.
     ensures rows { IfOk result (λ t. AreTreeRows (λ k. slice_get (kinds_of tokens.now) k ≡ Some Ident) (length tokens.now) (rows_in t)) }
-    // The text has this error.
+    // With `Err` the bytes and tokens have the returned error, or an allocation failed.
     ensures fault { IfErr result (IsFaultOf bytes.now tokens.now) }
 {
     tree_table_is_valid();

@@ -1,22 +1,22 @@
-//! The tokens of a text, and their matching brackets.
+//! The tokens of a module, and their matching brackets.
 
 ghost use Rattle.std.specs.Prelude.{◌<◌, ◌^◌, length};
 
 use ob_scan::{Kind, Token};
 use std::alloc::{AllocError, Global};
 
-/// The tokens of a text. For each opening bracket or parenthesis `brackets` has the index of the closing one: this helps to estimate how
-/// many selectors follow. Nothing is promised of it, and no entry depends on it.
+/// The tokens of a module. At the index of each opening bracket or parenthesis, `brackets` has the index of the closing one, which helps to
+/// estimate the number of selectors. Nothing is proved of `brackets`, and no table entry depends on it.
 #[derive(Drop)]
 pub(crate) struct ParserInput<'a> {
     pub(crate) tokens: &'a [Token],
     pub(crate) brackets: &'a [u32],
 }
 
-/// The index that denotes no bracket.
+/// Denotes that no bracket is open, in place of a bracket's index.
 const NONE: u32 = u32::MAX;
 
-/// The kind of a token, or `Dot` if no token has this index.
+/// The kind of the token with this index; `Dot` if there is no such token.
 pub(crate) fn kind_or_dot(tokens: &[Token], at: u32) -> Kind {
     match tokens.get(at as usize) {
         Some(token) => token.kind,
@@ -24,8 +24,8 @@ pub(crate) fn kind_or_dot(tokens: &[Token], at: u32) -> Kind {
     }
 }
 
-/// For each token that is an opening bracket or parenthesis the index of the closing one; for any other token any value. The element of a
-/// bracket that is still open has the index of the enclosing one, so no separate stack is needed.
+/// A vector with an element for each token: for an opening bracket or parenthesis the index of the closing one, for any other token any
+/// value. Until the closing one is found, the element holds the index of the enclosing bracket, so the vector is also the stack.
 pub(crate) fn match_brackets(alloc: Global, tokens: &[Token]) -> Result<Vec<u32>, AllocError>
     requires { length tokens.now < 2 ^ 32 }
 {

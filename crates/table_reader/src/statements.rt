@@ -1,5 +1,8 @@
-//! Statements (Oberon-07 report, section 9). `depth` is the number of nested levels that are left for what a function parses. Each
-//! function parses one production, as the parser does, and appends its table entries.
+//! Statements (Oberon-07 report, section 9). Each function parses the production or part that its name states, and appends the table
+//! entries of what it parses. `depth` is the number of nested levels that are left for it.
+//! Clauses: the builder has counted exactly the tokens before the cursor, before a call (`requires`) and, with `Ok`, after it (`number`).
+//! `effect`: the function returns what the grammar's reader, the last argument, returns for these tokens, unless it returns the error
+//! `Memory`. With `Ok`, unless an allocation failed, it has appended exactly the entries (`.._rows`, `.._stage`) of the parsed tree.
 
 ghost use Rattle.std.specs.Prelude.{◌≡◌, ◌+◌, IfOk};
 ghost use Rattle.ob_scan.specs.declared.kind.Kind.TheVariants as kinds;
@@ -8,15 +11,15 @@ ghost use Rattle.ob_tree.specs.TreeEvents as marks;
 ghost use Rattle.ob_tree.specs.Statements.{block_events, branch_events, case_events, stmt_events};
 ghost use Rattle.table_rules.specs.Statements.{block_rows, branch_rows, case_rows, stmt_rows};
 ghost use Rattle.ob_grammar.specs.Combinators.{accept_at, expect_at, many, node, optional, prefixed, seq};
-ghost use Rattle.ob_grammar.specs.AgreesWith.{remaining};
+ghost use Rattle.ob_grammar.specs.ParsesAs.{remaining};
 ghost use Rattle.ob_grammar.specs.ReadExpressions.{expr_at};
 ghost use Rattle.ob_grammar.specs.ReadStatements.{assign_with, block_at, branch_with, case_with, cases_with, for_with, if_with, repeat_with, statement_at, statement_with, while_with};
 ghost use Rattle.table_reader.specs.StatementShapes.{statements_events, statements_rows, branches_events, branches_rows, cases_events, cases_rows, body_events, body_rows, value_events, value_rows, assigned_stage, cases_end_events, cases_end_rows, for_body_events, for_body_rows, for_limit_events, for_limit_rows};
-ghost use Rattle.table_reader.specs.Tabulating.{Tabulates, TabulatesBy};
+ghost use Rattle.table_reader.specs.Tabulating.{AppendsEntries, AppendsEntriesBy};
 
 use crate::expressions::{designator, expression};
 use crate::labels::label_ranges;
-use crate::slots::{designator_count, write_designator};
+use crate::slots::{designator_count, set_designator};
 use crate::source::ParserInput;
 use crate::words::expect_word;
 use module_table::Designator as DesignatorRow;
@@ -30,7 +33,7 @@ use ob_scan::Kind;
 use ob_tree::token::Leaf;
 use table_rules::walk::uses::append_for_variable;
 
-/// Parses a statement, for which `depth` levels of nesting are left. It is a level itself.
+/// Parses a statement, which takes one of the `depth` nesting levels that are left. If none is left, only an empty statement is accepted.
 #[cycle(statements)]
 fn statement(
     builder: &mut TableBuilder,
@@ -40,7 +43,7 @@ fn statement(
     depth: u32,
 ) -> Result<Cursor, Stop>
     requires { builder.old.number ≡ input.at }
-    ensures effect { Tabulates source.now.tokens.now stmt_events stmt_rows context builder.old builder.new result (statement_at depth (remaining source.now.tokens.now input)) }
+    ensures effect { AppendsEntries source.now.tokens.now stmt_events stmt_rows context builder.old builder.new result (statement_at depth (remaining source.now.tokens.now input)) }
     ensures number { IfOk result (λ rest. builder.new.number ≡ rest.at) }
 {
     if depth == 0 {
@@ -49,12 +52,12 @@ fn statement(
         }
         return Ok(input);
     }
-    statement_within(builder, context, source, input, depth - 1)
+    statement_after_depth_check(builder, context, source, input, depth - 1)
 }
 
-/// Parses a statement, in whose parts `depth` levels of nesting are left.
+/// Parses a statement. `depth` is the number of nesting levels left for its parts: the statement's own level is already subtracted.
 #[cycle(statements)]
-fn statement_within(
+fn statement_after_depth_check(
     builder: &mut TableBuilder,
     context: Context,
     source: &ParserInput,
@@ -62,7 +65,7 @@ fn statement_within(
     depth: u32,
 ) -> Result<Cursor, Stop>
     requires { builder.old.number ≡ input.at }
-    ensures effect { Tabulates source.now.tokens.now stmt_events stmt_rows context builder.old builder.new result (statement_with (expr_at depth) (block_at depth) (remaining source.now.tokens.now input)) }
+    ensures effect { AppendsEntries source.now.tokens.now stmt_events stmt_rows context builder.old builder.new result (statement_with (expr_at depth) (block_at depth) (remaining source.now.tokens.now input)) }
     ensures number { IfOk result (λ rest. builder.new.number ≡ rest.at) }
 {
     match input.next(source.tokens) {
@@ -84,7 +87,7 @@ fn statement_within(
     }
 }
 
-/// Parses an assignment or a call after its first identifier. The entry of its designator precedes its other entries.
+/// Parses an assignment or a call after its first identifier, which has the index `head`.
 fn assignment(
     builder: &mut TableBuilder,
     context: Context,
@@ -93,8 +96,9 @@ fn assignment(
     input: Cursor,
     depth: u32,
 ) -> Result<Cursor, Stop>
+    // The builder hasn't counted the first identifier yet.
     requires { builder.old.number + 1 ≡ input.at }
-    ensures effect { Tabulates source.now.tokens.now stmt_events stmt_rows context builder.old builder.new result (node constructs.Statement (assign_with (expr_at depth) head) (remaining source.now.tokens.now input)) }
+    ensures effect { AppendsEntries source.now.tokens.now stmt_events stmt_rows context builder.old builder.new result (node constructs.Statement (assign_with (expr_at depth) head) (remaining source.now.tokens.now input)) }
     ensures number { IfOk result (λ rest. builder.new.number ≡ rest.at) }
 {
     let first = builder.number;
@@ -105,8 +109,8 @@ fn assignment(
     }
 }
 
-/// Parses `:=` and the right side of an assignment, if `:=` is next. Then the entry of its designator, which begins with the token `head`
-/// and has the index `at`, says that it is written.
+/// Parses `:=` and the right side of an assignment, if `:=` is next. Then sets the designator's entry, at index `at`, to say that it is
+/// assigned to. `head` is the index of the designator's first token.
 fn assigned_value(
     builder: &mut TableBuilder,
     context: Context,
@@ -117,13 +121,13 @@ fn assigned_value(
     at: usize,
 ) -> Result<Cursor, Stop>
     requires { builder.old.number ≡ input.at }
-    ensures effect { TabulatesBy source.now.tokens.now (value_events kinds.Assign) (assigned_stage head at context) builder.old builder.new result (optional (accept_at kinds.Assign) (expr_at depth) (remaining source.now.tokens.now input)) }
+    ensures effect { AppendsEntriesBy source.now.tokens.now (value_events kinds.Assign) (assigned_stage head at context) builder.old builder.new result (optional (accept_at kinds.Assign) (expr_at depth) (remaining source.now.tokens.now input)) }
     ensures number { IfOk result (λ rest. builder.new.number ≡ rest.at) }
 {
     match accept(source.tokens, input, Kind::Assign) {
         None => Ok(input),
         Some(rest) => {
-            write_designator(
+            set_designator(
                 builder,
                 at,
                 DesignatorRow {
@@ -148,7 +152,7 @@ pub(crate) fn block(
     depth: u32,
 ) -> Result<Cursor, Stop>
     requires { builder.old.number ≡ input.at }
-    ensures effect { Tabulates source.now.tokens.now block_events block_rows context builder.old builder.new result (block_at depth (remaining source.now.tokens.now input)) }
+    ensures effect { AppendsEntries source.now.tokens.now block_events block_rows context builder.old builder.new result (block_at depth (remaining source.now.tokens.now input)) }
     ensures number { IfOk result (λ rest. builder.new.number ≡ rest.at) }
 {
     match statement(builder, context, source, input, depth) {
@@ -167,7 +171,7 @@ fn more_statements(
     depth: u32,
 ) -> Result<Cursor, Stop>
     requires { builder.old.number ≡ input.at }
-    ensures effect { Tabulates source.now.tokens.now statements_events statements_rows context builder.old builder.new result (many (accept_at kinds.Semicolon) (statement_at depth) (remaining source.now.tokens.now input)) }
+    ensures effect { AppendsEntries source.now.tokens.now statements_events statements_rows context builder.old builder.new result (many (accept_at kinds.Semicolon) (statement_at depth) (remaining source.now.tokens.now input)) }
     ensures number { IfOk result (λ rest. builder.new.number ≡ rest.at) }
 {
     let mut here = input;
@@ -181,7 +185,7 @@ fn more_statements(
     Ok(here)
 }
 
-/// Parses a condition, a keyword, and the statements after it.
+/// Parses a branch: a condition, this keyword (THEN or DO), and statements.
 #[cycle(statements)]
 fn branch(
     builder: &mut TableBuilder,
@@ -192,7 +196,7 @@ fn branch(
     keyword: Kind,
 ) -> Result<Cursor, Stop>
     requires { builder.old.number ≡ input.at }
-    ensures effect { Tabulates source.now.tokens.now (λ b. branch_events b keyword) branch_rows context builder.old builder.new result (branch_with (expr_at depth) (block_at depth) keyword (remaining source.now.tokens.now input)) }
+    ensures effect { AppendsEntries source.now.tokens.now (λ b. branch_events b keyword) branch_rows context builder.old builder.new result (branch_with (expr_at depth) (block_at depth) keyword (remaining source.now.tokens.now input)) }
     ensures number { IfOk result (λ rest. builder.new.number ≡ rest.at) }
 {
     match expression(builder, context, source, input, depth) {
@@ -204,7 +208,7 @@ fn branch(
     }
 }
 
-/// Parses the ELSIF branches, with `keyword` between each condition and its statements.
+/// Parses any number of ELSIF branches. `keyword`, THEN or DO, is between each condition and its statements.
 #[cycle(statements)]
 fn elsif_branches(
     builder: &mut TableBuilder,
@@ -215,7 +219,7 @@ fn elsif_branches(
     keyword: Kind,
 ) -> Result<Cursor, Stop>
     requires { builder.old.number ≡ input.at }
-    ensures effect { Tabulates source.now.tokens.now (branches_events keyword) branches_rows context builder.old builder.new result
+    ensures effect { AppendsEntries source.now.tokens.now (branches_events keyword) branches_rows context builder.old builder.new result
         (many (accept_at kinds.Elsif) (branch_with (expr_at depth) (block_at depth) keyword) (remaining source.now.tokens.now input)) }
     ensures number { IfOk result (λ rest. builder.new.number ≡ rest.at) }
 {
@@ -230,7 +234,7 @@ fn elsif_branches(
     Ok(here)
 }
 
-/// Parses the statements after a keyword, if the keyword is next.
+/// Parses this keyword and the statements after it, if the keyword is next.
 #[cycle(statements)]
 fn optional_block(
     builder: &mut TableBuilder,
@@ -241,7 +245,7 @@ fn optional_block(
     word: Kind,
 ) -> Result<Cursor, Stop>
     requires { builder.old.number ≡ input.at }
-    ensures effect { Tabulates source.now.tokens.now (body_events word) body_rows context builder.old builder.new result (optional (accept_at word) (block_at depth) (remaining source.now.tokens.now input)) }
+    ensures effect { AppendsEntries source.now.tokens.now (body_events word) body_rows context builder.old builder.new result (optional (accept_at word) (block_at depth) (remaining source.now.tokens.now input)) }
     ensures number { IfOk result (λ rest. builder.new.number ≡ rest.at) }
 {
     match accept(source.tokens, input, word) {
@@ -253,7 +257,7 @@ fn optional_block(
     }
 }
 
-/// Parses a statement after its IF.
+/// Parses an IF statement after its IF.
 #[cycle(statements)]
 fn if_statement(
     builder: &mut TableBuilder,
@@ -262,8 +266,9 @@ fn if_statement(
     input: Cursor,
     depth: u32,
 ) -> Result<Cursor, Stop>
+    // The builder hasn't counted IF yet.
     requires { builder.old.number + 1 ≡ input.at }
-    ensures effect { Tabulates source.now.tokens.now stmt_events stmt_rows context builder.old builder.new result
+    ensures effect { AppendsEntries source.now.tokens.now stmt_events stmt_rows context builder.old builder.new result
         (node constructs.Statement (prefixed (marks.word kinds.If) (if_with (expr_at depth) (block_at depth))) (remaining source.now.tokens.now input)) }
     ensures number { IfOk result (λ rest. builder.new.number ≡ rest.at) }
 {
@@ -280,7 +285,7 @@ fn if_statement(
     }
 }
 
-/// Parses a statement after its CASE.
+/// Parses a CASE statement after its CASE.
 #[cycle(statements)]
 fn case_statement(
     builder: &mut TableBuilder,
@@ -289,8 +294,9 @@ fn case_statement(
     input: Cursor,
     depth: u32,
 ) -> Result<Cursor, Stop>
+    // The builder hasn't counted CASE yet.
     requires { builder.old.number + 1 ≡ input.at }
-    ensures effect { Tabulates source.now.tokens.now stmt_events stmt_rows context builder.old builder.new result
+    ensures effect { AppendsEntries source.now.tokens.now stmt_events stmt_rows context builder.old builder.new result
         (node constructs.Statement (prefixed (marks.word kinds.Case) (cases_with (expr_at depth) (block_at depth))) (remaining source.now.tokens.now input)) }
     ensures number { IfOk result (λ rest. builder.new.number ≡ rest.at) }
 {
@@ -314,7 +320,7 @@ fn cases(
     depth: u32,
 ) -> Result<Cursor, Stop>
     requires { builder.old.number ≡ input.at }
-    ensures effect { Tabulates source.now.tokens.now cases_end_events cases_end_rows context builder.old builder.new result
+    ensures effect { AppendsEntries source.now.tokens.now cases_end_events cases_end_rows context builder.old builder.new result
         (seq (case_with (block_at depth)) (seq (many (accept_at kinds.Bar) (case_with (block_at depth))) (expect_at kinds.End)) (remaining source.now.tokens.now input)) }
     ensures number { IfOk result (λ rest. builder.new.number ≡ rest.at) }
 {
@@ -337,7 +343,7 @@ fn case(
     depth: u32,
 ) -> Result<Cursor, Stop>
     requires { builder.old.number ≡ input.at }
-    ensures effect { Tabulates source.now.tokens.now case_events case_rows context builder.old builder.new result (case_with (block_at depth) (remaining source.now.tokens.now input)) }
+    ensures effect { AppendsEntries source.now.tokens.now case_events case_rows context builder.old builder.new result (case_with (block_at depth) (remaining source.now.tokens.now input)) }
     ensures number { IfOk result (λ rest. builder.new.number ≡ rest.at) }
 {
     if !begins_label(source.tokens, input) {
@@ -352,7 +358,7 @@ fn case(
     }
 }
 
-/// Parses the further cases, each after a bar.
+/// Parses the further cases of a CASE statement, each after a bar.
 #[cycle(statements)]
 fn more_cases(
     builder: &mut TableBuilder,
@@ -362,7 +368,7 @@ fn more_cases(
     depth: u32,
 ) -> Result<Cursor, Stop>
     requires { builder.old.number ≡ input.at }
-    ensures effect { Tabulates source.now.tokens.now cases_events cases_rows context builder.old builder.new result (many (accept_at kinds.Bar) (case_with (block_at depth)) (remaining source.now.tokens.now input)) }
+    ensures effect { AppendsEntries source.now.tokens.now cases_events cases_rows context builder.old builder.new result (many (accept_at kinds.Bar) (case_with (block_at depth)) (remaining source.now.tokens.now input)) }
     ensures number { IfOk result (λ rest. builder.new.number ≡ rest.at) }
 {
     let mut here = input;
@@ -376,7 +382,7 @@ fn more_cases(
     Ok(here)
 }
 
-/// Parses a statement after its WHILE.
+/// Parses a WHILE statement after its WHILE.
 #[cycle(statements)]
 fn while_statement(
     builder: &mut TableBuilder,
@@ -385,8 +391,9 @@ fn while_statement(
     input: Cursor,
     depth: u32,
 ) -> Result<Cursor, Stop>
+    // The builder hasn't counted WHILE yet.
     requires { builder.old.number + 1 ≡ input.at }
-    ensures effect { Tabulates source.now.tokens.now stmt_events stmt_rows context builder.old builder.new result
+    ensures effect { AppendsEntries source.now.tokens.now stmt_events stmt_rows context builder.old builder.new result
         (node constructs.Statement (prefixed (marks.word kinds.While) (while_with (expr_at depth) (block_at depth))) (remaining source.now.tokens.now input)) }
     ensures number { IfOk result (λ rest. builder.new.number ≡ rest.at) }
 {
@@ -400,7 +407,7 @@ fn while_statement(
     }
 }
 
-/// Parses a statement after its REPEAT.
+/// Parses a REPEAT statement after its REPEAT.
 #[cycle(statements)]
 fn repeat_statement(
     builder: &mut TableBuilder,
@@ -409,8 +416,9 @@ fn repeat_statement(
     input: Cursor,
     depth: u32,
 ) -> Result<Cursor, Stop>
+    // The builder hasn't counted REPEAT yet.
     requires { builder.old.number + 1 ≡ input.at }
-    ensures effect { Tabulates source.now.tokens.now stmt_events stmt_rows context builder.old builder.new result
+    ensures effect { AppendsEntries source.now.tokens.now stmt_events stmt_rows context builder.old builder.new result
         (node constructs.Statement (prefixed (marks.word kinds.Repeat) (repeat_with (expr_at depth) (block_at depth))) (remaining source.now.tokens.now input)) }
     ensures number { IfOk result (λ rest. builder.new.number ≡ rest.at) }
 {
@@ -424,7 +432,7 @@ fn repeat_statement(
     }
 }
 
-/// Parses a statement after its FOR.
+/// Parses a FOR statement after its FOR.
 #[cycle(statements)]
 fn for_statement(
     builder: &mut TableBuilder,
@@ -433,8 +441,9 @@ fn for_statement(
     input: Cursor,
     depth: u32,
 ) -> Result<Cursor, Stop>
+    // The builder hasn't counted FOR yet.
     requires { builder.old.number + 1 ≡ input.at }
-    ensures effect { Tabulates source.now.tokens.now stmt_events stmt_rows context builder.old builder.new result
+    ensures effect { AppendsEntries source.now.tokens.now stmt_events stmt_rows context builder.old builder.new result
         (node constructs.Statement (prefixed (marks.word kinds.For) (for_with (expr_at depth) (block_at depth))) (remaining source.now.tokens.now input)) }
     ensures number { IfOk result (λ rest. builder.new.number ≡ rest.at) }
 {
@@ -444,7 +453,7 @@ fn for_statement(
             append_for_variable(builder, context);
             match expect_word(builder, source.tokens, here, Kind::Assign) {
                 Ok(here) => match expression(builder, context, source, here, depth) {
-                    Ok(here) => for_limit(builder, context, source, here, depth),
+                    Ok(here) => for_limit_and_body(builder, context, source, here, depth),
                     Err(stop) => Err(stop),
                 },
                 Err(stop) => Err(stop),
@@ -454,9 +463,9 @@ fn for_statement(
     }
 }
 
-/// Parses a FOR statement from its TO on: the limit, the step and the body.
+/// Parses a FOR statement from its TO on: the limit, the step if there is one, and the body.
 #[cycle(statements)]
-fn for_limit(
+fn for_limit_and_body(
     builder: &mut TableBuilder,
     context: Context,
     source: &ParserInput,
@@ -464,7 +473,7 @@ fn for_limit(
     depth: u32,
 ) -> Result<Cursor, Stop>
     requires { builder.old.number ≡ input.at }
-    ensures effect { Tabulates source.now.tokens.now for_limit_events for_limit_rows context builder.old builder.new result
+    ensures effect { AppendsEntries source.now.tokens.now for_limit_events for_limit_rows context builder.old builder.new result
         (seq (expect_at kinds.To) (seq (expr_at depth) (seq (optional (accept_at kinds.By) (expr_at depth))
         (seq (expect_at kinds.Do) (seq (block_at depth) (expect_at kinds.End))))) (remaining source.now.tokens.now input)) }
     ensures number { IfOk result (λ rest. builder.new.number ≡ rest.at) }
@@ -490,7 +499,7 @@ fn for_step(
     depth: u32,
 ) -> Result<Cursor, Stop>
     requires { builder.old.number ≡ input.at }
-    ensures effect { Tabulates source.now.tokens.now (value_events kinds.By) value_rows context builder.old builder.new result (optional (accept_at kinds.By) (expr_at depth) (remaining source.now.tokens.now input)) }
+    ensures effect { AppendsEntries source.now.tokens.now (value_events kinds.By) value_rows context builder.old builder.new result (optional (accept_at kinds.By) (expr_at depth) (remaining source.now.tokens.now input)) }
     ensures number { IfOk result (λ rest. builder.new.number ≡ rest.at) }
 {
     match accept(source.tokens, input, Kind::By) {
@@ -512,7 +521,7 @@ fn for_body(
     depth: u32,
 ) -> Result<Cursor, Stop>
     requires { builder.old.number ≡ input.at }
-    ensures effect { Tabulates source.now.tokens.now for_body_events for_body_rows context builder.old builder.new result (seq (expect_at kinds.Do) (seq (block_at depth) (expect_at kinds.End)) (remaining source.now.tokens.now input)) }
+    ensures effect { AppendsEntries source.now.tokens.now for_body_events for_body_rows context builder.old builder.new result (seq (expect_at kinds.Do) (seq (block_at depth) (expect_at kinds.End)) (remaining source.now.tokens.now input)) }
     ensures number { IfOk result (λ rest. builder.new.number ≡ rest.at) }
 {
     match expect_word(builder, source.tokens, input, Kind::Do) {

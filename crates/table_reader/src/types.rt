@@ -1,5 +1,8 @@
-//! Types (Oberon-07 report, section 6). `depth` is the number of nested levels that are left for what a function parses. Each function
-//! parses one production, as the parser does, and appends its table entries.
+//! Types (Oberon-07 report, section 6). Each function parses the production or part that its name states, and appends the table entries
+//! of what it parses. `depth` is the number of nested levels that are left for it.
+//! Clauses: the builder has counted exactly the tokens before the cursor, before a call (`requires`) and, with `Ok`, after it (`number`).
+//! `effect`: the function returns what the grammar's reader, the last argument, returns for these tokens, unless it returns the error
+//! `Memory`. With `Ok`, unless an allocation failed, it has appended exactly the entries (`.._rows`, `.._stage`) of the parsed tree.
 
 ghost use Rattle.std.specs.Prelude.{◌≡◌, ◌+◌, IfOk};
 ghost use Rattle.ob_scan.specs.declared.kind.Kind.TheVariants as kinds;
@@ -10,12 +13,12 @@ ghost use Rattle.ob_tree.specs.Types.{type_events, fields_events, var_events};
 ghost use Rattle.ob_tree.specs.Widths.{base_width};
 ghost use Rattle.table_rules.specs.Types.{fields_rows, lengths_rows, type_rows, var_rows};
 ghost use Rattle.ob_grammar.specs.Combinators.{accept_at, expect_at, many, node, nothing, optional, prefixed, seq, several, unless};
-ghost use Rattle.ob_grammar.specs.AgreesWith.{remaining};
+ghost use Rattle.ob_grammar.specs.ParsesAs.{remaining};
 ghost use Rattle.ob_grammar.specs.ReadExpressions.{expr_at};
 ghost use Rattle.ob_grammar.specs.ReadNames as readers;
 ghost use Rattle.ob_grammar.specs.ReadTypes.{field_start, fields_with, record_with, optional_parameters_at, type_at, type_with, var_with};
 ghost use Rattle.table_reader.specs.TypeShapes.{type_after_token_events, type_after_token_rows, closed_events, ended_events, ended_rows, field_events, field_rows, more_lengths_rows, more_events, more_fields_rows, record_stage, optional_fields_events, optional_fields_rows};
-ghost use Rattle.table_reader.specs.Tabulating.{Tabulates, TabulatesBy};
+ghost use Rattle.table_reader.specs.Tabulating.{AppendsEntries, AppendsEntriesBy};
 
 use crate::expressions::expression;
 use crate::names::declared_names;
@@ -29,7 +32,7 @@ use module_table::{Block, DeclKind, Part};
 use ob_grammar::cursor::Cursor;
 use ob_grammar::names::qualident_after;
 use ob_grammar::stop::Stop;
-use ob_grammar::tokens::{accept, depth_stop, is_at};
+use ob_grammar::tokens::{accept, depth_stop, next_is};
 use ob_grammar::types::{accept_field_separator, base, begins_type};
 use ob_scan::{Kind, Token};
 use ob_tree::name::Qualident;
@@ -38,7 +41,7 @@ use table_rules::walk::types::{
     add_record, add_type_component, append_base, append_type_name, record_context, type_context,
 };
 
-/// Parses a type, for which `depth` levels of nesting are left. It is a level itself.
+/// Parses a type, which takes one of the `depth` nesting levels that are left. If none is left, returns an error.
 #[cycle(types)]
 pub(crate) fn type_expression(
     builder: &mut TableBuilder,
@@ -48,7 +51,7 @@ pub(crate) fn type_expression(
     depth: u32,
 ) -> Result<Cursor, Stop>
     requires { builder.old.number ≡ input.at }
-    ensures effect { Tabulates source.now.tokens.now type_events type_rows context builder.old builder.new result (type_at depth (remaining source.now.tokens.now input)) }
+    ensures effect { AppendsEntries source.now.tokens.now type_events type_rows context builder.old builder.new result (type_at depth (remaining source.now.tokens.now input)) }
     ensures number { IfOk result (λ rest. builder.new.number ≡ rest.at) }
 {
     if depth == 0 {
@@ -57,7 +60,7 @@ pub(crate) fn type_expression(
     type_after_depth_check(builder, context, source, input, depth - 1)
 }
 
-/// Parses a type, in whose parts `depth` levels of nesting are left.
+/// Parses a type. `depth` is the number of nesting levels left for its parts: the type's own level is already subtracted.
 #[cycle(types)]
 fn type_after_depth_check(
     builder: &mut TableBuilder,
@@ -67,11 +70,11 @@ fn type_after_depth_check(
     depth: u32,
 ) -> Result<Cursor, Stop>
     requires { builder.old.number ≡ input.at }
-    ensures effect { Tabulates source.now.tokens.now type_events type_rows context builder.old builder.new result (type_with (expr_at depth) (type_at depth) (remaining source.now.tokens.now input)) }
+    ensures effect { AppendsEntries source.now.tokens.now type_events type_rows context builder.old builder.new result (type_with (expr_at depth) (type_at depth) (remaining source.now.tokens.now input)) }
     ensures number { IfOk result (λ rest. builder.new.number ≡ rest.at) }
 {
     match input.next(source.tokens) {
-        Some((Leaf::Name(head), rest)) => named(builder, context, source.tokens, head, rest),
+        Some((Leaf::Name(head), rest)) => named_type(builder, context, source.tokens, head, rest),
         Some((Leaf::Word(Kind::Array), rest)) => array(builder, context, source, rest, depth),
         Some((Leaf::Word(Kind::Record), rest)) => record(builder, context, source, rest, depth),
         Some((Leaf::Word(Kind::Pointer), rest)) => pointer(builder, context, source, rest, depth),
@@ -86,15 +89,16 @@ fn type_after_depth_check(
 }
 
 /// Parses a type name after its first identifier, which has the index `head`.
-fn named(
+fn named_type(
     builder: &mut TableBuilder,
     context: Context,
     tokens: &[Token],
     head: u32,
     input: Cursor,
 ) -> Result<Cursor, Stop>
+    // The builder hasn't counted the first identifier yet.
     requires { builder.old.number + 1 ≡ input.at }
-    ensures effect { Tabulates tokens.now type_events type_rows context builder.old builder.new result (node constructs.NamedType (readers.qualident_after head) (remaining tokens.now input)) }
+    ensures effect { AppendsEntries tokens.now type_events type_rows context builder.old builder.new result (node constructs.NamedType (readers.qualident_after head) (remaining tokens.now input)) }
     ensures number { IfOk result (λ rest. builder.new.number ≡ rest.at) }
 {
     match qualident_after(tokens, head, input) {
@@ -106,7 +110,7 @@ fn named(
     }
 }
 
-/// Parses a type after its ARRAY.
+/// Parses an array type after its ARRAY.
 #[cycle(types)]
 fn array(
     builder: &mut TableBuilder,
@@ -115,8 +119,9 @@ fn array(
     input: Cursor,
     depth: u32,
 ) -> Result<Cursor, Stop>
+    // The builder hasn't counted ARRAY yet.
     requires { builder.old.number + 1 ≡ input.at }
-    ensures effect { Tabulates source.now.tokens.now type_events type_rows context builder.old builder.new result
+    ensures effect { AppendsEntries source.now.tokens.now type_events type_rows context builder.old builder.new result
         (node constructs.ArrayType (prefixed (word kinds.Array) (seq (several kinds.Comma (expr_at depth)) (seq (expect_at kinds.Of) (type_at depth)))) (remaining source.now.tokens.now input)) }
     ensures number { IfOk result (λ rest. builder.new.number ≡ rest.at) }
 {
@@ -144,7 +149,7 @@ fn lengths(
     depth: u32,
 ) -> Result<Cursor, Stop>
     requires { builder.old.number ≡ input.at }
-    ensures effect { Tabulates source.now.tokens.now expr_list_events lengths_rows context builder.old builder.new result (several kinds.Comma (expr_at depth) (remaining source.now.tokens.now input)) }
+    ensures effect { AppendsEntries source.now.tokens.now expr_list_events lengths_rows context builder.old builder.new result (several kinds.Comma (expr_at depth) (remaining source.now.tokens.now input)) }
     ensures number { IfOk result (λ rest. builder.new.number ≡ rest.at) }
 {
     match expression(builder, context, source, input, depth) {
@@ -153,7 +158,7 @@ fn lengths(
     }
 }
 
-/// Parses the further lengths of an array, each after a comma. Each is an array of its own.
+/// Parses the further lengths of an array, each after a comma. Each further length begins an array type of its own.
 fn more_lengths(
     builder: &mut TableBuilder,
     context: Context,
@@ -162,7 +167,7 @@ fn more_lengths(
     depth: u32,
 ) -> Result<Cursor, Stop>
     requires { builder.old.number ≡ input.at }
-    ensures effect { Tabulates source.now.tokens.now (more_events kinds.Comma expr_events) more_lengths_rows context builder.old builder.new result (many (accept_at kinds.Comma) (expr_at depth) (remaining source.now.tokens.now input)) }
+    ensures effect { AppendsEntries source.now.tokens.now (more_events kinds.Comma expr_events) more_lengths_rows context builder.old builder.new result (many (accept_at kinds.Comma) (expr_at depth) (remaining source.now.tokens.now input)) }
     ensures number { IfOk result (λ rest. builder.new.number ≡ rest.at) }
 {
     let mut here = input;
@@ -177,8 +182,7 @@ fn more_lengths(
     Ok(here)
 }
 
-/// Parses a type after a token of this kind. Like some other functions of this crate it is always inlined, so that a level of nesting
-/// takes as many calls as in `ob_parse`.
+/// Parses a token of this kind and a type. It is always inlined, so that a level of nesting takes as few calls as in `ob_parse`.
 #[inline(always)]
 #[cycle(types)]
 fn type_after_token(
@@ -190,7 +194,7 @@ fn type_after_token(
     depth: u32,
 ) -> Result<Cursor, Stop>
     requires { builder.old.number ≡ input.at }
-    ensures effect { Tabulates source.now.tokens.now (type_after_token_events kind) type_after_token_rows context builder.old builder.new result (seq (expect_at kind) (type_at depth) (remaining source.now.tokens.now input)) }
+    ensures effect { AppendsEntries source.now.tokens.now (type_after_token_events kind) type_after_token_rows context builder.old builder.new result (seq (expect_at kind) (type_at depth) (remaining source.now.tokens.now input)) }
     ensures number { IfOk result (λ rest. builder.new.number ≡ rest.at) }
 {
     match expect_word(builder, source.tokens, input, kind) {
@@ -199,7 +203,7 @@ fn type_after_token(
     }
 }
 
-/// Parses a type after its POINTER.
+/// Parses a pointer type after its POINTER.
 #[cycle(types)]
 fn pointer(
     builder: &mut TableBuilder,
@@ -208,8 +212,9 @@ fn pointer(
     input: Cursor,
     depth: u32,
 ) -> Result<Cursor, Stop>
+    // The builder hasn't counted POINTER yet.
     requires { builder.old.number + 1 ≡ input.at }
-    ensures effect { Tabulates source.now.tokens.now type_events type_rows context builder.old builder.new result
+    ensures effect { AppendsEntries source.now.tokens.now type_events type_rows context builder.old builder.new result
         (node constructs.PointerType (prefixed (word kinds.Pointer) (seq (expect_at kinds.To) (type_at depth))) (remaining source.now.tokens.now input)) }
     ensures number { IfOk result (λ rest. builder.new.number ≡ rest.at) }
 {
@@ -225,15 +230,16 @@ fn pointer(
     )
 }
 
-/// Parses a procedure type after its PROCEDURE, which opens a block.
+/// Parses a procedure type after its PROCEDURE. A procedure type is a block of its own, which begins with PROCEDURE.
 fn procedure(
     builder: &mut TableBuilder,
     context: Context,
     tokens: &[Token],
     input: Cursor,
 ) -> Result<Cursor, Stop>
+    // The builder hasn't counted PROCEDURE yet.
     requires { builder.old.number + 1 ≡ input.at }
-    ensures effect { Tabulates tokens.now type_events type_rows context builder.old builder.new result
+    ensures effect { AppendsEntries tokens.now type_events type_rows context builder.old builder.new result
         (node constructs.ProcedureType (prefixed (word kinds.Procedure) optional_parameters_at) (remaining tokens.now input)) }
     ensures number { IfOk result (λ rest. builder.new.number ≡ rest.at) }
 {
@@ -247,7 +253,7 @@ fn procedure(
     optional_parameters(builder, block_context(context, first), tokens, input)
 }
 
-/// Parses a record after its RECORD. The base is parsed first, as the entry of the record contains it.
+/// Parses a record type after its RECORD. Parses the base type first, since the record's entry contains it.
 #[cycle(types)]
 fn record(
     builder: &mut TableBuilder,
@@ -256,8 +262,9 @@ fn record(
     input: Cursor,
     depth: u32,
 ) -> Result<Cursor, Stop>
+    // The builder hasn't counted RECORD yet.
     requires { builder.old.number + 1 ≡ input.at }
-    ensures effect { Tabulates source.now.tokens.now type_events type_rows context builder.old builder.new result
+    ensures effect { AppendsEntries source.now.tokens.now type_events type_rows context builder.old builder.new result
         (node constructs.RecordType (prefixed (word kinds.Record) (record_with (type_at depth))) (remaining source.now.tokens.now input)) }
     ensures number { IfOk result (λ rest. builder.new.number ≡ rest.at) }
 {
@@ -270,7 +277,7 @@ fn record(
     }
 }
 
-/// Parses a record with this base, after the base.
+/// Appends the entries of a record type and of its base, if it has one, and parses the record type after the base.
 #[inline(always)]
 #[cycle(types)]
 fn record_after_base(
@@ -281,8 +288,9 @@ fn record_after_base(
     base: Option<Qualident>,
     depth: u32,
 ) -> Result<Cursor, Stop>
+    // The builder hasn't counted RECORD and the tokens of the base yet.
     requires { builder.old.number + 1 + base_width base ≡ input.at }
-    ensures effect { TabulatesBy source.now.tokens.now closed_events (record_stage base context) builder.old builder.new result (seq (optional (unless kinds.End) (fields_with (type_at depth))) (expect_at kinds.End) (remaining source.now.tokens.now input)) }
+    ensures effect { AppendsEntriesBy source.now.tokens.now closed_events (record_stage base context) builder.old builder.new result (seq (optional (unless kinds.End) (fields_with (type_at depth))) (expect_at kinds.End) (remaining source.now.tokens.now input)) }
     ensures number { IfOk result (λ rest. builder.new.number ≡ rest.at) }
 {
     let around = record_context(context, builder.number);
@@ -295,7 +303,7 @@ fn record_after_base(
     }
 }
 
-/// Parses the field lists of a record, if its END is not next.
+/// Parses the field lists of a record, unless END is next.
 #[cycle(types)]
 fn optional_fields(
     builder: &mut TableBuilder,
@@ -305,10 +313,10 @@ fn optional_fields(
     depth: u32,
 ) -> Result<Cursor, Stop>
     requires { builder.old.number ≡ input.at }
-    ensures effect { Tabulates source.now.tokens.now optional_fields_events optional_fields_rows context builder.old builder.new result (optional (unless kinds.End) (fields_with (type_at depth)) (remaining source.now.tokens.now input)) }
+    ensures effect { AppendsEntries source.now.tokens.now optional_fields_events optional_fields_rows context builder.old builder.new result (optional (unless kinds.End) (fields_with (type_at depth)) (remaining source.now.tokens.now input)) }
     ensures number { IfOk result (λ rest. builder.new.number ≡ rest.at) }
 {
-    if is_at(source.tokens, input, Kind::End) {
+    if next_is(source.tokens, input, Kind::End) {
         return Ok(input);
     }
     fields(builder, context, source, input, depth)
@@ -324,7 +332,7 @@ fn fields(
     depth: u32,
 ) -> Result<Cursor, Stop>
     requires { builder.old.number ≡ input.at }
-    ensures effect { Tabulates source.now.tokens.now fields_events fields_rows context builder.old builder.new result (fields_with (type_at depth) (remaining source.now.tokens.now input)) }
+    ensures effect { AppendsEntries source.now.tokens.now fields_events fields_rows context builder.old builder.new result (fields_with (type_at depth) (remaining source.now.tokens.now input)) }
     ensures number { IfOk result (λ rest. builder.new.number ≡ rest.at) }
 {
     match field_list(builder, context, source, input, depth) {
@@ -344,7 +352,7 @@ fn fields_remainder(
     depth: u32,
 ) -> Result<Cursor, Stop>
     requires { builder.old.number ≡ input.at }
-    ensures effect { Tabulates source.now.tokens.now ended_events ended_rows context builder.old builder.new result
+    ensures effect { AppendsEntries source.now.tokens.now ended_events ended_rows context builder.old builder.new result
         (seq (many field_start (node constructs.FieldList (var_with (type_at depth)))) (optional (accept_at kinds.Semicolon) nothing) (remaining source.now.tokens.now input)) }
     ensures number { IfOk result (λ rest. builder.new.number ≡ rest.at) }
 {
@@ -364,7 +372,7 @@ fn more_field_lists(
     depth: u32,
 ) -> Result<Cursor, Stop>
     requires { builder.old.number ≡ input.at }
-    ensures effect { Tabulates source.now.tokens.now (more_events kinds.Semicolon field_events) more_fields_rows context builder.old builder.new result
+    ensures effect { AppendsEntries source.now.tokens.now (more_events kinds.Semicolon field_events) more_fields_rows context builder.old builder.new result
         (many field_start (node constructs.FieldList (var_with (type_at depth))) (remaining source.now.tokens.now input)) }
     ensures number { IfOk result (λ rest. builder.new.number ≡ rest.at) }
 {
@@ -379,7 +387,7 @@ fn more_field_lists(
     Ok(here)
 }
 
-/// Parses the fields of one type.
+/// Parses a field list: field names, a colon and their type.
 #[cycle(types)]
 fn field_list(
     builder: &mut TableBuilder,
@@ -389,7 +397,7 @@ fn field_list(
     depth: u32,
 ) -> Result<Cursor, Stop>
     requires { builder.old.number ≡ input.at }
-    ensures effect { Tabulates source.now.tokens.now field_events field_rows context builder.old builder.new result (node constructs.FieldList (var_with (type_at depth)) (remaining source.now.tokens.now input)) }
+    ensures effect { AppendsEntries source.now.tokens.now field_events field_rows context builder.old builder.new result (node constructs.FieldList (var_with (type_at depth)) (remaining source.now.tokens.now input)) }
     ensures number { IfOk result (λ rest. builder.new.number ≡ rest.at) }
 {
     let first = builder.number;
@@ -410,7 +418,7 @@ fn field_list(
     }
 }
 
-/// Parses variables or fields of one type.
+/// Parses the names of variables or fields, a colon and their type.
 #[cycle(types)]
 pub(crate) fn var_declaration(
     builder: &mut TableBuilder,
@@ -420,7 +428,7 @@ pub(crate) fn var_declaration(
     depth: u32,
 ) -> Result<Cursor, Stop>
     requires { builder.old.number ≡ input.at }
-    ensures effect { Tabulates source.now.tokens.now var_events var_rows context builder.old builder.new result (var_with (type_at depth) (remaining source.now.tokens.now input)) }
+    ensures effect { AppendsEntries source.now.tokens.now var_events var_rows context builder.old builder.new result (var_with (type_at depth) (remaining source.now.tokens.now input)) }
     ensures number { IfOk result (λ rest. builder.new.number ≡ rest.at) }
 {
     match declared_names(builder, context, source.tokens, input) {

@@ -16,10 +16,10 @@ use Rattle.ob_tree.specs.Expressions.{expr_events}
 use Rattle.ob_tree.specs.Statements.{block_events}
 use Rattle.ob_tree.specs.Types.{parameters_events}
 use Rattle.ob_tree.specs.Declaring.{const_events, type_decl_events, variable_events, part, declarations_events, procedure_events, import_events, module_events}
-use Rattle.ob_tree.specs.Derives.{endings_in}
+use Rattle.ob_tree.specs.Derives.{end_names_in}
 use Rattle.ob_tree.proofs.DeclarationLayers.{declarations_shown, procedure_shown, declarations_made, procedure_made, module_out}
 use Rattle.ob_tree.proofs.DeclarationInduction.{DeclarationPredicates, DeclarationSteps, DeclarationsLayer, ProcedureLayer, WithDeclarations, WithProcedure, declarations_of, procedure_of, declarations_induction}
-use Rattle.ob_tree.proofs.EndNames.{endings-append, declarations_ends, procedure_ends}
+use Rattle.ob_tree.proofs.EndNames.{collect_end_names-append, append_declaration_end_names, append_procedure_end_names}
 use Rattle.module_table.specs.declared.rows.End.{End}
 use Rattle.module_table.specs.declared.rows.DeclKind.TheVariants as decl_kinds
 use Rattle.module_table.specs.declared.builder.Context.{Context}
@@ -117,20 +117,20 @@ ended p = procedure_events p ++ word kinds.Semicolon
 
 abbrev predicates : DeclarationPredicates
 predicates = record {
-  declarations = λ t. (name : ℕ) → Closes name (declarations_rows t) (declarations_events t) (endings_in (declarations_events t));
-  procedure = λ t. (name : ℕ) → Closes name (procedure_rows t) (procedure_events t) (endings_in (procedure_events t));
+  declarations = λ t. (name : ℕ) → Closes name (declarations_rows t) (declarations_events t) (end_names_in (declarations_events t));
+  procedure = λ t. (name : ℕ) → Closes name (procedure_rows t) (procedure_events t) (end_names_in (procedure_events t));
 }
 
-e-procedures : {X : Type 0} (name : ℕ) (h : X → ProcDecl) (xs : List X) → ((x : X) → Closes name (procedure_rows (h x)) (procedure_events (h x)) (endings_in (procedure_events (h x)))) →
-    Closes name (pieces (λ p. both (procedure_rows p) token) (map h xs)) (each ended (map h xs)) (endings_in (each ended (map h xs)))
+e-procedures : {X : Type 0} (name : ℕ) (h : X → ProcDecl) (xs : List X) → ((x : X) → Closes name (procedure_rows (h x)) (procedure_events (h x)) (end_names_in (procedure_events (h x)))) →
+    Closes name (pieces (λ p. both (procedure_rows p) token) (map h xs)) (each ended (map h xs)) (end_names_in (each ended (map h xs)))
 e-procedures name h [] w = e-silent m-nothing s-nothing
 e-procedures name h (x ∷ xs) w =
     e-is refl refl
-    (endings-append (ended (h x)) (each ended (map h xs)) ∙ ap (λ (es : List (ℕ × ℕ)). es ++ endings_in (each ended (map h xs))) (endings-append (procedure_events (h x)) (word kinds.Semicolon)))
+    (collect_end_names-append (ended (h x)) (each ended (map h xs)) ∙ ap (λ (es : List (ℕ × ℕ)). es ++ end_names_in (each ended (map h xs))) (collect_end_names-append (procedure_events (h x)) (word kinds.Semicolon)))
     (e-both (e-both (w x) (e-silent (m-word kinds.Semicolon) s-token)) (e-procedures name h xs w))
 
 declarations_held : (y : WithDeclarations predicates) (name : ℕ) →
-    Closes name (told.declarations_shown (declarations_of predicates y)) (declarations_shown (declarations_of predicates y)) (endings_in (each ended (declarations_of predicates y).procedures.items))
+    Closes name (told.declarations_shown (declarations_of predicates y)) (declarations_shown (declarations_of predicates y)) (end_names_in (each ended (declarations_of predicates y).procedures.items))
 declarations_held y name =
     e-both (e-silent (c-there named (λ v. told_part const_rows v.items) (λ v. part kinds.Const const_events v.items) y.constants (λ v. n-part kinds.Const const_rows const_events v.items n-const)).mirrors
     (s-there (λ v. told_part const_rows v.items) y.constants (λ v. s-constants v.items)))
@@ -145,7 +145,7 @@ unfolding AreCounted identdef_events
 name_counted i rest k h = let e : i.name ≡ suc k = h.0 in omega (arith, e)
 
 procedure_held : (y : WithProcedure predicates) (name : ℕ) → Closes name (told.procedure_shown (procedure_of predicates y)) (procedure_shown (procedure_of predicates y))
-    (endings_in (declarations_events (procedure_of predicates y).declarations) ++ (y.name.name, y.end_name) ∷ [])
+    (end_names_in (declarations_events (procedure_of predicates y).declarations) ++ (y.name.name, y.end_name) ∷ [])
 procedure_held y name = e-procedure (name_counted y.name _) (
     e-both (e-silent (m-word kinds.Procedure) s-token)
     (e-both (e-silent (n-identdef y.name).mirrors (s-identdef y.name))
@@ -162,21 +162,21 @@ steps : DeclarationSteps predicates
 steps = record {
   declarations = λ y name.
       e-is (told.declarations_made _) (declarations_made _)
-      (declarations_ends (roll-Declarations (declarations_of predicates y)) ∙ ap (λ (z : DeclarationsLayer). endings_in (each ended z.procedures.items)) (out-roll-Declarations (declarations_of predicates y)))
+      (append_declaration_end_names (roll-Declarations (declarations_of predicates y)) ∙ ap (λ (z : DeclarationsLayer). end_names_in (each ended z.procedures.items)) (out-roll-Declarations (declarations_of predicates y)))
       (declarations_held y name);
   procedure = λ y name.
       e-is (told.procedure_made _) (procedure_made _)
-      (procedure_ends (roll-ProcDecl (procedure_of predicates y))
-      ∙ ap (λ (z : ProcedureLayer). endings_in (declarations_events z.declarations) ++ (z.name.name, z.end_name) ∷ []) (out-roll-ProcDecl (procedure_of predicates y)))
+      (append_procedure_end_names (roll-ProcDecl (procedure_of predicates y))
+      ∙ ap (λ (z : ProcedureLayer). end_names_in (declarations_events z.declarations) ++ (z.name.name, z.end_name) ∷ []) (out-roll-ProcDecl (procedure_of predicates y)))
       (e-held constructs.ProcedureDeclaration (procedure_held y name));
 }
 
-e-declarations : (d : Declarations) (name : ℕ) → Closes name (declarations_rows d) (declarations_events d) (endings_in (declarations_events d))
+e-declarations : (d : Declarations) (name : ℕ) → Closes name (declarations_rows d) (declarations_events d) (end_names_in (declarations_events d))
 e-declarations = declarations_induction predicates steps
 
 -- ---- modules
 
-e-module : (m : Module) (name : ℕ) → Closes name (module_rows m) (module_events m) (endings_in (declarations_events m.declarations) ++ (module_name_token, m.end_name) ∷ [])
+e-module : (m : Module) (name : ℕ) → Closes name (module_rows m) (module_events m) (end_names_in (declarations_events m.declarations) ++ (module_name_token, m.end_name) ∷ [])
 e-module m name = e-is (told.module_out m) (module_out m) refl (e-held constructs.Module (
     e-both (e-silent (m-word kinds.Module) s-token)
     (e-both (e-silent (m-name Names m.name (λ k. refl) (λ k. refl)) s-token)
@@ -189,5 +189,5 @@ e-module m name = e-is (told.module_out m) (module_out m) refl (e-held construct
     (e-both (e-module_end name m.name m.end_name) (e-silent (m-word kinds.Dot) s-token))))))))))
 
 pub module_closes : (m : Module) (c : Context) → AreCounted 0 (module_events m) →
-    map ending_of ((module_rows m).rows c 0).ends ≡ endings_in (declarations_events m.declarations) ++ (module_name_token, m.end_name) ∷ []
+    map ending_of ((module_rows m).rows c 0).ends ≡ end_names_in (declarations_events m.declarations) ++ (module_name_token, m.end_name) ∷ []
 module_closes m c h = (e-module m (c.decl_group + 1)).ends c 0 refl h

@@ -11,8 +11,8 @@ use Rattle.ob_tree.specs.declared.role.Role.TheVariants.{Declares, Aliases, Impo
 use Rattle.ob_tree.specs.declared.token.Leaf.{Leaf}
 use Rattle.ob_tree.specs.declared.token.Leaf.TheVariants as leafs
 use Rattle.ob_tree.specs.Declaring.{declarations_events, module_events}
-use Rattle.ob_tree.specs.Derives.{Derives, declared_in, endings_in, used_in, spelling}
-use Rattle.ob_tree.proofs.EndNames.{module_ends}
+use Rattle.ob_tree.specs.Derives.{Derives, declared_in, end_names_in, used_in, spelling}
+use Rattle.ob_tree.proofs.EndNames.{append_module_end_names}
 use Rattle.ob_tree.specs.Leaves.{leaf_of, leaves_from}
 use Rattle.ob_tree.specs.TreeEvents.{Events, Begins, Ends, Identifier, Value, Word, construct, tokens_of}
 use Rattle.module_table.specs.declared.rows.Declared.{Declared}
@@ -63,7 +63,7 @@ unfolding AreCounted
 declares_counted k [] h = refl
 declares_counted k (Begins c n ∷ ms) h = declares_counted k ms h
 declares_counted k (Ends c ∷ ms) h = declares_counted k ms h
-declares_counted k (Identifier (Declares starred) n ∷ ms) h = ap₂ (λ (i : ℕ) (is : List ℕ). i ∷ is) (sym h.0) (declares_counted (suc k) ms h.1)
+declares_counted k (Identifier (Declares is_exported) n ∷ ms) h = ap₂ (λ (i : ℕ) (is : List ℕ). i ∷ is) (sym h.0) (declares_counted (suc k) ms h.1)
 declares_counted k (Identifier Aliases n ∷ ms) h = ap₂ (λ (i : ℕ) (is : List ℕ). i ∷ is) (sym h.0) (declares_counted (suc k) ms h.1)
 declares_counted k (Identifier Imports n ∷ ms) h = declares_counted (suc k) ms h.1
 declares_counted k (Identifier Uses n ∷ ms) h = declares_counted (suc k) ms h.1
@@ -79,7 +79,7 @@ unfolding AreCounted
 uses_counted k [] h = refl
 uses_counted k (Begins c n ∷ ms) h = uses_counted k ms h
 uses_counted k (Ends c ∷ ms) h = uses_counted k ms h
-uses_counted k (Identifier (Declares starred) n ∷ ms) h = uses_counted (suc k) ms h.1
+uses_counted k (Identifier (Declares is_exported) n ∷ ms) h = uses_counted (suc k) ms h.1
 uses_counted k (Identifier Aliases n ∷ ms) h = uses_counted (suc k) ms h.1
 uses_counted k (Identifier Imports n ∷ ms) h = uses_counted (suc k) ms h.1
 uses_counted k (Identifier Uses n ∷ ms) h = ap₂ (λ (i : ℕ) (is : List ℕ). i ∷ is) (sym h.0) (uses_counted (suc k) ms h.1)
@@ -182,10 +182,10 @@ second (x ∷ y ∷ ks) l n ls e = let s : leaf_of 1 y ≡ leafs.Name n = cc in 
 pub own_ident : (ks : List Kind) (m : Module) → Derives ks m → (m.name ≡ module_name_token) × (slice_get ks module_name_token ≡ Some kinds.Ident)
 own_ident ks m d = let (l, ls, e) = name_spelled m in second ks l m.name ls (d ∙ e)
 
-pub counted_endings : (ks : List Kind) (m : Module) → Derives ks m → map ending_of (rows_of m).ends ≡ endings_in (module_events m)
+pub counted_endings : (ks : List Kind) (m : Module) → Derives ks m → map ending_of (rows_of m).ends ≡ end_names_in (module_events m)
 counted_endings ks m d =
     module_closes m outermost (counted_derived 0 ks (module_events m) d)
-    ∙ ap (λ (n : ℕ). endings_in (declarations_events m.declarations) ++ (n, m.end_name) ∷ []) (sym (own_ident ks m d).0) ∙ sym (module_ends m)
+    ∙ ap (λ (n : ℕ). end_names_in (declarations_events m.declarations) ++ (n, m.end_name) ∷ []) (sym (own_ident ks m d).0) ∙ sym (append_module_end_names m)
 
 -- ---- each identifier
 

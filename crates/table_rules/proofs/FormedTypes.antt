@@ -26,7 +26,7 @@ use Rattle.table_rules.proofs.Formed.{Formless, Forms, Leads, Free, rising_one, 
 
 pub n-identdef : (i : Identdef) → Formless (identdef_rows i)
 unfolding identdef_rows
-n-identdef i = n-with_rows _ (λ c k. refl) (λ c k. refl) (n-both n-token (n-so i.starred n-token))
+n-identdef i = n-with_rows _ (λ c k. refl) (λ c k. refl) (n-both n-token (n-so i.is_exported n-token))
 
 n-parameter : Formless parameter_rows
 unfolding parameter_rows

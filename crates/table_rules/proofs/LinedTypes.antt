@@ -27,9 +27,9 @@ use Rattle.table_rules.proofs.LinedStatements.{h-qualident, o-qualident}
 module _ {X : Type 0} (K : Kind X) where
   -- ---- names and parameters
 
-  pub h-identdef : (i : Identdef) → Headed K (λ c k. K.of (declared_row i.starred c k)) (identdef_rows i)
+  pub h-identdef : (i : Identdef) → Headed K (λ c k. K.of (declared_row i.is_exported c k)) (identdef_rows i)
   unfolding identdef_rows
-  h-identdef i = h-with_rows K _ (l-both K (l-token K) (o-so K i.starred (o-token K)))
+  h-identdef i = h-with_rows K _ (l-both K (l-token K) (o-so K i.is_exported (o-token K)))
 
   pub o-identdef : (i : Identdef) → Ordered K (identdef_rows i)
   o-identdef i = o-headed K (h-identdef i) (λ c k. K.declared k _ refl)

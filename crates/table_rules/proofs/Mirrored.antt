@@ -29,7 +29,7 @@ abbrev pub declares_at : ℕ → Events → List ℕ
 declares_at k [] = []
 declares_at k (Begins c n ∷ ms) = declares_at k ms
 declares_at k (Ends c ∷ ms) = declares_at k ms
-declares_at k (Identifier (Declares starred) n ∷ ms) = k ∷ declares_at (suc k) ms
+declares_at k (Identifier (Declares is_exported) n ∷ ms) = k ∷ declares_at (suc k) ms
 declares_at k (Identifier Aliases n ∷ ms) = k ∷ declares_at (suc k) ms
 declares_at k (Identifier Imports n ∷ ms) = declares_at (suc k) ms
 declares_at k (Identifier Uses n ∷ ms) = declares_at (suc k) ms
@@ -45,7 +45,7 @@ uses_at k [] = []
 uses_at k (Begins c n ∷ ms) = uses_at k ms
 uses_at k (Ends c ∷ ms) = uses_at k ms
 uses_at k (Identifier Uses n ∷ ms) = k ∷ uses_at (suc k) ms
-uses_at k (Identifier (Declares starred) n ∷ ms) = uses_at (suc k) ms
+uses_at k (Identifier (Declares is_exported) n ∷ ms) = uses_at (suc k) ms
 uses_at k (Identifier Aliases n ∷ ms) = uses_at (suc k) ms
 uses_at k (Identifier Imports n ∷ ms) = uses_at (suc k) ms
 uses_at k (Identifier Completes n ∷ ms) = uses_at (suc k) ms
@@ -72,7 +72,7 @@ declares_both : (k : ℕ) (a b : Events) → declares_at k (a ++ b) ≡ declares
 declares_both k [] b = ap (λ (n : ℕ). declares_at n b) (omega arith)
 declares_both k (Begins c n ∷ ms) b = declares_both k ms b
 declares_both k (Ends c ∷ ms) b = declares_both k ms b
-declares_both k (Identifier (Declares starred) n ∷ ms) b = ap (λ (ns : List ℕ). k ∷ ns) (declares_both (suc k) ms b ∙ ap (λ (ns : List ℕ). declares_at (suc k) ms ++ ns) (moved (λ n. declares_at n b) k (width_of ms)))
+declares_both k (Identifier (Declares is_exported) n ∷ ms) b = ap (λ (ns : List ℕ). k ∷ ns) (declares_both (suc k) ms b ∙ ap (λ (ns : List ℕ). declares_at (suc k) ms ++ ns) (moved (λ n. declares_at n b) k (width_of ms)))
 declares_both k (Identifier Aliases n ∷ ms) b = ap (λ (ns : List ℕ). k ∷ ns) (declares_both (suc k) ms b ∙ ap (λ (ns : List ℕ). declares_at (suc k) ms ++ ns) (moved (λ n. declares_at n b) k (width_of ms)))
 declares_both k (Identifier Imports n ∷ ms) b = declares_both (suc k) ms b ∙ ap (λ (ns : List ℕ). declares_at (suc k) ms ++ ns) (moved (λ n. declares_at n b) k (width_of ms))
 declares_both k (Identifier Uses n ∷ ms) b = declares_both (suc k) ms b ∙ ap (λ (ns : List ℕ). declares_at (suc k) ms ++ ns) (moved (λ n. declares_at n b) k (width_of ms))
@@ -88,7 +88,7 @@ uses_both k [] b = ap (λ (n : ℕ). uses_at n b) (omega arith)
 uses_both k (Begins c n ∷ ms) b = uses_both k ms b
 uses_both k (Ends c ∷ ms) b = uses_both k ms b
 uses_both k (Identifier Uses n ∷ ms) b = ap (λ (ns : List ℕ). k ∷ ns) (uses_both (suc k) ms b ∙ ap (λ (ns : List ℕ). uses_at (suc k) ms ++ ns) (moved (λ n. uses_at n b) k (width_of ms)))
-uses_both k (Identifier (Declares starred) n ∷ ms) b = uses_both (suc k) ms b ∙ ap (λ (ns : List ℕ). uses_at (suc k) ms ++ ns) (moved (λ n. uses_at n b) k (width_of ms))
+uses_both k (Identifier (Declares is_exported) n ∷ ms) b = uses_both (suc k) ms b ∙ ap (λ (ns : List ℕ). uses_at (suc k) ms ++ ns) (moved (λ n. uses_at n b) k (width_of ms))
 uses_both k (Identifier Aliases n ∷ ms) b = uses_both (suc k) ms b ∙ ap (λ (ns : List ℕ). uses_at (suc k) ms ++ ns) (moved (λ n. uses_at n b) k (width_of ms))
 uses_both k (Identifier Imports n ∷ ms) b = uses_both (suc k) ms b ∙ ap (λ (ns : List ℕ). uses_at (suc k) ms ++ ns) (moved (λ n. uses_at n b) k (width_of ms))
 uses_both k (Identifier Completes n ∷ ms) b = uses_both (suc k) ms b ∙ ap (λ (ns : List ℕ). uses_at (suc k) ms ++ ns) (moved (λ n. uses_at n b) k (width_of ms))
@@ -173,9 +173,9 @@ pub m-use : (member : Option ℕ) (n : ℕ) → Mirrors (used member) (Identifie
 unfolding with_rows token joined no_rows
 m-use member n = record { width = refl; declares = λ c k. refl; uses = λ c k. refl }
 
-pub m-declared : (starred : Bool) (n : ℕ) → Mirrors (with_rows (declared_row starred) token) (Identifier (Declares starred) n ∷ [])
+pub m-declared : (is_exported : Bool) (n : ℕ) → Mirrors (with_rows (declared_row is_exported) token) (Identifier (Declares is_exported) n ∷ [])
 unfolding with_rows token joined no_rows
-m-declared starred n = record { width = refl; declares = λ c k. refl; uses = λ c k. refl }
+m-declared is_exported n = record { width = refl; declares = λ c k. refl; uses = λ c k. refl }
 
 later : (f : ℕ → List ℕ) (k : ℕ) → f (k + 1) ≡ f (suc k)
 later f k = ap f (omega arith)
@@ -185,8 +185,8 @@ pub record IsDeclaring (r : Role) : Type 0 where
   pub itself : (k n : ℕ) (o : Events) → k ∷ declares_at (suc k) o ≡ declares_at k (Identifier r n ∷ o)
   pub no_use : (k n : ℕ) (o : Events) → uses_at (suc k) o ≡ uses_at k (Identifier r n ∷ o)
 
-pub declares_it : (starred : Bool) → IsDeclaring (Declares starred)
-declares_it starred = record { itself = λ k n o. refl; no_use = λ k n o. refl }
+pub declares_it : (is_exported : Bool) → IsDeclaring (Declares is_exported)
+declares_it is_exported = record { itself = λ k n o. refl; no_use = λ k n o. refl }
 
 pub aliases_it : IsDeclaring Aliases
 aliases_it = record { itself = λ k n o. refl; no_use = λ k n o. refl }

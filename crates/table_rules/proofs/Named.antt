@@ -206,10 +206,10 @@ pub n-use : (n : ℕ) → Named (used None) (Identifier Uses n ∷ [])
 unfolding AtNames with_rows token joined no_rows
 n-use n = record { mirrors = m-use None n; has_row = λ c k. (names.used _ (at_front _ []) refl, tt); has_role = λ c k. (tt, tt, tt, (((zero, omega arith, refl), λ j e. absurd cc), tt), tt) }
 
-pub n-declared : (starred : Bool) (n : ℕ) → Named (with_rows (declared_row starred) token) (Identifier (Declares starred) n ∷ [])
+pub n-declared : (is_exported : Bool) (n : ℕ) → Named (with_rows (declared_row is_exported) token) (Identifier (Declares is_exported) n ∷ [])
 unfolding AtNames with_rows token joined no_rows
-n-declared starred n = record {
-  mirrors = m-declared starred n;
+n-declared is_exported n = record {
+  mirrors = m-declared is_exported n;
   has_row = λ c k. (names.declared _ (at_front _ []) refl, tt);
   has_role = λ c k. (tt, ((zero, omega arith, refl), tt), tt, tt, tt);
 }
@@ -224,12 +224,12 @@ n-ends of m n = record {
 }
 
 -- a first token that is declared
-pub n-first_declares : (starred : Bool) {p : Fragment} {o : Events} {r : Role} → IsDeclaring r → common_role r ≡ Aliases → (n : ℕ) → Named p o → Named (with_rows (declared_row starred) (both token p)) (Identifier r n ∷ o)
+pub n-first_declares : (is_exported : Bool) {p : Fragment} {o : Events} {r : Role} → IsDeclaring r → common_role r ≡ Aliases → (n : ℕ) → Named p o → Named (with_rows (declared_row is_exported) (both token p)) (Identifier r n ∷ o)
 unfolding AtNames with_rows both token
-n-first_declares starred {p} {o} {r} role kind n f = record {
-  mirrors = m-first_declares (declared_row starred) role n (λ c k. refl) (λ c k. refl) f.mirrors;
+n-first_declares is_exported {p} {o} {r} role kind n f = record {
+  mirrors = m-first_declares (declared_row is_exported) role n (λ c k. refl) (λ c k. refl) f.mirrors;
   has_row = λ c k.
-      let own = declared_row starred c k in
+      let own = declared_row is_exported c k in
       let rest = p.rows c (k + 1) in
       let R = joined own (joined no_rows rest) in (
         named_among own R (among_first own (joined no_rows rest)) k (names.declared _ (at_front _ []) refl),
@@ -239,7 +239,7 @@ n-first_declares starred {p} {o} {r} role kind n f = record {
   has_role = λ c k.
       let P = HasRole k (Identifier r n ∷ o) in
       let rest = p.rows c (k + 1) in
-      roles_joined P (declared_row starred c k) (joined no_rows rest) (tt, ((zero, omega arith, ap Some kind), tt), tt, tt, tt)
+      roles_joined P (declared_row is_exported c k) (joined no_rows rest) (tt, ((zero, omega arith, ap Some kind), tt), tt, tt, tt)
       (roles_joined P no_rows rest (roles_of_none P) (roles_later k n r o rest (f.has_role c (k + 1))));
 }
 

@@ -35,7 +35,7 @@ use Rattle.table_rules.proofs.NamedStatements.{n-qualident}
 
 pub n-identdef : (i : Identdef) → Named (identdef_rows i) (identdef_events i)
 unfolding identdef_rows identdef_events
-n-identdef i = n-first_declares i.starred (declares_it i.starred) refl i.name (n-so i.starred (n-word kinds.Star))
+n-identdef i = n-first_declares i.is_exported (declares_it i.is_exported) refl i.name (n-so i.is_exported (n-word kinds.Star))
 
 n-parameter : (n : ℕ) → Named parameter_rows (declared false n)
 unfolding parameter_rows

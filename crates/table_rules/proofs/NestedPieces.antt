@@ -94,23 +94,23 @@ n-with_rows own {p} u b d f = record {
 }
 
 -- an identifier, and what follows it
-pub n-declares : (starred : Bool) {p : Fragment} → Names p → Names (with_rows (declared_row starred) (both token p))
+pub n-declares : (is_exported : Bool) {p : Fragment} → Names p → Names (with_rows (declared_row is_exported) (both token p))
 unfolding with_rows both token joined no_rows
-n-declares starred {p} f = record {
+n-declares is_exported {p} f = record {
   uses = λ c k. f.uses c (k + 1);
   decl_groups = λ c k. f.decl_groups c (k + 1);
-  own = λ c k x h. elim (Contains-append_cases (declared_row starred c k).declared (p.rows c (k + 1)).declared x h) [
-    | inl l ↦ (let e = single (record { number = k; exported = starred; declared_by = c.decl_group }) x l in let n : k ≡ x.number = ap (λ (y : Declared). y.number) e in (sym (ap (λ (y : Declared). y.declared_by) e), omega arith, omega arith))
+  own = λ c k x h. elim (Contains-append_cases (declared_row is_exported c k).declared (p.rows c (k + 1)).declared x h) [
+    | inl l ↦ (let e = single (record { number = k; exported = is_exported; declared_by = c.decl_group }) x l in let n : k ≡ x.number = ap (λ (y : Declared). y.number) e in (sym (ap (λ (y : Declared). y.declared_by) e), omega arith, omega arith))
     | inr r ↦ (let i = f.own c (k + 1) x r in let v : k + 1 ≤ x.number = i.1 in let w : x.number < k + 1 + p.width = i.2 in (i.0, omega arith, omega arith))
   ];
 }
 
-pub n-declared : (starred : Bool) → Names (with_rows (declared_row starred) token)
+pub n-declared : (is_exported : Bool) → Names (with_rows (declared_row is_exported) token)
 unfolding with_rows token joined no_rows
-n-declared starred = record {
+n-declared is_exported = record {
   uses = λ c k. refl;
   decl_groups = λ c k. refl;
-  own = λ c k x h. (let e = single (record { number = k; exported = starred; declared_by = c.decl_group }) x h in let n : k ≡ x.number = ap (λ (y : Declared). y.number) e in (sym (ap (λ (y : Declared). y.declared_by) e), omega arith, omega arith));
+  own = λ c k x h. (let e = single (record { number = k; exported = is_exported; declared_by = c.decl_group }) x h in let n : k ≡ x.number = ap (λ (y : Declared). y.number) e in (sym (ap (λ (y : Declared). y.declared_by) e), omega arith, omega arith));
 }
 
 pub n-so : (b : Bool) {p : Fragment} → Names p → Names (if_true b p)

@@ -38,7 +38,7 @@ use Rattle.table_rules.proofs.NestedPieces.{Late, Names, Opens, Stands, empty, s
 
 pub n-identdef : (i : Identdef) → Names (identdef_rows i)
 unfolding identdef_rows
-n-identdef i = n-declares i.starred (n-so i.starred n-token)
+n-identdef i = n-declares i.is_exported (n-so i.is_exported n-token)
 
 star_none : (b : Bool) (c : Context) (k : ℕ) → ((if_true b token).rows c k).declared ≡ []
 unfolding token nothing no_rows
@@ -48,9 +48,9 @@ star_none false c k = refl
 -- the name is the first token
 pub identdef_first : (i : Identdef) (c : Context) (k : ℕ) (d : Declared) → Contains ((identdef_rows i).rows c k).declared d → d.number ≡ k
 unfolding identdef_rows with_rows both token joined no_rows
-identdef_first i c k d h = elim (Contains-append_cases (declared_row i.starred c k).declared ((if_true i.starred token).rows c (k + 1)).declared d h) [
-  | inl a ↦ sym (ap (λ (y : Declared). y.number) (single (record { number = k; exported = i.starred; declared_by = c.decl_group }) d a))
-  | inr b ↦ empty ((if_true i.starred token).rows c (k + 1)).declared d (star_none i.starred c (k + 1)) b
+identdef_first i c k d h = elim (Contains-append_cases (declared_row i.is_exported c k).declared ((if_true i.is_exported token).rows c (k + 1)).declared d h) [
+  | inl a ↦ sym (ap (λ (y : Declared). y.number) (single (record { number = k; exported = i.is_exported; declared_by = c.decl_group }) d a))
+  | inr b ↦ empty ((if_true i.is_exported token).rows c (k + 1)).declared d (star_none i.is_exported c (k + 1)) b
 ]
 
 pub identdef_some : (i : Identdef) → 0 < (identdef_rows i).width

@@ -77,8 +77,8 @@ pub r-use : {Z : Type 0} (h : Z → ℕ) (n : ℕ) → Reads h (λ z. used (h z)
 r-use h n = r-name Uses h n
 
 -- a name that is declared, with a star after it or without
-pub r-declared : {Z : Type 0} (starred : Z → Bool) (h : Z → ℕ) (b : Bool) (n : ℕ) → Reads {A = ℕ × Bool} (λ z. (h z, starred z)) (λ z. declared (starred z) (h z)) never (n, b) (declared b n)
-r-declared starred h b n = record {
+pub r-declared : {Z : Type 0} (is_exported : Z → Bool) (h : Z → ℕ) (b : Bool) (n : ℕ) → Reads {A = ℕ × Bool} (λ z. (h z, is_exported z)) (λ z. declared (is_exported z) (h z)) never (n, b) (declared b n)
+r-declared is_exported h b n = record {
   same = λ z r s i j e.
       let p = declared_is _ _ _ _ r s e in
       (ap₂ (λ (m : ℕ) (c : Bool). (m, c)) p.0 p.1, tail_is _ _ r s e);

@@ -36,13 +36,13 @@ r-separated {X} {A} {f} {g} {part} k more x front apart ends l = r-until (r-at (
 -- ---- names that are declared
 
 abbrev identdef_parts : Identdef → (ℕ × Bool) × Bool
-identdef_parts i = ((i.name, i.starred), i.starred)
+identdef_parts i = ((i.name, i.is_exported), i.is_exported)
 
 abbrev identdef_told : (ℕ × Bool) × Bool → Identdef
-identdef_told p = record { name = p.0.0; starred = p.0.1 }
+identdef_told p = record { name = p.0.0; is_exported = p.0.1 }
 
-identdef_held : (i : Identdef) → Reads identdef_parts (λ z. declared z.starred z.name ++ if_true z.starred (word kinds.Star)) (on_word kinds.Star) (identdef_parts i) (declared i.starred i.name ++ if_true i.starred (word kinds.Star))
-identdef_held i = r-both (r-declared (λ z. z.starred) (λ z. z.name) i.starred i.name) (r-so kinds.Star (on_word kinds.Star) (λ s. refl) (λ z. z.starred) i.starred)
+identdef_held : (i : Identdef) → Reads identdef_parts (λ z. declared z.is_exported z.name ++ if_true z.is_exported (word kinds.Star)) (on_word kinds.Star) (identdef_parts i) (declared i.is_exported i.name ++ if_true i.is_exported (word kinds.Star))
+identdef_held i = r-both (r-declared (λ z. z.is_exported) (λ z. z.name) i.is_exported i.name) (r-so kinds.Star (on_word kinds.Star) (λ s. refl) (λ z. z.is_exported) i.is_exported)
 
 -- the name itself
 pub r-identdef : (i : Identdef) → Reads {A = Identdef} (λ z. z) identdef_events (on_word kinds.Star) i (identdef_events i)

@@ -15,7 +15,7 @@ use Rattle.table_rules.proofs.Mirrored.{width_of}
 
 -- roles that entries don't distinguish have a common role
 abbrev pub common_role : Role → Role
-common_role (Declares starred) = Aliases
+common_role (Declares is_exported) = Aliases
 common_role Aliases = Aliases
 common_role Imports = Imports
 common_role Uses = Uses

@@ -96,7 +96,7 @@ s-qualident q = s-quiet (q-qualident q)
 
 pub s-identdef : (i : Identdef) → Silent (identdef_rows i)
 unfolding identdef_rows
-s-identdef i = s-with_rows _ (λ c k. refl) (s-both s-token (s-so i.starred s-token))
+s-identdef i = s-with_rows _ (λ c k. refl) (s-both s-token (s-so i.is_exported s-token))
 
 s-parameter : Silent parameter_rows
 unfolding parameter_rows

@@ -30,7 +30,7 @@ fields_there : (f : Fields → Fragment) (o : Option (Box Fields Global)) → if
 fields_there f None = refl
 fields_there f (Some x) = refl
 
-pub identdef_out : (i : Identdef) → identdef_rows i ≡ with_rows (declared_row i.starred) (both token (if_true i.starred token))
+pub identdef_out : (i : Identdef) → identdef_rows i ≡ with_rows (declared_row i.is_exported) (both token (if_true i.is_exported token))
 unfolding identdef_rows
 identdef_out i = refl
 

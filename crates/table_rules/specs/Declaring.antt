@@ -31,7 +31,7 @@ variable_rows v = declaring decl_kinds.Variable (var_rows v)
 abbrev pub part : {X : Type 0} → (X → Fragment) → List X → Fragment
 part f xs = both token (each (λ x. both (f x) token) xs)
 
--- the names after END, with the names that they have to repeat
+-- the entry of a name after END: of a procedure, whose name has to be repeated, and of the module
 abbrev pub procedure_end : Context → ℕ → Rows
 procedure_end c k = one_end (record { number = k; of = Some (c.decl_group + 1) })
 

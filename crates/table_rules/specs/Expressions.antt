@@ -1,4 +1,4 @@
--- The entries of expressions and designators, a step for each production (Oberon-07 report, section 8).
+-- The module-table entries of expressions and designators: a definition for each production (Oberon-07 report, section 8).
 use Rattle.std.specs.Prelude.{ℕ, suc, ◌+◌, Bool, false, List, [], ◌∷◌, length, Option, Some, None}
 use Rattle.std.specs.declared.boxed.Box.{Box}
 use Rattle.std.specs.declared.alloc.Global.{Global}

@@ -25,7 +25,7 @@ declared_row exported c k = one_declared (record { number = k; exported = export
 
 -- identdef = ident ["*"]
 unfoldable pub identdef_rows : Identdef → Fragment
-identdef_rows i = with_rows (declared_row i.starred) (both token (if_true i.starred token))
+identdef_rows i = with_rows (declared_row i.is_exported) (both token (if_true i.is_exported token))
 
 -- the name of a parameter, which is never exported
 unfoldable pub parameter_rows : Fragment

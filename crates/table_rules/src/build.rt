@@ -9,9 +9,9 @@ ghost use Rattle.ob_tree.specs.declared.declaration.Module.{Module};
 use module_table::Table;
 use module_table::builder::TableBuilder;
 
-/// The table of a builder that has the entries of a module. They are sorted already, so nothing is sorted or copied.
+/// The table of a builder that has the entries of a module. The builder appended them in order, so nothing is sorted or copied.
 pub fn finish_table(builder: TableBuilder) -> Table
-    // The entries are those of some module.
+    // Some module has exactly the entries of the builder.
     requires { (m : Module) × (builder_rows builder ≡ rows_of m) }
     // The table has the entries of the builder.
     ensures { rows_in result ≡ builder_rows builder }

@@ -5,8 +5,8 @@ use std::alloc::Global;
 
 /// A sink that takes one byte at a time, fails from a certain write on, and counts the writes of no bytes.
 #[derive(Drop)]
-pub struct ByOne {
-    /// The number of bytes that it will still take. Each write of one byte or more takes one.
+pub struct FailingSink {
+    /// The number of bytes that the sink will still take. Each write of one byte or more takes one byte.
     pub writes: u64,
     /// The bytes taken so far.
     pub taken: Vec<u8>,
@@ -16,10 +16,10 @@ pub struct ByOne {
     pub empty: u64,
 }
 
-impl ByOne {
-    /// A sink that takes this many bytes, and then fails.
-    pub fn new(alloc: Global, writes: u64) -> ByOne {
-        ByOne {
+impl FailingSink {
+    /// A sink that takes `writes` bytes, one for each write, and then fails.
+    pub fn new(alloc: Global, writes: u64) -> FailingSink {
+        FailingSink {
             writes,
             taken: Vec::new(alloc),
             failures: 0,
@@ -28,7 +28,7 @@ impl ByOne {
     }
 }
 
-impl Sink for ByOne {
+impl Sink for FailingSink {
     ghost use Rattle.std.specs.Prelude.{Some};
 
     ghost taken = { λ s. Some s.taken.items };

@@ -17,27 +17,27 @@ first_state = record {
 }
 
 -- the difference of two words, modulo 2 ^ 64
-abbrev pub wrapping_less : ℕ → ℕ → ℕ
-wrapping_less a b = (a + (2 ^ 64 - b)) % 2 ^ 64
+abbrev pub wrapping_difference : ℕ → ℕ → ℕ
+wrapping_difference a b = (a + (2 ^ 64 - b)) % 2 ^ 64
 
 -- the state after one more word: seven bits of each of its bytes change both halves of the first pair, which moves to the end, and the
 -- product of these halves changes the pair that moved there last
-unfoldable pub with_word : State → ℕ → State
-with_word s word =
+unfoldable pub absorb_word : State → ℕ → State
+absorb_word s word =
     let seven = bit_and word 0x7f7f_7f7f_7f7f_7f7f in
     let left = bit_xor s.first.left seven in
-    let right = wrapping_less s.first.right seven in
+    let right = wrapping_difference s.first.right seven in
     let product = left * right in
     record {
       first = s.second;
       second = s.third;
-      third = record { left = wrapping_less s.fourth.left (bit_and product (2 ^ 64 - 1)); right = wrapping_less s.fourth.right (product / 2 ^ 64) };
+      third = record { left = wrapping_difference s.fourth.left (bit_and product (2 ^ 64 - 1)); right = wrapping_difference s.fourth.right (product / 2 ^ 64) };
       fourth = record { left = left; right = right };
     }
 
 -- the state after a block of four words of eight bytes each, the lowest byte first
-unfoldable pub with_block : State → List ℕ → State
-with_block s block = fold with_word s (map (from_le_bytes w64) (first_chunks 8 4 block))
+unfoldable pub absorb_block : State → List ℕ → State
+absorb_block s block = fold absorb_word s (map (from_le_bytes w64) (first_chunks 8 4 block))
 
 -- the whole blocks of 32 bytes of the text
 abbrev pub blocks : List ℕ → List (List ℕ)
@@ -58,5 +58,5 @@ state_input s = pair_input s.first ++ pair_input s.second ++ pair_input s.third 
 -- the digest of a text: the SipHash-1-3 of its length, of the bytes after the last block, and of the state after the blocks
 unfoldable pub digest : List ℕ → ℕ
 digest text =
-    let state = fold with_block first_state (blocks text) in
+    let state = fold absorb_block first_state (blocks text) in
     sip.finish (fold sip.write sip.initial (fed.usize (length text) ++ remainder text ∷ state_input state))

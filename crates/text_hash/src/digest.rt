@@ -1,24 +1,24 @@
-//! The digest of a text, at about one instruction per byte; std's own hash takes several. Each word changes both halves of one of four
-//! pairs, by two different operations, and the product of the halves changes the pair before it. A word has 64 bits and a pair 128, so no
-//! single word determines a pair. Last, std hashes the length, the bytes after the last block and the pairs (SipHash-1-3; Aumasson and
-//! Bernstein 2012).
+//! The digest of a text, at about one instruction per byte; std's own hash takes several. The state has four pairs of 64-bit halves. Each
+//! word of eight bytes changes both halves of one pair, by two different operations; their product changes the pair used before.
+//! A word has 64 bits and a pair 128, so no single word determines a pair. At the end std hashes the length, the bytes after the last
+//! block of 32 and the pairs (SipHash-1-3; Aumasson and Bernstein 2012).
 ghost use Rattle.std.specs.Prelude.{◌≡◌, ◌-◌, ◌*◌, ◌/◌, ◌^◌, bit_and, fold};
-ghost use Rattle.text_hash.specs.Digest.{digest, first_state, with_block, with_word};
+ghost use Rattle.text_hash.specs.Digest.{digest, first_state, absorb_block, absorb_word};
 
 use std::hash::{DefaultHasher, Hasher};
 
-/// Selects seven bits of each byte, the only ones in which names, being ASCII, differ. An attacker who solves an equation for a word
-/// seldom gets one that has these bits alone.
+/// The lower seven bits of each byte: names are ASCII, and differ in these bits alone. A word that an attacker computes as the solution of
+/// an equation seldom has no other bits.
 const SEVEN_BITS: u64 = 0x7F7F_7F7F_7F7F_7F7F;
 
-/// Two halves, both of which each word changes.
+/// A quarter of the state. A word changes both halves of one pair.
 #[derive(Clone, Copy)]
 struct Pair {
     left: u64,
     right: u64,
 }
 
-/// The state after some words: the pairs in the order in which they absorb the next words.
+/// The state of the digest: four pairs, in the order in which the next words change them.
 #[derive(Clone, Copy)]
 pub(crate) struct State {
     first: Pair,
@@ -65,8 +65,8 @@ impl State {
     }
 
     /// The state after one more word.
-    fn with_word(self, word: u64) -> State
-        ensures { result ≡ with_word self word }
+    fn absorb_word(self, word: u64) -> State
+        ensures { result ≡ absorb_word self word }
     {
         let word = word & SEVEN_BITS;
         let left = self.first.left ^ word;
@@ -83,25 +83,25 @@ impl State {
         }
     }
 
-    /// The state after the four words of a block, which returns each pair to its position.
-    fn with_block(self, block: &[u8; 32]) -> State
-        ensures { result ≡ with_block self block.now }
+    /// The state after the four words of a block. Each word rotates the pairs by one position, so a block leaves them in their order.
+    fn absorb_block(self, block: &[u8; 32]) -> State
+        ensures { result ≡ absorb_block self block.now }
     {
         let (words, _) = block.as_chunks::<8>();
-        self.with_word(u64::from_le_bytes(words[0]))
-            .with_word(u64::from_le_bytes(words[1]))
-            .with_word(u64::from_le_bytes(words[2]))
-            .with_word(u64::from_le_bytes(words[3]))
+        self.absorb_word(u64::from_le_bytes(words[0]))
+            .absorb_word(u64::from_le_bytes(words[1]))
+            .absorb_word(u64::from_le_bytes(words[2]))
+            .absorb_word(u64::from_le_bytes(words[3]))
     }
 
     /// The state after these blocks of 32 bytes.
     #[inline(never)]
-    fn of(blocks: &[[u8; 32]]) -> State
-        ensures { result ≡ fold with_block first_state blocks.now }
+    fn from_blocks(blocks: &[[u8; 32]]) -> State
+        ensures { result ≡ fold absorb_block first_state blocks.now }
     {
         let mut state = State::new();
         for block in blocks {
-            state = state.with_block(block);
+            state = state.absorb_block(block);
         }
         state
     }
@@ -112,7 +112,7 @@ pub(crate) fn digest(text: &[u8]) -> u64
     ensures { result ≡ digest text.now }
 {
     let (blocks, rest) = text.as_chunks::<32>();
-    let state = State::of(blocks);
+    let state = State::from_blocks(blocks);
     let mut hasher = DefaultHasher::new();
     hasher.write_usize(text.len());
     hasher.write(rest);

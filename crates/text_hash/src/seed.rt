@@ -20,7 +20,7 @@ pub struct Seed {
 impl Seed {
     /// The seed made from the digest of a text. It is not secret: an author who writes names that collide with one seed changes the seed
     /// by writing them, and has to solve for many words at once to return to it. Nothing proves that this is hard.
-    fn of(text: &[u8]) -> Seed
+    fn from_text(text: &[u8]) -> Seed
         ensures { result.hasher ≡ fold folding.write folding.initial (fed.u64 (digest text.now)) }
     {
         let mut hasher = FoldHasher::default();
@@ -37,7 +37,7 @@ impl Seed {
         ensures large { 1024 < count → result.hasher ≡ fold folding.write folding.initial (fed.u64 (digest text.now)) }
     {
         if count > MAX_FIXED_SEED_KEYS {
-            return Seed::of(text);
+            return Seed::from_text(text);
         }
         let hasher = FoldHasher::default();
         Seed { hasher }

@@ -4,7 +4,7 @@ use Rattle.std.specs.Prelude.{option_map}
 use Rattle.std.specs.List.{position, prefix_len, list_all}
 use Rattle.std.proofs.lemmas.Bool.{and_parts, cases_lt, eqb-true, lt-ltb, le-ltb, cases_Bool}
 use Rattle.std.proofs.lemmas.Bool.Decides.{nat_tests}
-use Rattle.texts.specs.Fields.{cut_at, with_first}
+use Rattle.texts.specs.Fields.{split_at_first, with_first}
 
 -- the two parts before and after an index
 abbrev around : List ℕ → Option ℕ → Option (List ℕ × List ℕ)
@@ -22,8 +22,8 @@ step b n bytes =
       | inr le ↦ rw (e, le-ltb (suc n) (suc (length bytes)) (omega arith), le-ltb _ _ le) refl
     ]
 
-by_place : (stop : ℕ) (bytes : List ℕ) → around bytes (position (λ b. eqb b stop) bytes) ≡ cut_at stop bytes
-unfolding cut_at
+by_place : (stop : ℕ) (bytes : List ℕ) → around bytes (position (λ b. eqb b stop) bytes) ≡ split_at_first stop bytes
+unfolding split_at_first
 by_place stop [] = refl
 by_place stop (b ∷ bytes) =
     elim (cases_Bool (eqb b stop)) [
@@ -31,7 +31,7 @@ by_place stop (b ∷ bytes) =
       | inr goes ↦ rw goes (step b (prefix_len (λ x. not (eqb x stop)) bytes) bytes ∙ ap (option_map (with_first b)) (by_place stop bytes))
     ]
 
-pub cut_is : (stop : ℕ) (bytes : List ℕ) → cut_at stop bytes ≡ option_map (λ i. (take i bytes, drop (i + 1) bytes)) (position (λ b. eqb b stop) bytes)
+pub cut_is : (stop : ℕ) (bytes : List ℕ) → split_at_first stop bytes ≡ option_map (λ i. (take i bytes, drop (i + 1) bytes)) (position (λ b. eqb b stop) bytes)
 cut_is stop bytes = sym (by_place stop bytes)
 
 -- none of the bytes is this one
@@ -48,29 +48,29 @@ pub with_some : (b : ℕ) (o : Option (List ℕ × List ℕ)) (x : List ℕ × L
 with_some b None x e = absurd cc
 with_some b (Some y) x e = (y, refl, cc)
 
-pub cut_takes : (stop : ℕ) (bytes : List ℕ) (x : List ℕ × List ℕ) → cut_at stop bytes ≡ Some x → bytes ≡ x.0 ++ stop ∷ x.1
-unfolding cut_at
+pub cut_takes : (stop : ℕ) (bytes : List ℕ) (x : List ℕ × List ℕ) → split_at_first stop bytes ≡ Some x → bytes ≡ x.0 ++ stop ∷ x.1
+unfolding split_at_first
 cut_takes stop [] x e = absurd cc
 cut_takes stop (b ∷ bytes) x e =
     elim (cases_Bool (eqb b stop)) [
       | inl stops ↦ let at : Some ([], bytes) ≡ Some x = rw stops at e in
           let pair : ([], bytes) ≡ x = some_is _ _ at in
           rw (← pair, eqb-true b stop stops) refl
-      | inr goes ↦ let at : option_map (with_first b) (cut_at stop bytes) ≡ Some x = rw goes at e in
-          let p = with_some b (cut_at stop bytes) x at in
+      | inr goes ↦ let at : option_map (with_first b) (split_at_first stop bytes) ≡ Some x = rw goes at e in
+          let p = with_some b (split_at_first stop bytes) x at in
           rw (← p.2) (ap (λ (t : List ℕ). b ∷ t) (cut_takes stop bytes p.0 p.1))
     ]
 
-pub cut_again : (stop : ℕ) (front rest : List ℕ) → without stop front ≡ true → cut_at stop (front ++ stop ∷ rest) ≡ Some (front, rest)
-unfolding cut_at
+pub cut_again : (stop : ℕ) (front rest : List ℕ) → without stop front ≡ true → split_at_first stop (front ++ stop ∷ rest) ≡ Some (front, rest)
+unfolding split_at_first
 cut_again stop [] rest e = rw (eq-eqb stop stop refl) refl
 cut_again stop (b ∷ front) rest e =
     let p = and_parts _ _ e in
     let no : eqb b stop ≡ false = grind (arith, nat_tests) in
     rw (no, cut_again stop front rest p.1) refl
 
-pub cut_none : (stop : ℕ) (bytes : List ℕ) → without stop bytes ≡ true → cut_at stop bytes ≡ None
-unfolding cut_at
+pub cut_none : (stop : ℕ) (bytes : List ℕ) → without stop bytes ≡ true → split_at_first stop bytes ≡ None
+unfolding split_at_first
 cut_none stop [] e = refl
 cut_none stop (b ∷ bytes) e =
     let p = and_parts _ _ e in

@@ -18,7 +18,7 @@ use Rattle.std.proofs.lemmas.Option.{cond_some}
 use Rattle.std.proofs.lemmas.Str.{IsUtf8-from_ascii}
 use Rattle.std.proofs.lemmas.Str.Parse.{IsNumeralModel, digits_value-take-le, numerals_by_value, parse_digits}
 use Rattle.std.proofs.lemmas.Fmt.{IsAscii-from_digits, decimal-digits_value, digits_decimal, digits_value-decimal, decimal_digit, decimal_nonempty, first_decimal}
-use Rattle.texts.specs.Fields.{digits_of, is_canonical_number, number_of}
+use Rattle.texts.specs.Fields.{decimal_u64, is_canonical_number, number_of}
 
 pub own : IsNumeralModel (λ ds. list_all is_ascii_digit ds ≡ true) (digits_value 10)
 own = numerals_by_value _ (search rules)
@@ -62,14 +62,14 @@ module _ (bytes : List ℕ) (i : ℕ) (in_bytes : i < length bytes) (so_far : li
       omega arith
 
   -- a number above 64 bits stays above 64 bits with further digits
-  pub too_much : 2 ^ 64 ≤ digits_value 10 (take (i + 1) bytes) → digits_of bytes ≡ None
-  unfolding digits_of
+  pub too_much : 2 ^ 64 ≤ digits_value 10 (take (i + 1) bytes) → decimal_u64 bytes ≡ None
+  unfolding decimal_u64
   too_much more =
       let within = digits_value-take-le 10 bytes (i + 1) (omega arith) in
       rw (le-ltb (digits_value 10 bytes) (2 ^ 64) (omega arith), and_false (list_all is_ascii_digit bytes)) refl
 
-pub digits_end : (bytes : List ℕ) (i value : ℕ) → length bytes ≤ i → list_all is_ascii_digit (take i bytes) ≡ true → value ≡ digits_value 10 (take i bytes) → value < 2 ^ 64 → Some value ≡ digits_of bytes
-unfolding digits_of
+pub digits_end : (bytes : List ℕ) (i value : ℕ) → length bytes ≤ i → list_all is_ascii_digit (take i bytes) ≡ true → value ≡ digits_value 10 (take i bytes) → value < 2 ^ 64 → Some value ≡ decimal_u64 bytes
+unfolding decimal_u64
 digits_end bytes i value past digits is fits =
     let whole : take i bytes ≡ bytes = take_all i bytes past in
     let all : list_all is_ascii_digit bytes ≡ true = ap (list_all is_ascii_digit) (sym whole) ∙ digits in

@@ -4,26 +4,26 @@ use Rattle.std.specs.Char.{is_ascii_alphabetic, is_ascii_alphanumeric, is_ascii_
 use Rattle.std.specs.Str.Parse.{digits_value}
 use Rattle.std.specs.List.{list_all, join_with_byte}
 
--- the pair of lists with `b` prepended to the first one
+-- the pair of lists after `b` is prepended to its first list
 abbrev pub with_first : ℕ → List ℕ × List ℕ → List ℕ × List ℕ
 with_first b parts = (b ∷ parts.0, parts.1)
 
--- the bytes before the first `stop` and those after it, if it occurs
-unfoldable pub cut_at : ℕ → List ℕ → Option (List ℕ × List ℕ)
-cut_at stop [] = None
-cut_at stop (b ∷ bytes) = if b == stop then Some ([], bytes) else option_map (with_first b) (cut_at stop bytes)
+-- the bytes before the first `stop` and the bytes after it; None if `stop` doesn't occur
+unfoldable pub split_at_first : ℕ → List ℕ → Option (List ℕ × List ℕ)
+split_at_first stop [] = None
+split_at_first stop (b ∷ bytes) = if b == stop then Some ([], bytes) else option_map (with_first b) (split_at_first stop bytes)
 
 -- the bytes are one or more digits without a leading zero
 abbrev pub is_canonical_number : List ℕ → Bool
 is_canonical_number text = list_all is_ascii_digit text && (nat_lt 0 (length text) && (not (slice_index text 0 == 48) || length text == 1))
 
--- the number below 2 ^ 64 whose decimal digits, without a leading zero, these bytes are
+-- the number below 2 ^ 64 that the bytes denote as decimal digits without a leading zero; None if there is none
 unfoldable pub number_of : List ℕ → Option ℕ
 number_of text = if is_canonical_number text && nat_lt (digits_value 10 text) (2 ^ 64) then Some (digits_value 10 text) else None
 
--- the number below 2 ^ 64 whose decimal digits, with leading zeros or not, these bytes are
-unfoldable pub digits_of : List ℕ → Option ℕ
-digits_of text = if list_all is_ascii_digit text && nat_lt (digits_value 10 text) (2 ^ 64) then Some (digits_value 10 text) else None
+-- the number below 2 ^ 64 that the bytes denote as decimal digits, 0 if there is no byte; leading zeros are allowed; None if there is none
+unfoldable pub decimal_u64 : List ℕ → Option ℕ
+decimal_u64 text = if list_all is_ascii_digit text && nat_lt (digits_value 10 text) (2 ^ 64) then Some (digits_value 10 text) else None
 
 -- an identifier (Oberon-07 report, section 3): a letter, and then letters and digits
 abbrev pub is_name : List ℕ → Bool

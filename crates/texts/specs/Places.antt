@@ -21,8 +21,8 @@ abbrev pub folder_prefix : List ℕ → List ℕ
 folder_prefix folder = if needs_slash folder then folder ++ codes "/" else folder
 
 -- paths unchanged, lines and columns from 0
-abbrev pub raw_style : Style
-raw_style = record { prefix = []; first = 0 }
+abbrev pub plain_style : Style
+plain_style = record { prefix = []; first = 0 }
 
 -- paths after the path of this folder, lines and columns from 1
 abbrev pub editor_style : List ℕ → Style
@@ -30,18 +30,18 @@ editor_style folder = record { prefix = folder_prefix folder; first = 1 }
 
 -- the style that a value of `LocationStyle` denotes
 abbrev pub style_of : LocationStyle → Style
-style_of Plain = raw_style
+style_of Plain = plain_style
 style_of (Editor folder) = editor_style folder.now
 
 -- `PATH`, with its control characters escaped
 abbrev pub path_text : Style → List ℕ → List ℕ
 path_text style path = escaped (style.prefix ++ path)
 
--- `LINE:COL`
+-- a position in this style, as `LINE:COL`
 abbrev pub position_text : Style → ℕ → ℕ → List ℕ
 position_text style line column = decimal (style.first + line) ++ codes ":" ++ decimal (style.first + column)
 
--- `PATH:LINE:COL`
+-- a location in this style, as `PATH:LINE:COL`
 abbrev pub location_text : Style → List ℕ → ℕ → ℕ → List ℕ
 location_text style path line column = path_text style path ++ codes ":" ++ position_text style line column
 

@@ -14,6 +14,7 @@ pub(crate) fn has_control(text: &[u8]) -> bool
     text.iter().any(|byte| byte.is_ascii_control())
 }
 
+/// The lower-case hexadecimal digit of a value below 16.
 fn hex_digit(value: u32) -> char
     requires { value < 16 }
     ensures { result ≡ digit_char value }
@@ -71,7 +72,7 @@ fn append_chars(out: &mut String, text: &str) -> Result<(), AllocError>
 /// The text with its control characters escaped: `\t`, `\n` and `\r`, and `\x` with two lower-case hexadecimal digits for 127 and each
 /// other character below 32. Every other byte is copied, a backslash too. Fails if an allocation does.
 pub fn escaped(alloc: Global, text: &str) -> Result<String, AllocError>
-    // The escaped text.
+    // The result is the escaped text.
     ensures { IfOk result (λ out. string_bytes out ≡ escaped text.now) }
 {
     let mut out = String::new(alloc);

@@ -2,19 +2,20 @@
 ghost use Rattle.std.specs.Prelude.{◌≡◌, ◌==◌, ℕ, option_map};
 ghost use Rattle.std.specs.List.{list_all, position};
 ghost use Rattle.std.specs.Char.{is_ascii_alphanumeric, is_ascii_digit};
-ghost use Rattle.texts.specs.Fields.{cut_at, digits_of, is_name, named, number_of};
+ghost use Rattle.texts.specs.Fields.{split_at_first, decimal_u64, is_name, named, number_of};
 
+/// The index of the first occurrence of `byte`.
 fn index_of(bytes: &[u8], byte: u8) -> Option<usize>
     ensures { result ≡ position (λ b. b == byte) bytes.now }
 {
     bytes.iter().position(|b| *b == byte)
 }
 
-/// The bytes before and after the first `stop`, or `None` if there is none in them.
+/// The bytes before and after the first `stop`, or `None` if `stop` doesn't occur.
 #[tactic(auto, using(crate::proofs::FieldCuts::cut_is))]
-pub fn cut_at_byte(bytes: &[u8], stop: u8) -> Option<(&[u8], &[u8])>
-    // The two parts of the first split, or nothing if the byte does not occur.
-    ensures { option_map (λ parts. (parts.0.now, parts.1.now)) result ≡ cut_at stop bytes.now }
+pub fn split_at_byte(bytes: &[u8], stop: u8) -> Option<(&[u8], &[u8])>
+    // The bytes before and after the first `stop`, or `None` if `stop` doesn't occur.
+    ensures { option_map (λ parts. (parts.0.now, parts.1.now)) result ≡ split_at_first stop bytes.now }
 {
     let at = index_of(bytes, stop)?;
     let (before, _) = bytes.split_at(at);
@@ -22,6 +23,7 @@ pub fn cut_at_byte(bytes: &[u8], stop: u8) -> Option<(&[u8], &[u8])>
     Some((before, after))
 }
 
+/// Whether all bytes are ASCII letters or digits.
 fn is_alphanumeric(bytes: &[u8]) -> bool
     ensures { result ≡ list_all is_ascii_alphanumeric bytes.now }
 {
@@ -38,11 +40,11 @@ pub fn is_identifier(bytes: &[u8]) -> bool
     }
 }
 
-/// The number up to 2^64 - 1 that the decimal digits denote, with leading zeros or not, or `None`. Tests and evaluates each byte in one
-/// pass.
-#[tactic(auto, unfolding(crate::specs::Fields::digits_of))]
+/// The number that the decimal digits denote, 0 if there is no digit. Leading zeros are allowed. `None` if a byte is no digit or the
+/// number exceeds 2^64 - 1.
+#[tactic(auto, unfolding(crate::specs::Fields::decimal_u64))]
 fn parse_decimal_digits(bytes: &[u8]) -> Option<u64>
-    ensures { result ≡ digits_of bytes.now }
+    ensures { result ≡ decimal_u64 bytes.now }
 {
     let mut value = 0u64;
     for byte in bytes {
@@ -56,7 +58,7 @@ fn parse_decimal_digits(bytes: &[u8]) -> Option<u64>
 }
 
 /// The number up to 2^64 - 1 that the decimal digits denote, or `None`. Leading zeros are rejected, so each number has one form.
-#[tactic(auto, unfolding(crate::specs::Fields::number_of, crate::specs::Fields::digits_of))]
+#[tactic(auto, unfolding(crate::specs::Fields::number_of, crate::specs::Fields::decimal_u64))]
 pub fn parse_field_number(bytes: &[u8]) -> Option<u64>
     ensures { result ≡ number_of bytes.now }
 {

@@ -3,7 +3,7 @@ ghost use Rattle.std.specs.Prelude.{◌≡◌, ◌+◌, ◌++◌, ℕ, List, cod
 ghost use Rattle.std.specs.Char.{is_ascii_control};
 ghost use Rattle.std.specs.List.{list_any};
 ghost use Rattle.texts.specs.Escapes.{escaped, IsOneLine};
-ghost use Rattle.texts.specs.Places.{location_text, path_text, raw_style, position_text, Style};
+ghost use Rattle.texts.specs.Places.{location_text, path_text, plain_style, position_text, Style};
 
 /// An escaped text has no control character, a text without one is unchanged by escaping, and words without one, followed by an escaped
 /// text and an LF, are one line.
@@ -15,10 +15,10 @@ pub fn escaped_is_one_line()
 
 /// A location in any style is the raw form of the shifted location with the prefixed path.
 pub fn style_shifts_location()
-    // `PATH`
-    ensures path { (style : Style) (path : List ℕ) → path_text style path ≡ path_text raw_style (style.prefix ++ path) }
-    // `LINE:COL`
-    ensures position { (style : Style) (line column : ℕ) → position_text style line column ≡ position_text raw_style (style.first + line) (style.first + column) }
-    // `PATH:LINE:COL`
-    ensures location { (style : Style) (path : List ℕ) (line column : ℕ) → location_text style path line column ≡ location_text raw_style (style.prefix ++ path) (style.first + line) (style.first + column) }
+    // A path, `PATH`: its plain form with the prefix.
+    ensures path { (style : Style) (path : List ℕ) → path_text style path ≡ path_text plain_style (style.prefix ++ path) }
+    // A position, `LINE:COL`: the plain form of the shifted position.
+    ensures position { (style : Style) (line column : ℕ) → position_text style line column ≡ position_text plain_style (style.first + line) (style.first + column) }
+    // A location, `PATH:LINE:COL`: the plain form with both.
+    ensures location { (style : Style) (path : List ℕ) (line column : ℕ) → location_text style path line column ≡ location_text plain_style (style.prefix ++ path) (style.first + line) (style.first + column) }
 {}

@@ -1,7 +1,7 @@
 //! Text on one line: the fields of a line, control characters as escapes, and locations in files, also in the style of editors.
 //! Depends on std alone; `lanes` tests sixteen bytes at once with SIMD.
-//! Main calls: those of `fields` are exact: a name is exactly an identifier of Oberon-07, a number exactly its decimal digits. Those of
-//! `prefixes` parse the start of a text; what they return is exact, but they may return nothing for a valid line.
+//! The functions of `fields` parse whole fields: a name is an identifier of Oberon-07, a number its decimal digits. They return nothing
+//! only if the field is invalid. Functions of `prefixes` parse the start of a text, and may return nothing for a valid line.
 //! `escaped` and `EscapingWriter::push` replace each control character by its escape and copy every other byte. `LocationWriter` writes
 //! `PATH:LINE:COL` in a style, which may prefix the path and count lines and columns from 1.
 #![tactic(auto)]

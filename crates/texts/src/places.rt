@@ -27,7 +27,7 @@ fn needs_slash(path: &str) -> bool
 impl LocationStyle<'_> {
     /// The path in this style. Control characters are not escaped.
     pub fn full_path(self, alloc: Global, path: &str) -> Result<String, AllocError>
-        // The prefix of the style and the path.
+        // The result is the prefix of the style followed by the path.
         ensures { IfOk result (λ text. string_bytes text ≡ (style_of self.entry).prefix ++ path.now) }
     {
         match self {
@@ -61,7 +61,8 @@ impl LocationStyle<'_> {
     }
 }
 
-/// Writes locations of one style, each path as an `EscapingWriter` does: a path equal to the one before is copied after one comparison.
+/// Appends locations in one style, with the control characters of paths escaped. A path equal to the last path without control
+/// characters is copied after one comparison.
 #[derive(Drop)]
 pub struct LocationWriter<'a> {
     style: LocationStyle<'a>,
@@ -82,7 +83,7 @@ impl<'a> LocationWriter<'a> {
         }
     }
 
-    /// Appends the prefix that the style has for each path.
+    /// Appends the part of a location that comes before the path: in the style of editors the folder and a slash, else nothing.
     fn append_prefix(&mut self, out: &mut String) -> Result<(), AllocError>
         ensures appended { OnOk result (string_bytes out.new ≡ string_bytes out.old ++ escaped (writer_style self.old).prefix) }
         ensures style { writer_style self.new ≡ writer_style self.old }

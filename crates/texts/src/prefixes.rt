@@ -1,4 +1,5 @@
-//! Parsing from the start of a text, without finding the end of the line first: a name ends at the first byte that no name has.
+//! Parsing from the start of a text, without finding the end of the line first. A name ends at the first byte that is neither a letter
+//! nor a digit.
 ghost use Rattle.std.specs.Prelude.{◌≡◌, ◌<◌, ◌≤◌, ◌++◌, ◌∷◌, IfSome, length, slice_index, take, true};
 ghost use Rattle.std.specs.Char.{is_ascii_alphanumeric, is_ascii_digit};
 ghost use Rattle.std.specs.Fmt.{decimal};
@@ -18,8 +19,8 @@ fn count_alnum(text: &[u8]) -> usize
         .count()
 }
 
-/// The number of letters and digits before the first other byte. Tests sixteen bytes at once, and single bytes if fewer are left or all
-/// sixteen are letters and digits.
+/// The number of letters and digits before the first other byte. Tests the first sixteen bytes at once. If fewer bytes are left, or all
+/// sixteen are letters and digits, it tests byte by byte.
 #[inline(always)]
 pub fn alnum_prefix_len(text: &[u8]) -> usize
     // The length of the longest prefix of letters and digits.
@@ -41,7 +42,7 @@ pub fn alnum_prefix_len(text: &[u8]) -> usize
 pub fn parse_name(text: &[u8]) -> Option<(&str, &[u8])>
     // The first part is an identifier.
     ensures name { IfSome result (λ x. is_name x.0.now ≡ true) }
-    // The two parts are the text.
+    // The text is the identifier followed by the rest.
     ensures text { IfSome result (λ x. text.now ≡ x.0.now ++ x.1.now) }
 {
     let (name, rest) = text.split_at(alnum_prefix_len(text));
@@ -53,7 +54,7 @@ pub fn parse_name(text: &[u8]) -> Option<(&str, &[u8])>
     Some((unsafe { std::str::from_utf8_unchecked(name) }, rest))
 }
 
-/// The text after `byte`, if it begins with it.
+/// The text after its first byte, if this byte is `byte`; else `None`.
 #[inline]
 pub fn strip_byte(text: &[u8], byte: u8) -> Option<&[u8]>
     ensures { IfSome result (λ rest. text.now ≡ byte ∷ rest.now) }
@@ -62,8 +63,8 @@ pub fn strip_byte(text: &[u8], byte: u8) -> Option<&[u8]>
     if *first == byte { Some(rest) } else { None }
 }
 
-/// The number `value`, whose digits are the bytes before the line end at `end`, and the text after this line end. `None` if there is no
-/// digit, or a leading zero.
+/// Returns `value`, the number that the digits before index `end` denote, and the text after the LF at index `end`. `None` if there is
+/// no digit, or a leading zero.
 fn finish_number(text: &[u8], end: usize, value: u64) -> Option<(u64, &[u8])>
     requires within { end < length text.now }
     requires ends { slice_index text.now end ≡ 10 }
@@ -78,7 +79,8 @@ fn finish_number(text: &[u8], end: usize, value: u64) -> Option<(u64, &[u8])>
     Some((value, rest))
 }
 
-/// The number up to 2^64 - 1 that is the first line of the text, and the text after its LF. Tests and evaluates each byte in one pass.
+/// The number that is the first line of the text, and the text after the LF of this line. `None` if the line is no number up to 2^64 - 1
+/// without leading zeros.
 fn parse_number(text: &[u8]) -> Option<(u64, &[u8])>
     ensures { IfSome result (λ x. text.now ≡ decimal x.0 ++ 10 ∷ x.1.now) }
 {
@@ -97,11 +99,11 @@ fn parse_number(text: &[u8]) -> Option<(u64, &[u8])>
     None
 }
 
-/// The two names and the number that are the first line of the text, separated by single blanks, and the text after its LF.
+/// The two names and the number that are the first line of the text, separated by single blanks, and the text after the LF of this line.
 pub fn parse_names_and_number(text: &[u8]) -> Option<((&str, &str, u64), &[u8])>
     // Both names are identifiers.
     ensures names { IfSome result (λ x. (is_name x.0.0.now ≡ true) × (is_name x.0.1.now ≡ true)) }
-    // The text is this line, an LF, and the rest.
+    // The text is the names and the number with single blanks between them, an LF, and the rest.
     ensures text { IfSome result (λ x. text.now ≡ x.0.0.now ++ 32 ∷ (x.0.1.now ++ 32 ∷ (decimal x.0.2 ++ 10 ∷ x.1.now))) }
 {
     let (from, rest) = parse_name(text)?;

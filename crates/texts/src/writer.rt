@@ -1,4 +1,4 @@
-//! A writer of escaped texts, most of which equal the text before.
+//! A writer of escaped texts that is fast if most texts equal the text written before.
 ghost use Rattle.std.specs.Prelude.{◌≡◌, ◌++◌, OnErr, OnOk, false};
 ghost use Rattle.std.specs.Char.{is_ascii_control};
 ghost use Rattle.std.specs.List.{list_any};

@@ -6,7 +6,7 @@ use Rattle.std.proofs.lemmas.List.Elements.{All-push}
 use Rattle.std.proofs.lemmas.List.Folds.{Any-from_list_any}
 use Rattle.type_graph.specs.declared.shape.Shape.{Shape}
 use Rattle.type_graph.specs.declared.shape.Shape.TheVariants as shapes
-use Rattle.type_graph.specs.Searches.{element_of, target_of, HasElement, HasTarget, IsUnnamed, Opens, OpensTo, plain, through, Finds, own, pointed, inherited}
+use Rattle.type_graph.specs.Searches.{element_of, target_of, HasElement, HasTarget, IsUnnamed, Opens, OpensTo, plain, through, DenotesField, own, pointed, inherited}
 use Rattle.type_graph.specs.Link.{successor, ends, on, IsTypeEnd, TypeLeads, TypeLeadsTo}
 use Rattle.type_graph.specs.Extending.{shape_record, LeadsToRecord, Has, own_field, base_field, HasField, IsFieldIn, IsRecordOf}
 use Rattle.type_graph.proofs.Extending.{of_once}
@@ -114,7 +114,7 @@ module _ {N D R : Type 0} (same : D → D → Bool) (shape : N → Shape N D R) 
         let same_next : x ≡ y = cc in
         ap suc (comes_once i l x f h rest (subst (λ (v : N). Comes l v h) (sym same_next) other))
 
-    finds_through : (met : List D) (n m : N) (d : D) (f : F) → shape n ≡ shapes.Named d m → list_any (same d) met ≡ false → Finds same shape field base (met ++ d ∷ []) m f → Finds same shape field base met n f
+    finds_through : (met : List D) (n m : N) (d : D) (f : F) → shape n ≡ shapes.Named d m → list_any (same d) met ≡ false → DenotesField same shape field base (met ++ d ∷ []) m f → DenotesField same shape field base met n f
     finds_through met n m d f e new (own o is has) = own (through e new o) is has
     finds_through met n m d f e new (pointed o is rest) = pointed (through e new o) is rest
     finds_through met n m d f e new (inherited o is has b rest) = inherited (through e new o) is has b rest
@@ -128,8 +128,8 @@ module _ {N D R : Type 0} (same : D → D → Bool) (shape : N → Shape N D R) 
     abbrev AreBehind : ℕ → F → List D → Type 0
     AreBehind k f met = All (IsBehind (λ j x. Comes j x f) k) met
 
-    finds_along : (met : List D) (k : ℕ) (n m : N) (f : F) (s : Shape N D R) → shape n ≡ s → successor true s ≡ Some m → Comes k m f → AreBehind (suc k) f met → ((after : List D) → AreBehind k f after → Finds same shape field base after m f) →
-        Finds same shape field base met n f
+    finds_along : (met : List D) (k : ℕ) (n m : N) (f : F) (s : Shape N D R) → shape n ≡ s → successor true s ≡ Some m → Comes k m f → AreBehind (suc k) f met → ((after : List D) → AreBehind k f after → DenotesField same shape field base after m f) →
+        DenotesField same shape field base met n f
     finds_along met k n m f (shapes.Pointer x) is e rest all then =
         let one : x ≡ m = cc in
         let point : shape n ≡ shapes.Pointer m = is ∙ ap (λ (v : N). shapes.Pointer v) one in
@@ -144,7 +144,7 @@ module _ {N D R : Type 0} (same : D → D → Bool) (shape : N → Shape N D R) 
     finds_along met k n m f shapes.Procedure is e rest all then = cc
     finds_along met k n m f shapes.Unknown is e rest all then = cc
 
-    comes_finds : (met : List D) (k : ℕ) (n : N) (f : F) → Comes k n f → AreBehind k f met → Finds same shape field base met n f
+    comes_finds : (met : List D) (k : ℕ) (n : N) (f : F) → Comes k n f → AreBehind k f met → DenotesField same shape field base met n f
     comes_finds met k n f (here {r = r} e p) all = own (plain (is_plain (shape n) r e)) e p
     comes_finds met k n f (along {k = j} {m = m} e rest) all = finds_along met j n m f (shape n) refl e rest all (λ after behind. comes_finds after j m f rest behind)
     comes_finds met k n f (up {k = j} {m = m} {r = r} e p b rest) all =
@@ -175,7 +175,7 @@ module _ {N D R : Type 0} (same : D → D → Bool) (shape : N → Shape N D R) 
         let l = leads_comes x.is_of.leads.steps there.steps x.by x.is_of.at f x.is_of.leads.leads there.comes in
         record { steps = suc l.steps; comes = up e p x.is_base l.comes }
 
-    pub finds_field : (n : N) (f : F) → IsFieldAt same shape field base n f → Finds same shape field base [] n f
+    pub finds_field : (n : N) (f : F) → IsFieldAt same shape field base n f → DenotesField same shape field base [] n f
     finds_field n f h =
         let there = has_comes h.has.bases h.is_of.at h.of f (record_is (shape h.is_of.at) h.of h.is_of.is) h.has.has in
         let l = leads_comes h.is_of.leads.steps there.steps n h.is_of.at f h.is_of.leads.leads there.comes in
@@ -184,7 +184,7 @@ module _ {N D R : Type 0} (same : D → D → Bool) (shape : N → Shape N D R) 
     -- ---- look-up of a field
 
     pub field_told : (n : N) (r : R) (of : Option R) (o : Option F) → of ≡ Some r → IsRecordOf shape n of → IsFieldIn shape base field r o →
-        IfSome o (λ f. Finds same shape field base [] n f) × IfNone o ((f : F) → Finds same shape field base [] n f → ⊥)
+        IfSome o (λ f. DenotesField same shape field base [] n f) × IfNone o ((f : F) → DenotesField same shape field base [] n f → ⊥)
     field_told n r of (Some f) is at h = (finds_field n f (record { of = r; is_of = subst (λ (v : Option R). IfSome v (LeadsToRecord shape n)) is at.some; has = h.some }), tt)
     field_told n r of None is at h = (
       tt,
@@ -194,7 +194,7 @@ module _ {N D R : Type 0} (same : D → D → Bool) (shape : N → Shape N D R) 
           h.none f (subst (λ (x : R). HasField shape base field x f) (of_once shape n a.of r a.is_of there) a.has)),
     )
 
-    pub no_field_told : (n : N) (of : Option R) → of ≡ None → IsRecordOf shape n of → (f : F) → Finds same shape field base [] n f → ⊥
+    pub no_field_told : (n : N) (of : Option R) → of ≡ None → IsRecordOf shape n of → (f : F) → DenotesField same shape field base [] n f → ⊥
     no_field_told n of is at f g =
         let a = field_found same shape field base [] n f g in
         subst (λ (v : Option R). IfNone v ((r : R) → LeadsToRecord shape n r → ⊥)) is at.none a.of a.is_of

@@ -16,7 +16,7 @@ use Rattle.type_graph.specs.declared.memo.MemoTable.{MemoTable}
 use Rattle.type_graph.specs.Memoized.{IsMemoized, Adds}
 use Rattle.type_graph.specs.Link.{IsTypeEnd, TypeLeadsTo}
 use Rattle.type_graph.specs.Progress.{marked, unmarked, IsVisited}
-use Rattle.type_graph.specs.Extending.{shape_record, base_field, own_field, risen, came_back, Extends, Has, HasField, AreParents, AreFieldsOf, AreFieldsMemoized, IsParent, IsFieldIn, IsNextParent, Lacks, LeadsToRecord, IsRecordOf, Rises, nowhere, higher, Use, same_use}
+use Rattle.type_graph.specs.Extending.{shape_record, base_field, own_field, risen, revisited, Extends, Has, HasField, AreParents, AreFieldsOf, AreFieldsMemoized, IsParent, IsFieldIn, IsNextParent, Lacks, LeadsToRecord, IsRecordOf, Rises, nowhere, higher, Use, same_use}
 use Rattle.type_graph.proofs.Link.{leads_to_once}
 
 -- what holds anyway holds of what there is
@@ -197,12 +197,12 @@ module _ {N D R : Type 0} (shape : N → Shape N D R) where
         -- a search whose next record is none has come to its end
         pub ends_here : (from now : R) (met after : List R) (o : Option R) → o ≡ None → IsNextParent shape base field same now met after o → Climbs from now met → AreFieldsOf shape base field from after None
         ends_here from now met after o is (risen {last = last} fresh lacks parent) w = none_left from now last met after o fresh lacks is parent w
-        ends_here from now met after o is (came_back again e) w = met_again from now met after again w
+        ends_here from now met after o is (revisited again e) w = met_again from now met after again w
 
         -- a search continues if there is a parent
         pub progresses : (from now parent : R) (met after : List R) (o : Option R) → o ≡ Some parent → IsNextParent shape base field same now met after o → Climbs from now met → Climbs from parent after
         progresses from now parent met after o is (risen {last = last} fresh lacks ups) w = climbs_on from now last parent met after o fresh lacks is ups w
-        progresses from now parent met after o is (came_back again e) w = absurd (let f : Some parent ≡ None = sym is ∙ e in cc)
+        progresses from now parent met after o is (revisited again e) w = absurd (let f : Some parent ≡ None = sym is ∙ e in cc)
 
         -- the result that is memoized for the record at which a search has arrived
         pub known_here : (from now : R) (met : List R) (v : Option (Option F)) (o : Option F) → v ≡ Some o → IfSome v (IsFieldIn shape base field now) → Climbs from now met → AreFieldsOf shape base field from met o
@@ -213,7 +213,7 @@ module _ {N D R : Type 0} (shape : N → Shape N D R) where
         passed_anew now last met after o passes lacks parent = risen passes lacks parent
 
         pub marked_before : (now : R) (met : List R) (b : Bool) → b ≡ true → (b ≡ true → list_any (same now) met ≡ true) → IsNextParent shape base field same now met met None
-        marked_before now met b is among = came_back (record { among = among is; unchanged = refl }) refl
+        marked_before now met b is among = revisited (record { among = among is; unchanged = refl }) refl
 
       -- a jump that arrives at a record
       pub onto_above : (last parent : R) → Extends shape base last parent → IsParent shape base last (Some parent)

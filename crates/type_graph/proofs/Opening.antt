@@ -2,7 +2,7 @@
 use Rattle.std.proofs.Common.{◌≡◌, zero, suc, List, [], ◌∷◌, ◌++◌, Bool, true, false, Option, Some, None, refl, sym, ap, ◌∙◌}
 use Rattle.type_graph.specs.declared.shape.Shape.{Shape}
 use Rattle.type_graph.specs.declared.shape.Shape.TheVariants as shapes
-use Rattle.type_graph.specs.Searches.{element_of, target_of, HasElement, HasTarget, IsUnnamed, Opens, OpensTo, plain, through, Finds, own, pointed, inherited}
+use Rattle.type_graph.specs.Searches.{element_of, target_of, HasElement, HasTarget, IsUnnamed, Opens, OpensTo, plain, through, DenotesField, own, pointed, inherited}
 use Rattle.type_graph.specs.Link.{successor, ends, on, TypeLeadsTo}
 use Rattle.type_graph.specs.Extending.{shape_record, LeadsToRecord, own_field, base_field, HasField}
 use Rattle.type_graph.proofs.Link.{leads_to_once}
@@ -62,7 +62,7 @@ module _ {N D R : Type 0} (same : D → D → Bool) (shape : N → Shape N D R) 
     record_of_itself : (m : N) (r : R) → shape m ≡ shapes.Record r → LeadsToRecord shape m r
     record_of_itself m r e = record { at = m; leads = record { steps = zero; leads = ends (ap (successor true) e) }; is = ap shape_record e }
 
-    pub field_found : (met : List D) (n : N) (f : F) → Finds same shape field base met n f → IsFieldAt n f
+    pub field_found : (met : List D) (n : N) (f : F) → DenotesField same shape field base met n f → IsFieldAt n f
     field_found met n f (own {after = a} {m = m} {r = r} o e p) = record { of = r; is_of = opens_of met a n m r o (record_of_itself m r e); has = record { bases = zero; has = own_field p } }
     field_found met n f (pointed {after = a} {m = m} {next = x} o e rest) =
         let h = field_found a x f rest in

@@ -65,12 +65,12 @@ module _ {N D R : Type 0} (shape : N → Shape N D R) where
         pub some : IfSome o (HasField r)
         pub none : IfNone o ((f : F) → HasField r f → ⊥)
 
-      -- going up k bases from one record to another; no record before the last has a field of this name
+      -- k bases lead up from the first record to the last; no record below the last has a field of this name
       pub data Rises : ℕ → R → R → Type 0 where
         nowhere : {r : R} → Rises zero r r
         higher : {k : ℕ} {r s parent : R} → Rises k r s → field s ≡ None → Extends s parent → Rises (suc k) r parent
 
-      -- no record has a field of this name, from the first record up to the last
+      -- bases lead up from the first record to the last, and no record on this path has a field of this name, the two included
       pub record Lacks (r last : R) : Type 0 where
         pub bases : ℕ
         pub rises : Rises bases r last
@@ -80,9 +80,9 @@ module _ {N D R : Type 0} (shape : N → Shape N D R) where
       -- the last of these; or the record closes a cycle, and the search ends
       pub data IsNextParent (same : R → R → Bool) (r : R) (before after : List R) (o : Option R) : Type 0 where
         risen : {last : R} → IsVisited r before after → Lacks r last → IsParent last o → IsNextParent same r before after o
-        came_back : IsRevisited same r before after → o ≡ None → IsNextParent same r before after o
+        revisited : IsRevisited same r before after → o ≡ None → IsNextParent same r before after o
 
-      -- a name denotes equal fields in the first record and in all of these
+      -- a name denotes the same field, or none, in the record r and in all records of the list `met`
       pub record AreFieldsOf (r : R) (met : List R) (o : Option F) : Type 0 where
         pub is : IsFieldIn r o
         pub each : All (λ (s : R). IsFieldIn s o) met
@@ -91,7 +91,7 @@ module _ {N D R : Type 0} (shape : N → Shape N D R) where
     abbrev pub Use : Type 0
     Use = R × Name
 
-    -- equality of these keys
+    -- equality of keys of memoized fields
     abbrev pub same_use : (R → R → Bool) → Use → Use → Bool
     same_use same a b = same a.0 b.0 && bytes_eq a.1.bytes.now b.1.bytes.now
 

@@ -1,4 +1,4 @@
--- The type that a type denotes, through names, and through pointers too if `pointers` is set.
+-- The end of a type: the type that it denotes through names, and through pointers too if `pointers` is true.
 use Rattle.std.specs.Prelude.{◌≡◌, ℕ, zero, suc, List, Bool, true, Option, Some, None, if◌then◌else◌, IfSome, IfNone}
 use Rattle.std.specs.List.{All}
 use Rattle.type_graph.specs.declared.memo.MemoTable.{MemoTable}
@@ -36,7 +36,7 @@ module _ {N D R : Type 0} (shape : N → Shape N D R) (pointers : Bool) where
     abbrev pub IsTypeEndOf : Option N → D → Type 0
     IsTypeEndOf end d = (c : D) (n m : N) → same d c ≡ true → shape n ≡ shapes.Named c m → IsTypeEnd m end
 
-    -- the end of a type is also the end of these declarations, which were visited on the way to it
+    -- `end` is the end of the type n, and also of the types that the declarations in the list `visited` give
     pub record AreEnded (n : N) (visited : List D) (end : Option N) : Type 0 where
       pub is : IsTypeEnd n end
       pub each : All (IsTypeEndOf end) visited

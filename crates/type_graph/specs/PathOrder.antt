@@ -27,7 +27,7 @@ field_key_of e = (e.name.items, e.slot)
 abbrev pub IsSortedByName : List FieldEntry → Type 0
 IsSortedByName es = IsSortedBy (λ a b. is_lt (field_key_cmp (field_key_of a) (field_key_of b))) es
 
--- exactly the first `count` fields have a key of at most x
+-- exactly the first `count` fields have a key that is at most x
 abbrev pub IsCountUpTo : List FieldEntry → FieldKey → ℕ → Type 0
 IsCountUpTo es x count = IsPartitionPoint (λ e. is_le (field_key_cmp (field_key_of e) x) ≡ true) (λ e. is_le (field_key_cmp (field_key_of e) x) ≡ false) es count
 
@@ -37,13 +37,13 @@ pub record HasFieldAt (es : List FieldEntry) (name : List ℕ) (slot : ℕ) : Ty
   pub among : Contains es entry
   pub is : field_key_of entry ≡ (name, slot)
 
--- the fields gain one, if its record is in the sequence
+-- the new list has all fields of the old one, and the given field too if its record is in the sequence `paths`
 pub record AddsField {R : Type 0} (same : R → R → Bool) (paths : List R) (field : RecordField R) (before after : List FieldEntry) : Type 0 where
   pub stays : (name : List ℕ) (slot : ℕ) → HasFieldAt before name slot → HasFieldAt after name slot
   pub added : (slot : ℕ) → position (same field.of_record) paths ≡ Some slot → HasFieldAt after field.name.now slot
 
--- an index after this one, and no later than the first index after this one whose record has a field of this name; none only if no such
--- record comes after this index
+-- `next` is an index after `slot`, and at most that of the first later record that has a field of this name; it is None only if no later
+-- record has one
 pub record IsSlotAfter (es : List FieldEntry) (name : List ℕ) (slot : ℕ) (next : Option ℕ) : Type 0 where
   pub behind : IfSome next (λ (q : ℕ). slot < q)
   pub least : (k : ℕ) → slot < k → HasFieldAt es name k → IsSomeAnd next (λ (q : ℕ). q ≤ k)
@@ -62,7 +62,7 @@ module _ {N D R : Type 0} (shape : N → Shape N D R) (base : R → Option N) wh
     pub up : slot ≤ last
     pub each : (k : ℕ) → slot ≤ k → k < last → ContinuesPath paths k
 
-  -- from index `from` on, each entry is an index that the path of its record reaches
+  -- for each index from `from` on, `ends` has an index up to which each record is followed by its parent
   pub record AreEnds (from : ℕ) (paths : List R) (ends : List ℕ) : Type 0 where
     pub each : (slot last : ℕ) → from ≤ slot → slice_get ends slot ≡ Some last → IsPathTo paths slot last
 
@@ -71,7 +71,7 @@ module _ {N D R : Type 0} (shape : N → Shape N D R) (base : R → Option N) wh
     pub record HasAllFields (paths : List R) (es : List FieldEntry) : Type 0 where
       pub each : (slot : ℕ) (r : R) (name : List ℕ) (f : F) → slice_get paths slot ≡ Some r → field r name ≡ Some f → HasFieldAt es name slot
 
-    -- each end is an index that the path of its record reaches, and the list has every field of the records, sorted by name and index
+    -- up to the end of each index each record is followed by its parent; `es` has every field of the records, sorted by name and index
     pub record ArePaths (paths : List R) (ends : List ℕ) (es : List FieldEntry) : Type 0 where
       pub are_ends : AreEnds 0 paths ends
       pub are_owned : HasAllFields paths es

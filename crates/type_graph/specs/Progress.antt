@@ -1,4 +1,4 @@
--- The progress of a search.
+-- The checkpoints of a search, and the measure by which it terminates.
 use Rattle.std.specs.Prelude.{◌≡◌, ℕ, ◌+◌, List, [], ◌∷◌, ◌++◌, length}
 use Rattle.type_graph.specs.declared.detector.CycleDetector.{CycleDetector}
 
@@ -7,6 +7,6 @@ pub data IsVisited {R : Type 0} (r : R) (before after : List R) : Type 0 where
   marked : after ≡ before ++ r ∷ [] → IsVisited r before after
   unmarked : after ≡ before → IsVisited r before after
 
--- a measure that increases with each visit
+-- the number of visits plus that of checkpoints, which increases with each visit
 abbrev pub progress : {R : Type 0} → CycleDetector R → ℕ
 progress detector = detector.visited + length detector.checkpoints.items

@@ -30,14 +30,14 @@ target_of shapes.Procedure = None
 target_of (shapes.Named d n) = None
 target_of shapes.Unknown = None
 
--- the declaration has been visited before, and the list of visited ones stays
+-- the declaration is in the list of visited ones, which doesn't change
 pub record IsRevisited {D : Type 0} (same : D → D → Bool) (d : D) (before after : List D) : Type 0 where
   pub among : list_any (same d) before ≡ true
   pub unchanged : after ≡ before
 
 module _ {N D R : Type 0} (same : D → D → Bool) (shape : N → Shape N D R) where
-  -- names lead from a type to a type that is no name, through declarations that haven't been visited; with the visited declarations
-  -- before and after
+  -- names lead from the first type to the second, which is no name, through declarations that haven't been visited; the two lists are the
+  -- declarations visited before and after
   pub data Opens : List D → N → List D → N → Type 0 where
     plain : {met : List D} {n : N} → IsUnnamed (shape n) → Opens met n met n
     through : {met after : List D} {n m last : N} {d : D} → shape n ≡ shapes.Named d m → list_any (same d) met ≡ false → Opens (met ++ d ∷ []) m after last → Opens met n after last
@@ -62,7 +62,7 @@ module _ {N D R : Type 0} (same : D → D → Bool) (shape : N → Shape N D R) 
   module _ {F : Type 0} (field : R → Option F) (base : R → Option N) where
     -- a name denotes a field at a type: of the record that the type opens to, through pointers, or else of that record's base; a
     -- declaration is visited once in the whole search
-    pub data Finds : List D → N → F → Type 0 where
-      own : {met after : List D} {n m : N} {r : R} {f : F} → Opens met n after m → shape m ≡ shapes.Record r → field r ≡ Some f → Finds met n f
-      pointed : {met after : List D} {n m next : N} {f : F} → Opens met n after m → shape m ≡ shapes.Pointer next → Finds after next f → Finds met n f
-      inherited : {met after : List D} {n m next : N} {r : R} {f : F} → Opens met n after m → shape m ≡ shapes.Record r → field r ≡ None → base r ≡ Some next → Finds after next f → Finds met n f
+    pub data DenotesField : List D → N → F → Type 0 where
+      own : {met after : List D} {n m : N} {r : R} {f : F} → Opens met n after m → shape m ≡ shapes.Record r → field r ≡ Some f → DenotesField met n f
+      pointed : {met after : List D} {n m next : N} {f : F} → Opens met n after m → shape m ≡ shapes.Pointer next → DenotesField after next f → DenotesField met n f
+      inherited : {met after : List D} {n m next : N} {r : R} {f : F} → Opens met n after m → shape m ≡ shapes.Record r → field r ≡ None → base r ≡ Some next → DenotesField after next f → DenotesField met n f

@@ -1,4 +1,4 @@
-//! What searches in a graph store, so that later searches need not repeat it.
+//! The results that searches in a graph memoize for later searches.
 
 use crate::memo::MemoTable;
 use crate::name_filter::NameFilter;
@@ -8,14 +8,14 @@ use std::alloc::Global;
 use std::hash::Hash;
 use text_hash::{Name, Seed};
 
-/// The parents of records, and the ends of the types by which they are found.
+/// Memoized parents of records (the records that their bases denote), and memoized ends of types, from which parents are found.
 #[derive(Drop)]
 pub(crate) struct ParentCache<
     N: Copy + Drop,
     D: Copy + Eq + Hash + Drop,
     R: Copy + Eq + Hash + Drop,
 > {
-    /// The ends of declarations through names and pointers.
+    /// For a declaration the end of the type that it gives, through names and pointers.
     pub(crate) ends: MemoTable<D, Option<N>>,
     pub(crate) parents: MemoTable<R, Option<R>>,
 }
@@ -34,7 +34,7 @@ pub(crate) struct FieldCache<
     pub(crate) paths: Option<Box<HeavyPaths<R>>>,
     /// The fields that names denote in records.
     pub(crate) fields: IndexMap<(R, Name<'a>), Option<F>, Seed>,
-    /// The names that may be memoized in `fields`, and how far searches have climbed.
+    /// A filter of the names that may be memoized in `fields`, with a count of the records visited.
     pub(crate) name_filter: NameFilter,
 }
 

@@ -19,8 +19,8 @@ use std::alloc::{AllocError, Global};
 use std::hash::{DefaultHasher, Hash, Hasher};
 use text_hash::Seed;
 
-/// A seed from the digest of the records (SipHash-1-3; Aumasson and Bernstein 2012), for a table of just these: records chosen to collide
-/// under one seed change the seed, whichever modules they are from.
+/// A hash seed for a table of these records, from their digest (SipHash-1-3; Aumasson and Bernstein 2012). Who chooses records that collide
+/// under one seed thereby changes the seed.
 fn records_seed<R: Hash>(records: &[R]) -> Seed {
     let mut digest = DefaultHasher::new();
     for record in records {
@@ -45,7 +45,7 @@ fn distinct_records<R: Copy + Eq + Hash + Drop>(
     Ok(records)
 }
 
-/// The indexes of the records' parents.
+/// For each record the index of its parent among the records; `None` if it has no parent or the parent isn't among them.
 fn parent_slots<G: TypeGraph>(
     graph: &G,
     cache: &mut ParentCache<G::Node, G::Declaration, G::Record>,
@@ -66,7 +66,7 @@ fn parent_slots<G: TypeGraph>(
     Ok(places)
 }
 
-/// Whether the record after this index is the parent of the record with this index.
+/// Whether the record at index `slot + 1` is the parent of the record at index `slot`.
 fn continues_path<G: TypeGraph>(
     graph: &G,
     parents: &MemoTable<G::Record, Option<G::Record>>,
@@ -83,7 +83,7 @@ fn continues_path<G: TypeGraph>(
     }
 }
 
-/// The last index of the path that contains index `slot`, given the last indexes of the paths of all later indexes.
+/// The last index of the path that contains index `slot`. `ends` has this index already for each index after `slot`.
 fn path_end<G: TypeGraph>(
     graph: &G,
     parents: &MemoTable<G::Record, Option<G::Record>>,
@@ -108,7 +108,7 @@ fn path_end<G: TypeGraph>(
     }
 }
 
-/// The last index of the path of each index, computed from the back.
+/// For each index the last index of the path that contains it, computed from the last index to the first.
 fn path_ends<G: TypeGraph>(
     graph: &G,
     alloc: Global,
@@ -128,7 +128,7 @@ fn path_ends<G: TypeGraph>(
     Ok(ends)
 }
 
-/// Adds a field, if its record is in the sequence.
+/// Appends a field to `field_entries`, if its record is one of `paths`.
 fn append_field_entry<R: Copy + Eq + Hash + Drop>(
     alloc: Global,
     paths: &IndexSet<R, Seed>,
@@ -147,7 +147,7 @@ fn append_field_entry<R: Copy + Eq + Hash + Drop>(
     }
 }
 
-/// The fields of the records in the sequence.
+/// The fields that the records of `paths` declare themselves.
 fn collect_fields<G: TypeGraph>(
     graph: &G,
     alloc: Global,
@@ -163,7 +163,7 @@ fn collect_fields<G: TypeGraph>(
     Ok(field_entries)
 }
 
-/// The fields of the records in the sequence, sorted by name and index.
+/// The fields that the records of `paths` declare themselves, sorted by name, then by the index of the record.
 fn sorted_fields<G: TypeGraph>(
     graph: &G,
     alloc: Global,
@@ -177,7 +177,7 @@ fn sorted_fields<G: TypeGraph>(
     Ok(field_entries)
 }
 
-/// The sequence of the paths of these records.
+/// The distinct records of the list, path after path, each followed by its parent within a path.
 fn records_by_path<G: TypeGraph>(
     graph: &G,
     cache: &mut ParentCache<G::Node, G::Declaration, G::Record>,
@@ -197,7 +197,7 @@ fn records_by_path<G: TypeGraph>(
     )
 }
 
-/// The heavy paths of these records; `None` if there are no records.
+/// The heavy paths of these records; `None` if the list is empty.
 pub(crate) fn decompose<G: TypeGraph>(
     graph: &G,
     cache: &mut ParentCache<G::Node, G::Declaration, G::Record>,
@@ -235,8 +235,8 @@ fn decompose_all<G: TypeGraph>(
     decompose(graph, cache, listed.as_slice())
 }
 
-/// Builds the heavy paths once enough records have been visited. If an allocation fails there are none, and searches climb from base to
-/// base.
+/// Builds the heavy paths, if they aren't built and searches have visited enough records. If an allocation fails there are no paths, and
+/// searches climb from base to base.
 pub(crate) fn decompose_if_due<'a, G: TypeGraph>(
     graph: &G,
     cache: &mut FieldCache<'a, G::Node, G::Declaration, G::Record, G::Field>,

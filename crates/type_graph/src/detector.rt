@@ -1,4 +1,4 @@
-//! Cycle detection in searches along records or declarations.
+//! Cycle detection in searches that visit records or declarations (Brent 1980).
 ghost use Rattle.std.specs.Prelude.{◌≡◌, ◌<◌, ◌^◌, [], true, OnOk};
 ghost use Rattle.std.specs.List.{list_any};
 ghost use Rattle.type_graph.specs.Progress.{progress, IsVisited};
@@ -16,7 +16,7 @@ pub(crate) struct CycleDetector<R: Copy + Drop> {
     pub(crate) due: u64,
 }
 
-/// A search of this many visits is long enough to ask for precomputed results.
+/// A search asks for precomputed results once it has this many visits.
 pub(crate) const LONG_SEARCH: u64 = 16;
 
 /// A search without visits.
@@ -30,7 +30,7 @@ pub(crate) fn new_detector<R: Copy + Drop>(alloc: Global) -> CycleDetector<R>
     }
 }
 
-/// Whether this is the last checkpoint, so that the search has closed a cycle.
+/// Whether the record is the last checkpoint, so that the search has closed a cycle.
 pub(crate) fn closes_cycle<R: Copy + Eq + Drop>(detector: &CycleDetector<R>, record: R) -> bool
     ensures { result ≡ true → list_any (R.eq «record») detector.now.checkpoints.items ≡ true }
 {
@@ -40,7 +40,7 @@ pub(crate) fn closes_cycle<R: Copy + Eq + Drop>(detector: &CycleDetector<R>, rec
     }
 }
 
-/// Visits an element. When the count saturates, every visit becomes a checkpoint.
+/// Counts the visit of a record, which becomes a checkpoint if one is due. After 2^64 - 1 visits every visit becomes a checkpoint.
 pub(crate) fn visit<R: Copy + Drop>(
     detector: &mut CycleDetector<R>,
     record: R,
@@ -57,7 +57,7 @@ pub(crate) fn visit<R: Copy + Drop>(
     Ok(())
 }
 
-/// Whether the search is long enough to ask for precomputed results; it serves speed alone.
+/// Whether the search has at least `LONG_SEARCH` visits, so that it may ask for precomputed results. It affects only the running time.
 pub(crate) fn is_long_search<R: Copy + Drop>(detector: &CycleDetector<R>) -> bool {
     detector.visited >= LONG_SEARCH
 }

@@ -1,4 +1,4 @@
-//! The ends of types, memoized for later searches.
+//! The ends of types: the type at which following names, and possibly pointers, stops. Ends are memoized for later searches.
 ghost use Rattle.std.specs.Prelude.{◌≡◌, [], IfOk, IfSome, true};
 ghost use Rattle.std.specs.List.{All};
 ghost use Rattle.type_graph.specs.Link.{AreEnded, AreTypeEnds, IsTypeEnd, IsTypeEndOf};
@@ -25,9 +25,9 @@ fn end_if_precomputed<G: TypeGraph>(
     }
 }
 
-/// Follows names, and pointers if `pointers` is set, from a type to its end, a memoized declaration or a precomputed end. `detector`
-/// records checkpoints among the visited declarations. Steps through names and pointers both count.
-fn walk<G: TypeGraph>(
+/// The end of a type, by following names, and pointers if `pointers` is true; `None` if the steps form a cycle. Stops early at a memoized
+/// or precomputed end. `detector` must be new; it gets checkpoints among the visited declarations.
+fn walk_to_end<G: TypeGraph>(
     graph: &G,
     pointers: bool,
     memo: &MemoTable<G::Declaration, Option<G::Node>>,
@@ -69,7 +69,7 @@ fn walk<G: TypeGraph>(
     }
 }
 
-/// Memoizes the end of these declarations.
+/// Stores `end` for each of these declarations.
 fn memoize_ends<G: TypeGraph>(
     graph: &G,
     pointers: bool,
@@ -87,8 +87,8 @@ fn memoize_ends<G: TypeGraph>(
     Ok(())
 }
 
-/// The end of a type, through names, and through pointers if `pointers` is set; `None` if the steps form a cycle. Memoizes it if the
-/// search has at least `least` checkpoints: a single step costs no more than a look-up.
+/// The end of a type, through names, and through pointers if `pointers` is set; `None` if the steps form a cycle. The end is memoized only
+/// if the search has at least `least` checkpoints, since a single step costs no more than a look-up.
 pub(crate) fn find_end<G: TypeGraph>(
     graph: &G,
     pointers: bool,
@@ -101,7 +101,7 @@ pub(crate) fn find_end<G: TypeGraph>(
     ensures end { IfOk result (IsTypeEnd (G.shape graph.now) pointers from) }
 {
     let mut detector = new_detector(memo.allocator());
-    let end = walk(graph, pointers, memo, &mut detector, from)?;
+    let end = walk_to_end(graph, pointers, memo, &mut detector, from)?;
     if detector.checkpoints.len() >= least {
         memoize_ends(graph, pointers, memo, detector.checkpoints.as_slice(), end)?;
     }

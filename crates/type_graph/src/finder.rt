@@ -2,7 +2,7 @@
 ghost use Rattle.std.specs.Prelude.{◌≡◌, [], IfOk, IfSome, IfNone};
 ghost use Rattle.type_graph.specs.BuiltPaths.{AreHeavyPaths};
 ghost use Rattle.type_graph.specs.Link.{IsTypeEnd};
-ghost use Rattle.type_graph.specs.Searches.{Finds, HasElement, HasTarget};
+ghost use Rattle.type_graph.specs.Searches.{DenotesField, HasElement, HasTarget};
 
 use crate::cache::{FieldCache, ParentCache};
 use crate::decompose::decompose;
@@ -42,24 +42,23 @@ impl<'a, G: TypeGraph> Model for Finder<'a, G> {
 }
 
 impl<'a, G: TypeGraph> Finder<'a, G> {
-    /// A finder for this graph. `text` is the source with the names of the fields to be found, and `most` the expected number of searches.
-    /// They serve speed alone: they determine the seed of the tables, since the author of the source could choose names that collide with
-    /// a fixed seed.
+    /// A finder for this graph. `text` is the source whose field names will be looked up, and `most` the expected number of searches. Both
+    /// affect only the running time: they determine the hash seed, since an author could choose names that collide under a fixed seed.
     pub fn new(alloc: Global, graph: &'a G, text: &[u8], most: usize) -> Finder<'a, G>
         ensures { result ≡ graph.now }
     {
         let seed = Seed::for_keys(text, most);
         Finder {
             graph,
-            by_names: MemoTable::none(alloc, seed, most),
+            by_names: MemoTable::empty(alloc, seed, most),
             cache: FieldCache {
                 parents: ParentCache {
-                    ends: MemoTable::none(alloc, seed, most),
-                    parents: MemoTable::none(alloc, seed, most),
+                    ends: MemoTable::empty(alloc, seed, most),
+                    parents: MemoTable::empty(alloc, seed, most),
                 },
                 paths: None,
                 fields: IndexMap::with_hasher(alloc, seed),
-                name_filter: NameFilter::none(alloc),
+                name_filter: NameFilter::empty(alloc),
             },
         }
     }
@@ -71,7 +70,7 @@ impl<'a, G: TypeGraph> Finder<'a, G> {
         self.graph
     }
 
-    /// The type of the elements of the array that a type opens to; `None` if it opens to no array.
+    /// The element type of the array that a type opens to, which means: denotes through names; `None` if it opens to no array.
     pub fn element(&mut self, from: G::Node) -> Result<Option<G::Node>, AllocError>
         // The graph is unchanged.
         ensures graph { self.new ≡ self.old }
@@ -83,7 +82,7 @@ impl<'a, G: TypeGraph> Finder<'a, G> {
         find_element(self.graph, &mut self.by_names, from)
     }
 
-    /// The target of the pointer that a type opens to; `None` if it opens to no pointer.
+    /// The target of the pointer that a type opens to, which means: denotes through names; `None` if it opens to no pointer.
     pub fn target(&mut self, from: G::Node) -> Result<Option<G::Node>, AllocError>
         // The graph is unchanged.
         ensures graph { self.new ≡ self.old }
@@ -105,9 +104,9 @@ impl<'a, G: TypeGraph> Finder<'a, G> {
         // The graph is unchanged.
         ensures graph { self.new ≡ self.old }
         // The name denotes the returned field at the type.
-        ensures found { IfOk result (λ o. IfSome o (λ f. Finds G.Declaration.eq (G.shape self.old) (λ r. G.field_of self.old r name.now) (G.base_of self.old) [] from f)) }
+        ensures found { IfOk result (λ o. IfSome o (λ f. DenotesField G.Declaration.eq (G.shape self.old) (λ r. G.field_of self.old r name.now) (G.base_of self.old) [] from f)) }
         // `None` is returned only if there is no field.
-        ensures none { IfOk result (λ o. IfNone o ((f : G.Field) → Finds G.Declaration.eq (G.shape self.old) (λ r. G.field_of self.old r name.now) (G.base_of self.old) [] from f → ⊥)) }
+        ensures none { IfOk result (λ o. IfNone o ((f : G.Field) → DenotesField G.Declaration.eq (G.shape self.old) (λ r. G.field_of self.old r name.now) (G.base_of self.old) [] from f → ⊥)) }
     {
         find_field_at(self.graph, &mut self.cache, from, name)
     }
@@ -126,8 +125,8 @@ impl<'a, G: TypeGraph> Finder<'a, G> {
         }
     }
 
-    /// The heavy paths of these records; `None` if there are no records. Any list of records may be given, but a search can jump only from
-    /// records of the list.
+    /// The heavy paths of these records; `None` if the list is empty. Any records may be listed. A search with these paths (`jump_along`)
+    /// can skip bases only from records of the list.
     pub fn decompose(
         &mut self,
         listed: &[G::Record],

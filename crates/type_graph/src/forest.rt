@@ -1,19 +1,20 @@
-//! Heavy-path decomposition of the forest of records (Sleator and Tarjan 1983). It serves speed alone, so no contract depends on it.
+//! Heavy-path decomposition of the forest of records (Sleator and Tarjan 1983). It affects only the running time, so no contract depends
+//! on it.
 
 use indexmap::IndexSet;
 use std::alloc::{AllocError, Global};
 use std::hash::Hash;
 use text_hash::Seed;
 
-/// A record in the forest, with indexes of other records. `parent` is its parent.
+/// A record in the forest, as the root of its subtree. Other records are given by their indexes; `parent` is the record's parent.
 #[derive(Clone, Copy, Drop)]
 struct Subtree {
     parent: Option<usize>,
     /// How many of its children haven't been visited.
     pending: usize,
-    /// The size of its subtree, as far as that has been visited.
+    /// The number of records in its subtree, counting only visited children.
     size: usize,
-    /// The child with the largest subtree, `heaviest` is that subtree's size.
+    /// The visited child with the largest subtree. `heaviest` is the size of that child's subtree.
     heavy: Option<usize>,
     heaviest: usize,
 }
@@ -33,7 +34,7 @@ fn initial_subtrees(alloc: Global, parents: &[Option<usize>]) -> Result<Vec<Subt
     Ok(subtrees)
 }
 
-/// Counts one more child.
+/// Counts one more child of `parent`, if it is an index of the forest.
 fn count_child(subtrees: &mut [Subtree], parent: Option<usize>) {
     if let Some(at) = parent
         && at < subtrees.len()
@@ -106,7 +107,7 @@ fn visit_on_cycle(subtrees: &mut [Subtree], at: usize, first: usize) -> Option<u
     visit(subtrees, at)
 }
 
-/// Visits the records of a cycle once, from this one on.
+/// Visits the records of a cycle of bases once each, from the record `first` on.
 fn visit_cycle(subtrees: &mut [Subtree], first: usize) {
     let mut at = first;
     for _ in 0..subtrees.len() {
@@ -134,7 +135,7 @@ fn visit_cycles(subtrees: &mut [Subtree]) {
     }
 }
 
-/// The forest, given the parents, with the child of the largest subtree of each record.
+/// The forest of records with these parents, in which each record has its child with the largest subtree.
 fn forest(alloc: Global, parents: &[Option<usize>]) -> Result<Vec<Subtree>, AllocError> {
     let mut subtrees = initial_subtrees(alloc, parents)?;
     count_children(&mut subtrees, parents);
@@ -143,7 +144,7 @@ fn forest(alloc: Global, parents: &[Option<usize>]) -> Result<Vec<Subtree>, Allo
     Ok(subtrees)
 }
 
-/// The parent, if this record is its child with the largest subtree.
+/// The parent of record `at`, if `at` is the parent's child with the largest subtree.
 fn heavy_parent(subtrees: &[Subtree], at: usize) -> Option<usize> {
     let parent = subtrees.get(at)?.parent?;
     if subtrees.get(parent)?.heavy == Some(at) {
@@ -153,7 +154,7 @@ fn heavy_parent(subtrees: &[Subtree], at: usize) -> Option<usize> {
     }
 }
 
-/// Appends a path, from its lowest record up.
+/// Appends a heavy path to `paths`: the record `lowest`, and parents as long as each is reached from its child with the largest subtree.
 fn append_heavy_path<R: Copy + Eq + Hash + Drop>(
     paths: &mut IndexSet<R, Seed>,
     records: &[R],
@@ -174,8 +175,9 @@ fn append_heavy_path<R: Copy + Eq + Hash + Drop>(
     Ok(())
 }
 
-/// The records, path by path, given the indexes of their parents, in a table with this seed. A path continues at the parent of the child
-/// with the largest subtree. So a climb leaves a path at most logarithmically often, as the subtree at least doubles each time.
+/// The records, heavy path after heavy path, in a table with this hash seed; `parents` has the indexes of their parents. A path continues
+/// at the parent only from the child with the largest subtree. So a climb from parent to parent changes paths at most logarithmically
+/// often: the subtree at least doubles each time.
 pub(crate) fn concat_paths<R: Copy + Eq + Hash + Drop>(
     alloc: Global,
     seed: Seed,

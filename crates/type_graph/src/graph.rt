@@ -46,19 +46,21 @@ pub trait TypeGraph {
     fn base(&self, record: Self::Record) -> Option<Self::Node>
         ensures { result ≡ base_of self.now «record» };
 
-    /// The precomputed end of a type, through names, and through pointers if `pointers` is set.
+    /// The end of a type, through names, and through pointers if `pointers` is set; `Some(None)` if the steps form a cycle. `None` if the
+    /// graph hasn't precomputed it.
     fn precomputed_end(&self, pointers: bool, node: Self::Node) -> Option<Option<Self::Node>>
         ensures { IfSome result (IsTypeEnd (shape self.now) pointers node) };
 
-    /// The precomputed jump from a record that lacks the field of this name.
+    /// The jump of a search from a record that lacks the field of this name; `None` if the graph hasn't precomputed it.
     fn precomputed_jump(&self, record: Self::Record, name: &[u8]) -> Option<Jump<Self::Record>>
         requires { field_of self.now «record» name.now ≡ None }
         ensures { IfSome result (IsJump (shape self.now) (base_of self.now) (λ r. field_of self.now r name.now) «record») };
 
-    /// An estimate of the cost of `records` and `fields`; it serves speed alone.
+    /// An estimate of the cost of `records` and `fields`. It affects only the running time.
     fn size(&self) -> u64;
 
-    /// The records. The list serves speed alone: searches that begin at other records take longer.
+    /// Records of the graph, for which heavy paths are built. The list affects only the running time: searches that begin at other records
+    /// take longer.
     fn records(&self, alloc: Global) -> Result<Vec<Self::Record>, AllocError>;
 
     /// All fields that records declare themselves.
@@ -71,7 +73,7 @@ pub trait TypeGraph {
 
     ghost based: { (g : Self) (n m : Self.Node) (r : Self.Record) → shape g n ≡ shapes.Record r → base_of g r ≡ Some m → depth g m < depth g n };
 
-    /// Equal declarations give the same type node.
+    /// Names that denote equal declarations lead to one type node.
     ghost named: { (g : Self) (n m x y : Self.Node) (c d : Self.Declaration) → shape g n ≡ shapes.Named c x → shape g m ≡ shapes.Named d y → Self.Declaration.eq c d ≡ true → x ≡ y };
 
     /// Equal records are identical.

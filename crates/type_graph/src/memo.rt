@@ -16,8 +16,8 @@ const FIXED_SEED_KEYS: usize = 1024;
 /// so that keys collide under this seed.
 const DERIVED_SEED_KEYS: usize = 16_384;
 
-/// A map whose keys an author may choose. The first keys are in a hash table, all others in a search tree ordered by hash. A look-up in the
-/// tree is slower than in a hash table without collisions, but collisions don't slow it down.
+/// A map whose keys an author may choose. The first `most` keys are in a hash table, the others in a search tree ordered by hash, which
+/// collisions don't slow down.
 #[derive(Drop)]
 pub(crate) struct MemoTable<K: Copy + Eq + Hash + Drop, V: Copy + Drop> {
     few: IndexMap<K, V, Seed>,
@@ -34,8 +34,8 @@ fn hash_of<K: Hash>(key: &K) -> u64 {
 }
 
 impl<K: Copy + Eq + Hash + Drop, V: Copy + Drop> MemoTable<K, V> {
-    /// An empty table. `seed` is the seed of a table for `searches` keys.
-    pub(crate) fn none(alloc: Global, seed: Seed, searches: usize) -> MemoTable<K, V>
+    /// An empty table for about `searches` keys, with this hash seed.
+    pub(crate) fn empty(alloc: Global, seed: Seed, searches: usize) -> MemoTable<K, V>
         ensures { (key : K) (value : V) → IsMemoized K.eq result key value → ⊥ }
     {
         MemoTable {
@@ -54,7 +54,7 @@ impl<K: Copy + Eq + Hash + Drop, V: Copy + Drop> MemoTable<K, V> {
         *self.few.allocator()
     }
 
-    /// The value of a key in the search tree.
+    /// The value that the search tree stores for a key, if any.
     fn get_from_tree(&self, key: K) -> Option<V>
         ensures { IfSome result (IsMemoized K.eq self.now key) }
     {
@@ -65,7 +65,7 @@ impl<K: Copy + Eq + Hash + Drop, V: Copy + Drop> MemoTable<K, V> {
         if of == key { Some(value) } else { None }
     }
 
-    /// The value of a key.
+    /// The value that is stored for a key, if any.
     pub(crate) fn get(&self, key: K) -> Option<V>
         ensures { IfSome result (IsMemoized K.eq self.now key) }
     {
@@ -75,7 +75,7 @@ impl<K: Copy + Eq + Hash + Drop, V: Copy + Drop> MemoTable<K, V> {
         }
     }
 
-    /// Stores a value for a key.
+    /// Stores a value for a key. In the search tree it replaces the value of a key with an equal hash.
     pub(crate) fn insert(&mut self, key: K, value: V) -> Result<(), AllocError>
         ensures { Adds K.eq key value self.old self.new }
     {

@@ -1,19 +1,20 @@
-//! A filter of the names looked up so far, and a count of the records visited. It serves speed alone, so no contract depends on it.
+//! A filter of the names looked up so far, and a count of the records visited. It affects only the running time, so no contract depends on
+//! it.
 
 use crate::graph::TypeGraph;
 use std::alloc::Global;
 
-/// 65,536 bits, in words of 64.
+/// The number of 64-bit words of the filter, which has 65,536 bits.
 const FILTER_WORDS: usize = 1024;
 
 /// The number of visits after which `is_build_due` first asks for the size of the graph.
 const FIRST_SIZE_CHECK: u64 = 4096;
 
-/// The heavy paths are built once the visits reach this many times the graph's size, about the cost of building the paths.
+/// The heavy paths are built once the number of visits is this multiple of the graph's size, which is about the cost of building them.
 const VISITS_PER_SIZE: u64 = 4;
 
-/// A Bloom filter with one hash function (Bloom 1970): it tells whether a name may have been looked up before. Its bits are allocated at
-/// the first name. Names chosen to collide don't slow it down, as they slow down a hash table. It also counts visits.
+/// A Bloom filter with one hash function (Bloom 1970): it reports whether a name may have been looked up before. Its bits are allocated
+/// for the first name. Names that are chosen to collide slow down a hash table, but not this filter. It also counts visits.
 #[derive(Drop)]
 pub(crate) struct NameFilter {
     words: Vec<u64>,
@@ -35,7 +36,7 @@ fn bloom_bit(name: &[u8]) -> (usize, u64) {
 
 impl NameFilter {
     /// An empty filter.
-    pub(crate) fn none(alloc: Global) -> NameFilter {
+    pub(crate) fn empty(alloc: Global) -> NameFilter {
         NameFilter {
             words: Vec::new(alloc),
             visited: 0,
@@ -43,8 +44,8 @@ impl NameFilter {
         }
     }
 
-    /// Counts a visit of a search for a name, and one more for every 64 bytes of the name, as looking the name up takes longer.
-    pub(crate) fn add(&mut self, name: &[u8]) {
+    /// Counts a visit by a search for a name: one, and one more for every 64 bytes of the name, as a look-up of a long name takes longer.
+    pub(crate) fn count_visit(&mut self, name: &[u8]) {
         let pieces = (name.len() / 64) as u64;
         self.visited = self.visited.saturating_add(1).saturating_add(pieces);
     }
@@ -64,7 +65,7 @@ impl NameFilter {
         is_due
     }
 
-    /// Allocates the bits if they are missing. Returns whether there are bits.
+    /// Allocates the bits if the filter has none. Returns false if the allocation fails.
     fn ensure_bits(&mut self, alloc: Global) -> bool {
         if self.words.is_empty()
             && let Ok(words) = vec![in alloc; 0_u64; FILTER_WORDS]
@@ -74,7 +75,7 @@ impl NameFilter {
         !self.words.is_empty()
     }
 
-    /// Inserts a name. Returns whether it may have been inserted before.
+    /// Inserts a name. Returns false only if it hasn't been inserted before; true if it may have been, and also without bits.
     pub(crate) fn insert_name(&mut self, alloc: Global, name: &[u8]) -> bool {
         if !self.ensure_bits(alloc) {
             return true;

@@ -37,7 +37,7 @@ fn target_of<N: Copy + Drop, D: Copy + Drop, R: Copy + Drop>(shape: Shape<N, D, 
     }
 }
 
-/// The type of the elements of the array that a type opens to.
+/// The element type of the array that a type denotes through names; `None` if it denotes no array.
 pub(crate) fn find_element<G: TypeGraph>(
     graph: &G,
     memo: &mut MemoTable<G::Declaration, Option<G::Node>>,
@@ -54,7 +54,7 @@ pub(crate) fn find_element<G: TypeGraph>(
     }
 }
 
-/// The target of the pointer that a type opens to.
+/// The target of the pointer that a type denotes through names; `None` if it denotes no pointer.
 pub(crate) fn find_target<G: TypeGraph>(
     graph: &G,
     memo: &mut MemoTable<G::Declaration, Option<G::Node>>,

@@ -10,9 +10,9 @@ use indexmap::IndexSet;
 use std::hash::Hash;
 use text_hash::Seed;
 
-/// Records in a sequence of paths; in a path each record is followed by its parent. One look-up takes a search for a field to the end of
-/// a path, or to the first record on the path that has the field. Climbing from base to base would arrive there too, since no record in
-/// between has it.
+/// Records, path after path; within a path each record is followed by its parent. One look-up takes a search for a field to the end of a
+/// path, or to the first record on the path that has the field. No record between has it, so climbing from base to base would arrive there
+/// too.
 #[derive(Drop)]
 pub struct HeavyPaths<R: Copy + Eq + Hash + Drop> {
     pub(crate) records: IndexSet<R, Seed>,
@@ -22,8 +22,8 @@ pub struct HeavyPaths<R: Copy + Eq + Hash + Drop> {
     pub(crate) field_entries: Vec<FieldEntry>,
 }
 
-/// The index, if it is at most `end`.
-fn within(slot: Option<usize>, end: usize) -> Option<usize>
+/// The index `slot`, if there is one and it is at most `end`.
+fn slot_up_to(slot: Option<usize>, end: usize) -> Option<usize>
     ensures some { IfSome result (λ q. (slot ≡ Some q) × (q ≤ end)) }
     ensures none { IfNone result ((q : ℕ) → slot ≡ Some q → end < q) }
 {
@@ -33,7 +33,7 @@ fn within(slot: Option<usize>, end: usize) -> Option<usize>
     }
 }
 
-/// The jump of a search from a record that lacks the field of this name, for any graph that the paths were built from.
+/// The jump of a search for a field of this name, from a record that lacks it. It is right for any graph whose heavy paths these are.
 pub fn jump_along<N: Copy + Drop, D: Copy + Drop, R: Copy + Eq + Hash + Drop, F: Copy + Drop>(
     paths: &HeavyPaths<R>,
     record: R,
@@ -53,7 +53,7 @@ pub fn jump_along<N: Copy + Drop, D: Copy + Drop, R: Copy + Eq + Hash + Drop, F:
     }
     let end = paths.ends[slot];
     let next = next_slot_with_name(paths.field_entries.as_slice(), name, slot);
-    match within(next, end) {
+    match slot_up_to(next, end) {
         Some(next) => match paths.records.get_index(next) {
             Some(parent) => Jump::Onto(*parent),
             None => Jump::From(record),

@@ -7,7 +7,7 @@ ghost use Rattle.type_graph.specs.BuiltPaths.{AreHeavyPaths};
 ghost use Rattle.type_graph.specs.Link.{AreTypeEnds};
 ghost use Rattle.type_graph.specs.PathOrder.{IsJump};
 ghost use Rattle.type_graph.specs.Progress.{progress};
-ghost use Rattle.type_graph.specs.Searches.{Finds};
+ghost use Rattle.type_graph.specs.Searches.{DenotesField};
 
 use crate::cache::{FieldCache, ParentCache};
 use crate::decompose::decompose_if_due;
@@ -36,8 +36,8 @@ fn shape_record<N: Copy + Drop, D: Copy + Drop, R: Copy + Drop>(shape: Shape<N, 
     }
 }
 
-/// The record that a type denotes through names and pointers. Memoizes the end of the type if the search has at least `least`
-/// checkpoints.
+/// The record that a type denotes through names and pointers; `None` if it denotes none. The end of the type is memoized if the search has
+/// at least `least` checkpoints.
 fn denoted_record<G: TypeGraph>(
     graph: &G,
     memo: &mut MemoTable<G::Declaration, Option<G::Node>>,
@@ -54,7 +54,8 @@ fn denoted_record<G: TypeGraph>(
     }
 }
 
-/// The parent of a record. It is memoized by the record, so a base that is a single name needs no entry of its own.
+/// The parent of a record: the record that its base denotes. Callers memoize the parent by the record, so the end of the base's type
+/// isn't memoized again if the base is a single name.
 fn find_parent<G: TypeGraph>(
     graph: &G,
     memo: &mut MemoTable<G::Declaration, Option<G::Node>>,
@@ -70,8 +71,8 @@ fn find_parent<G: TypeGraph>(
     }
 }
 
-/// The field that a name denotes in a record, if the record declares it or it is memoized. The memo table is asked only if the name may
-/// be in it.
+/// The field that a name denotes in a record, if the record declares it or the result is memoized; `Some(None)` if it is memoized that
+/// there is no field. Looks into the memo table only if `is_memoized` is true.
 fn own_or_memoized_field<'a, G: TypeGraph>(
     graph: &G,
     found: &IndexMap<(G::Record, Name<'a>), Option<G::Field>, Seed>,
@@ -95,7 +96,7 @@ fn own_or_memoized_field<'a, G: TypeGraph>(
     }
 }
 
-/// The parent of a record, memoized, as every search through that base needs it.
+/// The parent of a record, from the memo table or found and then memoized.
 pub(crate) fn cached_parent<G: TypeGraph>(
     graph: &G,
     cache: &mut ParentCache<G::Node, G::Declaration, G::Record>,
@@ -113,7 +114,8 @@ pub(crate) fn cached_parent<G: TypeGraph>(
     Ok(parent)
 }
 
-/// The precomputed jump from a record that lacks the field of this name. A search of fewer than `LONG_SEARCH` steps doesn't ask for it.
+/// The jump that the graph has precomputed from a record that lacks the field of this name; otherwise that to its parent. A search of
+/// fewer than `LONG_SEARCH` visits doesn't ask the graph.
 fn jump_if_precomputed<G: TypeGraph>(
     graph: &G,
     detector: &CycleDetector<G::Record>,
@@ -152,9 +154,9 @@ fn next_jump<G: TypeGraph>(
     }
 }
 
-/// Visits a record that lacks the field of this name. Returns an ancestor before which none has it; `None` if there is no further
-/// ancestor or the search has closed a cycle.
-fn climb<'a, G: TypeGraph>(
+/// Visits a record that lacks the field of this name. Returns an ancestor such that no record below it has the field; `None` if there is no
+/// ancestor left or the search has closed a cycle.
+fn climb_to_ancestor<'a, G: TypeGraph>(
     graph: &G,
     cache: &mut FieldCache<'a, G::Node, G::Declaration, G::Record, G::Field>,
     detector: &mut CycleDetector<G::Record>,
@@ -171,7 +173,7 @@ fn climb<'a, G: TypeGraph>(
         return Ok(None);
     }
     visit(detector, record)?;
-    cache.name_filter.add(name);
+    cache.name_filter.count_visit(name);
     decompose_if_due(graph, cache);
     match next_jump(graph, &cache.paths, detector, record, name) {
         Jump::Onto(parent) => Ok(Some(parent)),
@@ -179,8 +181,8 @@ fn climb<'a, G: TypeGraph>(
     }
 }
 
-/// The field that a name denotes in a record: its own, or else the one of its base, up to a record for which it is memoized. `detector`
-/// records checkpoints.
+/// The field that a name denotes in a record: its own, or else that of the nearest base that declares one. Stops early at a base for which
+/// the result is memoized. `detector` must be new; it gets checkpoints among the visited records.
 fn field_of<'a, G: TypeGraph>(
     graph: &G,
     cache: &mut FieldCache<'a, G::Node, G::Declaration, G::Record, G::Field>,
@@ -206,7 +208,7 @@ fn field_of<'a, G: TypeGraph>(
         ) {
             return Ok(field);
         }
-        match climb(graph, cache, detector, record, name)? {
+        match climb_to_ancestor(graph, cache, detector, record, name)? {
             None => return Ok(None),
             Some(parent) => record = parent,
         }
@@ -231,7 +233,8 @@ fn memoize_field<'a, G: TypeGraph>(
     Ok(())
 }
 
-/// The field that a name denotes in a record; memoizes it for the record and the checkpoints of the search.
+/// The field that a name denotes in a record; memoizes it for the checkpoints of the search, of which the record is the first if it was
+/// visited.
 fn find_and_memoize_field<'a, G: TypeGraph>(
     graph: &G,
     cache: &mut FieldCache<'a, G::Node, G::Declaration, G::Record, G::Field>,
@@ -282,8 +285,8 @@ pub(crate) fn find_field_at<'a, G: TypeGraph>(
 ) -> Result<Option<G::Field>, AllocError>
     requires { IsValidFieldCache (G.shape graph.now) (G.base_of graph.now) G.Declaration.eq G.Record.eq (G.field_of graph.now) cache.old }
     ensures cache { IsValidFieldCache (G.shape graph.now) (G.base_of graph.now) G.Declaration.eq G.Record.eq (G.field_of graph.now) cache.new }
-    ensures found { IfOk result (λ o. IfSome o (λ f. Finds G.Declaration.eq (G.shape graph.now) (λ r. G.field_of graph.now r name.now) (G.base_of graph.now) [] from f)) }
-    ensures none { IfOk result (λ o. IfNone o ((f : G.Field) → Finds G.Declaration.eq (G.shape graph.now) (λ r. G.field_of graph.now r name.now) (G.base_of graph.now) [] from f → ⊥)) }
+    ensures found { IfOk result (λ o. IfSome o (λ f. DenotesField G.Declaration.eq (G.shape graph.now) (λ r. G.field_of graph.now r name.now) (G.base_of graph.now) [] from f)) }
+    ensures none { IfOk result (λ o. IfNone o ((f : G.Field) → DenotesField G.Declaration.eq (G.shape graph.now) (λ r. G.field_of graph.now r name.now) (G.base_of graph.now) [] from f → ⊥)) }
 {
     match denoted_record(graph, &mut cache.parents.ends, 1, from)? {
         None => Ok(None),

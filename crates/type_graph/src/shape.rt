@@ -3,7 +3,7 @@
 /// A type, with the nodes of its component types.
 #[derive(Drop)]
 pub enum Shape<Node, Declaration, Record> {
-    /// An array, with the type of its elements; one for each of its lengths.
+    /// An array, with the type of its elements. `ARRAY 2, 3 OF T` is an array of arrays: one for each length.
     Array(Node),
     /// A pointer, with the type of its target.
     Pointer(Node),

@@ -10,7 +10,7 @@ use Rattle.work_board.specs.declared.claim.Claim.{Claim}
 use Rattle.work_board.specs.declared.claim.Claim.TheVariants.{Finished, Module, Later}
 use Rattle.work_board.specs.Graphs.{list_at, Modules}
 use Rattle.work_board.specs.Cores.{has_entry, is_claimed, Core, IsClaim, IsOver, IsReady}
-use Rattle.work_board.specs.Keeping.{open_of, state_at, taken, IsValidBoard, IsChosenClaim, IsStateOf}
+use Rattle.work_board.specs.Keeping.{undelivered_count, state_at, taken, IsValidBoard, IsChosenClaim, IsStateOf}
 use Rattle.work_board.proofs.Counting.{open_zero, open_none}
 
 abbrev pub core_of : {E : Type 0} → List (Option E) → List State → Bool → Core E
@@ -62,10 +62,10 @@ module _ {E : Type 0} (is_of : List ℕ → E → Type 0) (g : Modules) (waiting
   -- a claimed module that isn't delivered
   pub claimed_state : (abandoned : Bool) (n : ℕ) → is_claimed (core_of entries states abandoned) n ≡ true → has_entry entries n ≡ false → (n < length states) × (state_at states n ≡ Claimed)
   claimed_state abandoned n claimed none =
-      let is_taken : taken (state_at states n) ≡ true = sym (claimed_is abandoned n) ∙ claimed in
+      let is_claimed_or_delivered : taken (state_at states n) ≡ true = sym (claimed_is abandoned n) ∙ claimed in
       let within : n < length states = stated_within states n (λ (e : state_at states n ≡ Waiting). let f : taken (state_at states n) ≡ false = ap taken e in cc) in
       let size = kept.states_size in
-      (within, told_claimed (state_at states n) (slice_index waiting n) (has_entry entries n) (kept.fits_state n (omega arith)) is_taken none)
+      (within, told_claimed (state_at states n) (slice_index waiting n) (has_entry entries n) (kept.fits_state n (omega arith)) is_claimed_or_delivered none)
 
   pub claimed_core : (abandoned : Bool) (n : ℕ) → state_at states n ≡ Claimed → (is_claimed (core_of entries states abandoned) n ≡ true) × (has_entry entries n ≡ false)
   claimed_core abandoned n at_n =
@@ -78,7 +78,7 @@ module _ {E : Type 0} (is_of : List ℕ → E → Type 0) (g : Modules) (waiting
       let size = kept.states_size in
       let below : n < length g.names = omega arith in
       let zero : slice_index waiting n ≡ 0 = told_zero (state_at states n) (slice_index waiting n) (has_entry entries n) (kept.fits_state n below) (λ (e : state_at states n ≡ Waiting). cc) in
-      let none : open_of entries (list_at g.imports n) ≡ 0 = sym (kept.count_open n below) ∙ zero in
+      let none : undelivered_count entries (list_at g.imports n) ≡ 0 = sym (kept.count_open n below) ∙ zero in
       let other = kept.entries_size in
       record {
         within = omega arith;
@@ -92,7 +92,7 @@ module _ {E : Type 0} (is_of : List ℕ → E → Type 0) (g : Modules) (waiting
       let other = kept.entries_size in
       let within = ready.within in
       let below : n < length g.names = omega arith in
-      let none : open_of entries (list_at g.imports n) ≡ 0 = open_none entries (list_at g.imports n) ready.imported in
+      let none : undelivered_count entries (list_at g.imports n) ≡ 0 = open_none entries (list_at g.imports n) ready.imported in
       (omega arith, told_free (state_at states n) (slice_index waiting n) (has_entry entries n) (kept.fits_state n below) (sym (claimed_is abandoned n) ∙ ready.unclaimed) (kept.count_open n below ∙ none))
 
   pub not_over : (abandoned : Bool) → abandoned ≡ false → (n : ℕ) → n < length states → (state_at states n ≡ Delivered → ⊥) → IsOver (core_of entries states abandoned) → ⊥

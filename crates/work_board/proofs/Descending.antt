@@ -8,7 +8,7 @@ use Rattle.std.proofs.lemmas.List.Elements.{Contains-append_cases}
 use Rattle.std.proofs.lemmas.Map.Keys.{IsDistinct-push}
 use Rattle.std.proofs.lemmas.Map.Steps.{length-le_from_distinct_below}
 use Rattle.std.proofs.lemmas.Map.Views.{exact_unsigned_eq, Contains-from_any}
-use Rattle.work_board.specs.Graphs.{list_at, IsAcyclic, IsChain, IsGraph, RowLeads, Modules, Reaches}
+use Rattle.work_board.specs.Graphs.{list_at, IsAcyclic, IsChain, IsGraph, ImportsModule, Modules, Reaches}
 use Rattle.work_board.specs.Cores.{has_entry, is_claimed, Core, IsIdle, IsOver, IsReady}
 use Rattle.work_board.proofs.Delivering.{member_below}
 use Rattle.work_board.proofs.Members.{first_member, first_or_later, later_member, no_member, one_member}
@@ -18,7 +18,7 @@ unfolding IsDistinct
 none_twice = tt
 
 -- a path with one more import
-chain_more : (imports : List (List ℕ)) (m : ℕ) (more : List ℕ) (v w : ℕ) → IsChain imports m more v → RowLeads imports v w → IsChain imports m (more ++ v ∷ []) w
+chain_more : (imports : List (List ℕ)) (m : ℕ) (more : List ℕ) (v w : ℕ) → IsChain imports m more v → ImportsModule imports v w → IsChain imports m (more ++ v ∷ []) w
 chain_more imports m [] v w chain leads = (chain, leads)
 chain_more imports m (n ∷ more) v w chain leads = (chain.0, chain_more imports n more v w chain.1 leads)
 
@@ -43,7 +43,7 @@ module _ {E : Type 0} (g : Modules) (graph : IsGraph g) (acyclic : IsAcyclic g.i
     | inr is_not ↦ is_not
   ]
 
-  next : (n : ℕ) → n < length g.names → has_entry c.entries n ≡ false → (w : ℕ) × RowLeads g.imports n w × (has_entry c.entries w ≡ false)
+  next : (n : ℕ) → n < length g.names → has_entry c.entries n ≡ false → (w : ℕ) × ImportsModule g.imports n w × (has_entry c.entries w ≡ false)
   next n lt missing = elim (open_in (list_at g.imports n)) [
     | inl all ↦ absurd (none n (record { within = omega arith; unclaimed = unclaimed n missing; imported = all }))
     | inr found ↦ found

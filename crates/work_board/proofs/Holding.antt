@@ -50,14 +50,14 @@ module _ {E : Type 0} (is_of : List ℕ → E → Type 0) (g : Modules) (waiting
       | inr other ↦ rw (held_away m other) (kept.fits_state m lt)
     ];
     own = kept.own;
-    flags = λ m v lt lv is_taken. elim (cases_eq m n) [
+    flags = λ m v lt lv is_claimed_or_delivered. elim (cases_eq m n) [
       | inl same ↦
           let size = kept.spare_size in
           let met = filled v (omega arith) in
           let reaches = meets is_of g waiting states reached spare entries kept graph n below none_open v lv in
           rw same ((λ mark. reaches.0 (met.0 mark)), (λ chain. met.1 (reaches.1 chain)))
       | inr other ↦
-          let before : taken (state_at states m) ≡ true = sym (ap taken (held_away m other)) ∙ is_taken in
+          let before : taken (state_at states m) ≡ true = sym (ap taken (held_away m other)) ∙ is_claimed_or_delivered in
           rw (others m other) (kept.flags m v lt lv before)
     ];
   }

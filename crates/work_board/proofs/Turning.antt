@@ -5,17 +5,17 @@ use Rattle.std.proofs.lemmas.Bool.{cases_eq, cases_lt, eq-eqb}
 use Rattle.std.proofs.lemmas.List.{get_or-set_same, get_or-set_other, get_or_append_left, length-append}
 use Rattle.std.proofs.Math.Seq.{get_or-append_seam}
 use Rattle.std.proofs.lemmas.List.Sums.{sum_by-append}
-use Rattle.work_board.specs.Graphs.{list_at, times_in}
+use Rattle.work_board.specs.Graphs.{list_at, occurrences_in}
 use Rattle.work_board.proofs.Counting.{differ}
 
-pub snoc_same : (m : ℕ) (r : List ℕ) → times_in m (r ++ m ∷ []) ≡ times_in m r + 1
+pub snoc_same : (m : ℕ) (r : List ℕ) → occurrences_in m (r ++ m ∷ []) ≡ occurrences_in m r + 1
 snoc_same m r =
     let e = sum_by-append (λ x. cond (x == m) 1 0) r (m ∷ []) in
     let one : Bool → ℕ = λ b. cond b 1 0 in
     let t : one (m == m) ≡ 1 = ap one (eq-eqb m m refl) in
     omega (arith, e, t)
 
-pub snoc_other : (m x : ℕ) (r : List ℕ) → (m ≡ x → ⊥) → times_in x (r ++ m ∷ []) ≡ times_in x r
+pub snoc_other : (m x : ℕ) (r : List ℕ) → (m ≡ x → ⊥) → occurrences_in x (r ++ m ∷ []) ≡ occurrences_in x r
 snoc_other m x r other =
     let e = sum_by-append (λ y. cond (y == x) 1 0) r (m ∷ []) in
     let one : Bool → ℕ = λ b. cond b 1 0 in
@@ -40,16 +40,16 @@ module _ (rows new : List (List ℕ)) (at m : ℕ) (lt : at < length rows) (is :
   there : (n : ℕ) → (n ≡ at → ⊥) → list_at new n ≡ list_at rows n
   there n other = ap (λ rs. list_at rs n) is ∙ get_or-set_other rows at n (list_at rows at ++ m ∷ []) [] other
 
-  pub pushed_same : times_in m (list_at new at) ≡ times_in m (list_at rows at) + 1
-  pushed_same = ap (times_in m) here ∙ snoc_same m (list_at rows at)
+  pub pushed_same : occurrences_in m (list_at new at) ≡ occurrences_in m (list_at rows at) + 1
+  pushed_same = ap (occurrences_in m) here ∙ snoc_same m (list_at rows at)
 
-  pub pushed_away : (n x : ℕ) → (n ≡ at → ⊥) → times_in x (list_at new n) ≡ times_in x (list_at rows n)
-  pushed_away n x other = ap (times_in x) (there n other)
+  pub pushed_away : (n x : ℕ) → (n ≡ at → ⊥) → occurrences_in x (list_at new n) ≡ occurrences_in x (list_at rows n)
+  pushed_away n x other = ap (occurrences_in x) (there n other)
 
-  pub pushed_other : (n x : ℕ) → (x ≡ m → ⊥) → times_in x (list_at new n) ≡ times_in x (list_at rows n)
+  pub pushed_other : (n x : ℕ) → (x ≡ m → ⊥) → occurrences_in x (list_at new n) ≡ occurrences_in x (list_at rows n)
   pushed_other n x other =
       elim (cases_eq n at) [
-        | inl same ↦ ap (λ k. times_in x (list_at new k)) same ∙ ap (times_in x) here ∙ snoc_other m x (list_at rows at) (λ e. other (sym e)) ∙ sym (ap (λ k. times_in x (list_at rows k)) same)
+        | inl same ↦ ap (λ k. occurrences_in x (list_at new k)) same ∙ ap (occurrences_in x) here ∙ snoc_other m x (list_at rows at) (λ e. other (sym e)) ∙ sym (ap (λ k. occurrences_in x (list_at rows k)) same)
         | inr away ↦ pushed_away n x away
       ]
 

@@ -19,10 +19,11 @@ abbrev pub list_at : {X : Type 0} → List (List X) → ℕ → List X
 list_at rows n = slice_index_or rows n []
 
 -- how often n occurs in the list
-abbrev pub times_in : ℕ → List ℕ → ℕ
-times_in n row = count_by (λ x. x == n) row
+abbrev pub occurrences_in : ℕ → List ℕ → ℕ
+occurrences_in n row = count_by (λ x. x == n) row
 
--- as many lists as names, at most 4,096, each of at most 65,536 imports, and each import is a module
+-- there are as many lists of imports as names, at most 4,096; each list has at most 65,536 imports, and each import is the number of a
+-- module
 pub record IsGraph (g : Modules) : Type 0 where
   pub size : length g.imports ≡ length g.names
   pub few : length g.names ≤ 4096
@@ -35,21 +36,21 @@ pub record IsNameOrder (names : List (List ℕ)) (order : List ℕ) : Type 0 whe
   pub ascend : IsSortedBy (λ v w. is_lt (slice_cmp nat_cmp (list_at names v) (list_at names w))) order
 
 -- each list has at most 65,536 numbers, all less than the count
-abbrev pub AreRows : List (List ℕ) → ℕ → Type 0
-AreRows rows count = (m : ℕ) → (length (list_at rows m) ≤ 65536) × All (λ w. w < count) (list_at rows m)
+abbrev pub AreImportLists : List (List ℕ) → ℕ → Type 0
+AreImportLists rows count = (m : ℕ) → (length (list_at rows m) ≤ 65536) × All (λ w. w < count) (list_at rows m)
 
--- the reversed graph: m occurs in the list of n as often as n in the list of m
+-- `importers` is the reversed graph: m occurs in the importers of n as often as n in the imports of m
 abbrev pub AreTransposed : List (List ℕ) → List (List ℕ) → Type 0
-AreTransposed imports importers = (m n : ℕ) → times_in m (list_at importers n) ≡ times_in n (list_at imports m)
+AreTransposed imports importers = (m n : ℕ) → occurrences_in m (list_at importers n) ≡ occurrences_in n (list_at imports m)
 
 -- m imports n
-abbrev pub RowLeads : List (List ℕ) → ℕ → ℕ → Type 0
-RowLeads imports m n = Contains (list_at imports m) n
+abbrev pub ImportsModule : List (List ℕ) → ℕ → ℕ → Type 0
+ImportsModule imports m n = Contains (list_at imports m) n
 
--- a path from m to b: each module imports the next, from m over those of the list to b
+-- a path from m to b, over the modules of the list: m imports the first of them, each the next, and the last imports b
 abbrev pub IsChain : List (List ℕ) → ℕ → List ℕ → ℕ → Type 0
-IsChain imports m [] b = RowLeads imports m b
-IsChain imports m (n ∷ more) b = RowLeads imports m n × IsChain imports n more b
+IsChain imports m [] b = ImportsModule imports m b
+IsChain imports m (n ∷ more) b = ImportsModule imports m n × IsChain imports n more b
 
 -- m reaches b by one or more imports
 abbrev pub Reaches : List (List ℕ) → ℕ → ℕ → Type 0

@@ -5,6 +5,6 @@ use Rattle.work_board.specs.Graphs.{list_at}
 abbrev pub marked : List Bool → ℕ → Bool
 marked flags v = slice_index_or flags v false
 
--- v is a module of the list, or is reached by one of them
+-- v is a module of the list `row`, or a module of the list reaches it
 abbrev pub IsReachedBy : List (List Bool) → List ℕ → ℕ → Type 0
 IsReachedBy reached row v = (w : ℕ) × Contains row w × ((w ≡ v) ⊎ (marked (list_at reached w) v ≡ true))

@@ -1,10 +1,10 @@
-//! The scheduler: which modules are claimed and delivered, and what each claimed module reaches.
+//! The dependency scheduler: which modules are claimed and delivered, and which modules each claimed module reaches.
 ghost use Rattle.std.specs.Prelude.{◌≡◌, ◌<◌, ◌≤◌, ◌+◌, ◌⊎◌, ℕ, true, false, length, map, replicate, All, IfOk, IfErr, OnOk, ◌++◌, slice_index, slice_set, None, Some};
 ghost use Rattle.std.specs.Arc.{arc_value};
 ghost use Rattle.std.specs.List.{flat_map};
-ghost use Rattle.work_board.specs.Graphs.{lists, list_at, times_in, IsAcyclic, Reaches};
-ghost use Rattle.work_board.specs.Cores.{abandoned_after, has_entry, is_claimed, new_core, share_at, shared_part, taken_back, AreOf, AreShares, IsClaim, IsDelivery, IsIdle, IsOver, IsReady, IsRefusal};
-ghost use Rattle.work_board.specs.Keeping.{freed, freed_claim, state_at, taken, IsFit, IsChosenClaim};
+ghost use Rattle.work_board.specs.Graphs.{lists, list_at, occurrences_in, IsAcyclic, Reaches};
+ghost use Rattle.work_board.specs.Cores.{abandoned_after, has_entry, is_claimed, new_core, share_at, shared_part, with_claims_released, AreModuleEntries, AreShares, IsClaim, IsDelivery, IsIdle, IsOver, IsReady, IsDeliveryFault};
+ghost use Rattle.work_board.specs.Keeping.{state_after_delivery, state_after_release, state_at, taken, IsFit, IsChosenClaim};
 
 use crate::flags::{cleared_flag_lists, cleared_flags, replace_reached_flags};
 use crate::scans::{any_marked, first_free};
@@ -14,18 +14,19 @@ use std::alloc::{AllocError, Global};
 use std::marker::{Model, PhantomData};
 use std::sync::Arc;
 
-/// The work on the modules of a graph, to be held by a lock. Workers claim modules by number, make their entries and deliver them.
+/// A dependency scheduler for the modules of a graph, to be guarded by a lock. A worker claims a module, makes its entry and delivers it.
 /// A module is ready once the entries of all modules that it imports are delivered. Only `new` and `interfaces` allocate memory.
-/// The type parameter `T` names the graph.
+/// The type parameter `T` identifies the graph, so that schedulers of different graphs have different types.
 #[derive(Drop)]
 pub struct Board<'g, T: NamedTree, E: WorkEntry> {
     graph: &'g Graph,
-    /// For each module its entry.
+    /// For each module its entry, `None` until it is delivered.
     entries: Vec<Option<E>>,
     states: Vec<State>,
     /// For each module how many of its imports aren't delivered.
     waiting: Vec<u32>,
-    /// For each claimed or delivered module a flag for each module that it reaches. The flags of other modules mean nothing.
+    /// For each module a flag for each module of the graph: whether the first one reaches the second one by imports. The flags of a module
+    /// that isn't claimed have no meaning.
     reached: Vec<Vec<bool>>,
     /// Memory for the flags of the next claimed module, so that `claim` need not allocate.
     spare: Vec<bool>,
@@ -60,7 +61,7 @@ fn are_all_delivered(states: &[State]) -> bool
     true
 }
 
-/// The free module with the smallest number. Without a free module, whether all are delivered.
+/// The free module with the smallest number. If no module is free, `Finished` or `Later`, depending on whether all are delivered.
 fn choose_claim(states: &[State]) -> Claim
     requires { length states.now ≤ 4096 }
     ensures { IsChosenClaim states.now result }
@@ -89,15 +90,15 @@ fn state_of(states: &[State], place: usize) -> State
     }
 }
 
-/// Decrements the number of undelivered imports of each of these importers, once for each occurrence in the list. An importer all of
-/// whose imports are delivered becomes free.
+/// Decrements the number of undelivered imports of each module in `importers`, once for each of its occurrences in the list. A module
+/// becomes free when this number becomes 0.
 fn decrement_waiting(waiting: &mut [u32], states: &mut [State], importers: &[u32])
     requires size { length states.old ≡ length waiting.old }
     requires within { All (λ m. m < length waiting.old) importers.now }
-    requires counted { (m : ℕ) → m < length waiting.old → times_in m importers.now ≤ slice_index waiting.old m }
+    requires counted { (m : ℕ) → m < length waiting.old → occurrences_in m importers.now ≤ slice_index waiting.old m }
     requires fits_state { (m : ℕ) → m < length waiting.old → IsFit (state_at states.old m) (slice_index waiting.old m) }
-    ensures waiting { (m : ℕ) → m < length waiting.old → slice_index waiting.new m + times_in m importers.now ≡ slice_index waiting.old m }
-    ensures states { (m : ℕ) → m < length waiting.old → state_at states.new m ≡ freed (state_at states.old m) (slice_index waiting.new m) }
+    ensures waiting { (m : ℕ) → m < length waiting.old → slice_index waiting.new m + occurrences_in m importers.now ≡ slice_index waiting.old m }
+    ensures states { (m : ℕ) → m < length waiting.old → state_at states.new m ≡ state_after_delivery (state_at states.old m) (slice_index waiting.new m) }
 {
     for module in importers {
         let place = *module as usize;
@@ -108,6 +109,7 @@ fn decrement_waiting(waiting: &mut [u32], states: &mut [State], importers: &[u32
     }
 }
 
+/// `count` slots without an entry.
 fn empty_entries<E: WorkEntry>(alloc: Global, count: usize) -> Result<Vec<Option<E>>, AllocError>
     ensures { IfOk result (λ entries. entries.items ≡ replicate count None) }
 {
@@ -118,7 +120,7 @@ fn empty_entries<E: WorkEntry>(alloc: Global, count: usize) -> Result<Vec<Option
     Ok(entries)
 }
 
-/// For each module how many imports it has.
+/// For each module the number of its imports, repeated ones counted.
 fn import_counts(alloc: Global, graph: &Graph) -> Result<Vec<u32>, AllocError>
     ensures size { IfOk result (λ counts. length counts.items ≡ length graph.now.names) }
     ensures counts { IfOk result (λ counts. (m : ℕ) → m < length graph.now.names → slice_index counts.items m ≡ length (list_at graph.now.imports m)) }
@@ -134,7 +136,7 @@ fn import_counts(alloc: Global, graph: &Graph) -> Result<Vec<u32>, AllocError>
 
 /// The initial state of a module that has this number of imports.
 fn initial_module_state(count: u32) -> State
-    ensures { result ≡ freed State.Waiting count }
+    ensures { result ≡ state_after_delivery State.Waiting count }
 {
     if count == 0 {
         State::Free
@@ -143,9 +145,9 @@ fn initial_module_state(count: u32) -> State
     }
 }
 
-/// The initial states: a module without imports is free.
+/// The initial states of modules with these numbers of imports: a module without imports is free, any other waits.
 fn initial_states(alloc: Global, counts: &[u32]) -> Result<Vec<State>, AllocError>
-    ensures { IfOk result (λ states. states.items ≡ map (freed State.Waiting) counts.now) }
+    ensures { IfOk result (λ states. states.items ≡ map (state_after_delivery State.Waiting) counts.now) }
 {
     let mut states = Vec::with_capacity(alloc, counts.len())?;
     for count in counts {
@@ -156,7 +158,7 @@ fn initial_states(alloc: Global, counts: &[u32]) -> Result<Vec<State>, AllocErro
 
 /// Frees each module that is claimed and not delivered.
 fn free_all_claimed(states: &mut [State])
-    ensures { states.new ≡ map freed_claim states.old }
+    ensures { states.new ≡ map state_after_release states.old }
 {
     for place in 0..states.len() {
         if let State::Claimed = states[place] {
@@ -165,7 +167,7 @@ fn free_all_claimed(states: &mut [State])
     }
 }
 
-/// Appends the shared part of the entry, if there is one.
+/// Appends the shared part of the entry to `parts`, if there is an entry.
 fn append_shared_part<E: WorkEntry>(
     parts: &mut Vec<Arc<E::Shared>>,
     entry: &Option<E>,
@@ -202,7 +204,7 @@ fn flagged_shared_parts<E: WorkEntry>(
     Ok(parts)
 }
 
-/// The shared parts of those modules of `order` whose flag is set. If no flag is set, it doesn't visit the modules one by one.
+/// As `flagged_shared_parts`, but if no flag is set, it doesn't visit the modules one by one.
 fn shared_parts<E: WorkEntry>(
     alloc: Global,
     flags: &[bool],
@@ -219,7 +221,7 @@ fn shared_parts<E: WorkEntry>(
     flagged_shared_parts(alloc, flags, entries, order)
 }
 
-/// The flags of the module with this number.
+/// The flags of the module with number `place`.
 fn flags_at(rows: &[Vec<bool>], place: usize) -> &[bool]
     requires { place < length rows.now }
     ensures { result.now ≡ list_at (lists rows.now) place }
@@ -228,7 +230,7 @@ fn flags_at(rows: &[Vec<bool>], place: usize) -> &[bool]
 }
 
 /// Whether a module is claimed or delivered.
-fn is_taken(states: &[State], place: usize) -> bool
+fn is_claimed_or_delivered(states: &[State], place: usize) -> bool
     ensures { result ≡ taken (state_at states.now place) }
 {
     match state_of(states, place) {
@@ -242,7 +244,7 @@ fn is_taken(states: &[State], place: usize) -> bool
 impl<'g, T: NamedTree, E: WorkEntry> Board<'g, T, E> {
     /// A scheduler for the modules of a graph, with memory for all flags and states.
     pub fn new(alloc: Global, graph: &'g Graph) -> Result<Board<'g, T, E>, AllocError>
-        // The graph is the one that the type names.
+        // The graph is the one that the type parameter identifies.
         requires { graph.now ≡ T.graph }
         // No module is claimed, delivered or abandoned.
         ensures { IfOk result (λ board. board ≡ new_core (length T.graph.names)) }
@@ -271,14 +273,14 @@ impl<'g, T: NamedTree, E: WorkEntry> Board<'g, T, E> {
         // There is a slot for an entry for each module of the graph.
         ensures size { length self.now.entries ≡ length T.graph.names }
         // Each entry is the entry of its module, by name.
-        ensures own { AreOf E.is_of T.graph.names self.now.entries }
+        ensures own { AreModuleEntries E.is_of T.graph.names self.now.entries }
         // A delivered module is claimed.
         ensures claimed { (n : ℕ) → has_entry self.now.entries n ≡ true → is_claimed self.now n ≡ true }
         // All modules that a claimed module reaches are delivered.
         ensures reached { (n v : ℕ) → is_claimed self.now n ≡ true → Reaches T.graph.imports n v → has_entry self.now.entries v ≡ true }
         // There is a flag for each module of the graph, whether it is claimed.
         ensures flags { length self.now.claimed ≡ length T.graph.names }
-        // If the graph is acyclic, no worker holds a module and no module is ready, then the work is over.
+        // If the graph is acyclic, each claimed module is delivered and no module is ready, then the work is over.
         ensures goes_on { IsAcyclic T.graph.imports → IsIdle self.now → ((n : ℕ) → IsReady T.graph.imports self.now n → ⊥) → IsOver self.now }
     {
         self.graph.invariants();
@@ -302,7 +304,7 @@ impl<'g, T: NamedTree, E: WorkEntry> Board<'g, T, E> {
         // The error is `NotClaimed` for a module that isn't claimed, or else `Memory`.
         ensures refused { IfErr result (λ fault. ((fault ≡ BoardFault.NotClaimed) × (is_claimed self.now number ≡ false)) ⊎ (fault ≡ BoardFault.Memory)) }
     {
-        if !is_taken(self.states.as_slice(), number as usize) {
+        if !is_claimed_or_delivered(self.states.as_slice(), number as usize) {
             return Err(BoardFault::NotClaimed);
         }
         self.graph.invariants();
@@ -347,9 +349,9 @@ impl<'g, T: NamedTree, E: WorkEntry> Board<'g, T, E> {
         self.states[place] = State::Claimed;
     }
 
-    /// Why this entry can't be delivered; none if it can.
+    /// The error with which the delivery of this entry fails; `None` if it succeeds.
     fn delivery_fault(&self, number: u32, entry: &E) -> Option<BoardFault>
-        ensures fits_state { IsRefusal T.graph.names (E.name_of entry.now) self.now number result }
+        ensures fits_state { IsDeliveryFault T.graph.names (E.name_of entry.now) self.now number result }
         ensures kept { E.is_of (E.name_of entry.now) entry.now }
         ensures within { result ≡ None → number < length T.graph.names }
     {
@@ -368,7 +370,7 @@ impl<'g, T: NamedTree, E: WorkEntry> Board<'g, T, E> {
         }
     }
 
-    /// Stores the entry of a claimed module, and counts it as delivered for the modules that import it.
+    /// Stores the entry of a claimed module, which is delivered then. Frees the modules that waited only for this one.
     fn store(&mut self, number: u32, entry: E)
         requires within { number < length T.graph.names }
         requires claimed { is_claimed self.old number ≡ true }
@@ -387,9 +389,9 @@ impl<'g, T: NamedTree, E: WorkEntry> Board<'g, T, E> {
         );
     }
 
-    /// Delivers the entry of a claimed module. After an error returns the entry, and changes nothing.
-    /// Fails with `NotClaimed` if the module isn't claimed, with `Twice` if it is delivered, and otherwise with `WrongModule` if the entry
-    /// is that of a module of another name.
+    /// Delivers the entry of a claimed module. An error returns the entry, and nothing changes.
+    /// Fails with `NotClaimed` if the module isn't claimed, else with `Twice` if it is delivered, else with `WrongModule` if the entry is
+    /// that of a module of another name.
     pub fn deliver(&mut self, number: u32, entry: E) -> Result<(), (BoardFault, E)>
         // The entry is stored, or returned with the first of these errors while nothing changes.
         ensures { IsDelivery T.graph.names (E.name_of entry) entry number self.old result self.new }
@@ -406,7 +408,7 @@ impl<'g, T: NamedTree, E: WorkEntry> Board<'g, T, E> {
     /// Records that an allocation failed for a claimed module, which stays claimed. Changes nothing for a module that isn't claimed or
     /// that is delivered.
     pub fn abandon(&mut self, number: u32)
-        // The work counts as abandoned if the module was claimed and not delivered, or if it counted so before.
+        // The flag `abandoned` is set if the module is claimed and not delivered, or if it was set before.
         ensures { self.new ≡ record self.old { abandoned = abandoned_after self.old number } }
     {
         if let Some(State::Claimed) = self.states.get(number as usize) {
@@ -414,24 +416,24 @@ impl<'g, T: NamedTree, E: WorkEntry> Board<'g, T, E> {
         }
     }
 
-    /// Frees each module that is claimed and not delivered, since its worker has ended.
-    pub fn take_back(&mut self)
+    /// Frees each module that is claimed and not delivered, so that it can be claimed again. Called once all workers have ended.
+    pub fn release_claims(&mut self)
         // No worker holds a module.
         ensures idle { IsIdle self.new }
         // A module is claimed exactly if it is delivered, and nothing else changes.
-        ensures back { self.new ≡ taken_back self.old }
+        ensures back { self.new ≡ with_claims_released self.old }
     {
         free_all_claimed(self.states.as_mut_slice());
     }
 
-    /// The entries by module number, none for a module that isn't delivered.
+    /// The entries by module number, `None` for a module that isn't delivered.
     pub fn gather(self) -> Vec<Option<E>>
         // They are the entries of the scheduler.
         ensures entries { result.items ≡ self.entry.entries }
         // There is a slot for each module of the graph.
         ensures size { length result.items ≡ length T.graph.names }
         // Each entry is the entry of its module, by name.
-        ensures own { AreOf E.is_of T.graph.names result.items }
+        ensures own { AreModuleEntries E.is_of T.graph.names result.items }
     {
         let Board {
             graph: _,

@@ -6,8 +6,8 @@ ghost use Rattle.work_board.specs.Marks.{marked, IsReachedBy};
 use std::alloc::{AllocError, Global};
 use std::mem;
 
-/// Sets each flag that is set in `more`.
-fn add(flags: &mut [bool], more: &[bool])
+/// Sets each flag of `flags` that is set in `more`.
+fn add_flags(flags: &mut [bool], more: &[bool])
     requires { length more.now ≡ length flags.old }
     ensures { (v : ℕ) → marked flags.new v ≡ (marked flags.old v || marked more.now v) }
 {
@@ -17,7 +17,7 @@ fn add(flags: &mut [bool], more: &[bool])
 }
 
 /// Clears all flags.
-fn clear(flags: &mut [bool])
+fn clear_flags(flags: &mut [bool])
     ensures { (v : ℕ) → marked flags.new v ≡ false }
 {
     for place in 0..flags.len() {
@@ -25,21 +25,23 @@ fn clear(flags: &mut [bool])
     }
 }
 
-/// Sets the flags of the modules of `row` and of all modules that they reach, and clears the others.
+/// Sets the flags of the modules in the list `row` and of all modules that they reach, and clears all other flags. `reached` has for each
+/// module of the list the flags of the modules that it reaches.
 pub(crate) fn set_reached_flags(flags: &mut [bool], reached: &[Vec<bool>], row: &[u32])
     requires width { (n : ℕ) → n < length reached.now → length (list_at (lists reached.now) n) ≡ length flags.old }
     requires size { length reached.now ≡ length flags.old }
     requires within { All (λ w. w < length flags.old) row.now }
     ensures { (v : ℕ) → v < length flags.old → (marked flags.new v ≡ true) ↔ IsReachedBy (lists reached.now) row.now v }
 {
-    clear(flags);
+    clear_flags(flags);
     for w in row {
-        add(flags, reached[*w as usize].as_slice());
+        add_flags(flags, reached[*w as usize].as_slice());
         flags[*w as usize] = true;
     }
 }
 
-/// Sets the flags at `place` to the modules of `row` and all modules that they reach. They are built in `spare`, which is then swapped in.
+/// Flags in `reached[place]` exactly the modules in the list `row` and all modules that they reach. The flags are built in `spare`, which
+/// is then swapped with `reached[place]`, so nothing is allocated.
 pub(crate) fn replace_reached_flags(
     reached: &mut Vec<Vec<bool>>,
     spare: &mut Vec<bool>,
@@ -60,7 +62,7 @@ pub(crate) fn replace_reached_flags(
     mem::swap(spare, &mut reached[place]);
 }
 
-/// As many cleared flags as `count`.
+/// `count` cleared flags.
 pub(crate) fn cleared_flags(alloc: Global, count: usize) -> Result<Vec<bool>, AllocError>
     ensures { IfOk result (λ flags. flags.items ≡ replicate count false) }
 {
@@ -68,7 +70,7 @@ pub(crate) fn cleared_flags(alloc: Global, count: usize) -> Result<Vec<bool>, Al
     Ok(flags)
 }
 
-/// As many lists of `count` cleared flags as `count`.
+/// `count` lists, each of `count` cleared flags.
 pub(crate) fn cleared_flag_lists(alloc: Global, count: usize) -> Result<Vec<Vec<bool>>, AllocError>
     ensures { IfOk result (λ rows. lists rows.items ≡ replicate count (replicate count false)) }
 {

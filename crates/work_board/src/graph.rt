@@ -2,7 +2,7 @@
 ghost use Rattle.std.specs.Prelude.{◌≡◌, ◌↔◌, ◌<◌, ◌≤◌, ◌+◌, ◌==◌, ℕ, cond, IsTrue, length, map, take, All, IfOk, OnOk, OnErr, slice_set, vec_len, [], ◌∷◌, ◌++◌, Vec};
 ghost use Rattle.std.specs.List.{range_with_len};
 ghost use Rattle.std.specs.String.{string_bytes};
-ghost use Rattle.work_board.specs.Graphs.{lists, list_at, times_in, AreRows, AreTransposed, IsGraph, IsNameOrder};
+ghost use Rattle.work_board.specs.Graphs.{lists, list_at, occurrences_in, AreImportLists, AreTransposed, IsGraph, IsNameOrder};
 
 use std::alloc::{AllocError, Global};
 use std::marker::Model;
@@ -40,6 +40,7 @@ impl Model for Graph {
         × IsNameOrder (map string_bytes g.names.items) g.order.items };
 }
 
+/// `count` empty lists.
 fn empty_lists(alloc: Global, count: usize) -> Result<Vec<Vec<u32>>, AllocError>
     ensures size { IfOk result (λ rows. length (lists rows.items) ≡ count) }
     ensures none { IfOk result (λ rows. (n : ℕ) → list_at (lists rows.items) n ≡ []) }
@@ -52,7 +53,7 @@ fn empty_lists(alloc: Global, count: usize) -> Result<Vec<Vec<u32>>, AllocError>
     Ok(rows)
 }
 
-/// Appends a number to the list at this index.
+/// Appends the number `by` to the list at index `place`.
 fn append_at(rows: &mut Vec<Vec<u32>>, place: usize, by: u32) -> Result<(), AllocError>
     requires { place < vec_len rows.old }
     ensures size { OnOk result (length (lists rows.new.items) ≡ length (lists rows.old.items)) }
@@ -62,12 +63,12 @@ fn append_at(rows: &mut Vec<Vec<u32>>, place: usize, by: u32) -> Result<(), Allo
     Ok(())
 }
 
-/// Appends the module `by` to the importers of each module of `row`.
+/// Appends the module `by` to the list of importers of each module in the list `row`. `rows` has for each module its importers.
 fn add_importer(rows: &mut Vec<Vec<u32>>, row: &[u32], by: u32) -> Result<(), AllocError>
     requires { All (λ w. w < length (lists rows.old.items)) row.now }
     ensures size { OnOk result (length (lists rows.new.items) ≡ length (lists rows.old.items)) }
-    ensures more { OnOk result ((n : ℕ) → times_in by (list_at (lists rows.new.items) n) ≡ times_in by (list_at (lists rows.old.items) n) + times_in n row.now) }
-    ensures others { OnOk result ((n x : ℕ) → (x ≡ by → ⊥) → times_in x (list_at (lists rows.new.items) n) ≡ times_in x (list_at (lists rows.old.items) n)) }
+    ensures more { OnOk result ((n : ℕ) → occurrences_in by (list_at (lists rows.new.items) n) ≡ occurrences_in by (list_at (lists rows.old.items) n) + occurrences_in n row.now) }
+    ensures others { OnOk result ((n x : ℕ) → (x ≡ by → ⊥) → occurrences_in x (list_at (lists rows.new.items) n) ≡ occurrences_in x (list_at (lists rows.old.items) n)) }
     ensures within { OnOk result ((k : ℕ) → by < k → ((n : ℕ) → All (λ w. w < k) (list_at (lists rows.old.items) n)) → (n : ℕ) → All (λ w. w < k) (list_at (lists rows.new.items) n)) }
 {
     for imported in row {
@@ -76,8 +77,8 @@ fn add_importer(rows: &mut Vec<Vec<u32>>, row: &[u32], by: u32) -> Result<(), Al
     Ok(())
 }
 
-/// For each module the modules that import it.
-fn transposed(alloc: Global, imports: &[Vec<u32>]) -> Result<Vec<Vec<u32>>, AllocError>
+/// For each module the list of the modules that import it, each as often as it does so. `imports` has for each module its imports.
+fn importer_lists(alloc: Global, imports: &[Vec<u32>]) -> Result<Vec<Vec<u32>>, AllocError>
     requires few { length imports.now ≤ 4096 }
     requires within { (m : ℕ) → All (λ w. w < length imports.now) (list_at (lists imports.now) m) }
     ensures size { IfOk result (λ rows. length (lists rows.items) ≡ length (lists imports.now)) }
@@ -86,29 +87,29 @@ fn transposed(alloc: Global, imports: &[Vec<u32>]) -> Result<Vec<Vec<u32>>, Allo
 {
     let mut rows = empty_lists(alloc, imports.len())?;
     for place in 0..imports.len() {
-        add_importer(&mut rows, row(imports, place), place as u32)?;
+        add_importer(&mut rows, list_at(imports, place), place as u32)?;
     }
     Ok(rows)
 }
 
-/// The list at this index.
-fn row(rows: &[Vec<u32>], place: usize) -> &[u32]
+/// The list at index `place`.
+fn list_at(rows: &[Vec<u32>], place: usize) -> &[u32]
     requires { place < length rows.now }
     ensures { result.now ≡ list_at (lists rows.now) place }
 {
     rows[place].as_slice()
 }
 
-/// Whether each number of the list is less than the count.
+/// Whether each number of the list `row` is less than `count`.
 fn all_below(row: &[u32], count: usize) -> bool
     ensures { IsTrue result ↔ All (λ w. w < count) row.now }
 {
     row.iter().all(|number| (*number as usize) < count)
 }
 
-/// Whether each list has at most `MAX_IMPORTS` numbers, all of them less than the count.
+/// Whether each list has at most `MAX_IMPORTS` numbers, all of them less than `count`.
 fn are_valid_imports(rows: &[Vec<u32>], count: usize) -> bool
-    ensures { IsTrue result ↔ AreRows (lists rows.now) count }
+    ensures { IsTrue result ↔ AreImportLists (lists rows.now) count }
 {
     for row in rows {
         if row.len() > MAX_IMPORTS || !all_below(row.as_slice(), count) {
@@ -128,8 +129,8 @@ fn name_of(names: &[String], number: u32) -> &str
     }
 }
 
-/// The numbers from 0 up to the count, which is excluded.
-fn numbers(alloc: Global, count: u32) -> Result<Vec<u32>, AllocError>
+/// The numbers from 0 up to `count`, which is excluded.
+fn numbers_below(alloc: Global, count: u32) -> Result<Vec<u32>, AllocError>
     ensures { IfOk result (λ v. v.items ≡ range_with_len 0 count) }
 {
     (0..count).collect(alloc)
@@ -140,13 +141,14 @@ fn order_by_name(alloc: Global, names: &[String]) -> Result<Vec<u32>, AllocError
     requires { length names.now ≤ 4096 }
     ensures { IfOk result (λ order. IsNameOrder (map string_bytes names.now) order.items) }
 {
-    let mut order = numbers(alloc, names.len() as u32)?;
+    let mut order = numbers_below(alloc, names.len() as u32)?;
     order.sort_unstable_by(|a, b| name_of(names, *a).cmp(&name_of(names, *b)));
     Ok(order)
 }
 
 impl Graph {
-    /// Whether `new` accepts these names and imports.
+    /// Whether these names and imports are a graph, as `new` requires: both lists are equally long and within the limits, and each import
+    /// is the number of a module.
     pub fn is_graph(names: &[String], imports: &[Vec<u32>]) -> bool
         // There are as many lists as names, at most 4,096, each of at most 65,536 numbers of modules.
         ensures { IsTrue result ↔ IsGraph (record { names = map string_bytes names.now; imports = lists imports.now }) }
@@ -161,12 +163,12 @@ impl Graph {
         names: Vec<String>,
         imports: Vec<Vec<u32>>,
     ) -> Result<Graph, AllocError>
-        // `is_graph` is true of them.
+        // `is_graph` is true of these names and imports.
         requires { IsGraph (record { names = map string_bytes names.items; imports = lists imports.items }) }
         // The graph has exactly these names and imports.
         ensures { IfOk result (λ graph. graph ≡ record { names = map string_bytes names.items; imports = lists imports.items }) }
     {
-        let importers = transposed(alloc, imports.as_slice())?;
+        let importers = importer_lists(alloc, imports.as_slice())?;
         let order = order_by_name(alloc, names.as_slice())?;
         Ok(Graph {
             names,
@@ -216,12 +218,12 @@ impl Graph {
     pub fn importers_of(&self, number: u32) -> &[u32]
         // The graph has a module of this number.
         requires { number < length self.now.names }
-        // A module occurs as often as it imports this one.
-        ensures transposed { (m : ℕ) → times_in m result.now ≡ times_in number (list_at self.now.imports m) }
+        // A module m occurs in the result as often as the module `number` in the imports of m.
+        ensures transposed { (m : ℕ) → occurrences_in m result.now ≡ occurrences_in number (list_at self.now.imports m) }
         // All are modules of the graph.
         ensures within { All (λ m. m < length self.now.names) result.now }
     {
-        row(self.importers.as_slice(), number as usize)
+        list_at(self.importers.as_slice(), number as usize)
     }
 
     /// The numbers of all modules, sorted by name.

@@ -1,7 +1,7 @@
-//! A dependency scheduler: workers claim modules whose imports are all delivered, make an entry of each, and deliver it. It starts no
-//! thread, and depends on std, and on `thiserror` for its errors. The main calls are `Board::claim` and `Board::deliver`.
-//! `Board::invariants` promises that each delivered entry is that of its module, and that all modules that a claimed module reaches are
-//! delivered.
+//! A dependency scheduler: workers claim modules whose imports are all delivered, make an entry of each, and deliver it. The scheduler
+//! starts no thread. Depends on std, and on `thiserror` for errors.
+//! The main calls are `Board::claim` and `Board::deliver`. `Board::invariants` promises that each delivered entry is that of its module,
+//! and that all modules that a claimed module reaches are delivered.
 #![tactic(auto)]
 
 mod board;

@@ -1,4 +1,5 @@
-//! Fast scans. Most blocks of modules in a large tree have no free module, and often no flag of a list is set.
+//! Fast scans of states for a free module, and of flags for a set one. In a large tree most blocks of modules have no free module, and
+//! often no flag of a list is set.
 ghost use Rattle.std.specs.Prelude.{◌≡◌, ◌<◌, ◌≤◌, ◌↔◌, ℕ, false, length, IsTrue};
 ghost use Rattle.work_board.specs.Marks.{marked};
 ghost use Rattle.work_board.specs.Keeping.{state_at};
@@ -8,7 +9,7 @@ use crate::state::State;
 /// The number of modules of a block. A loop over a block always runs to its end, so that the compiler can vectorize it.
 pub(crate) const BLOCK: usize = 64;
 
-/// Whether a flag with an index in `from..to` is set. The loop always runs to its end, so that the compiler can vectorize it.
+/// Whether a flag with an index in `from..to` is set. The loop has no early exit, so that the compiler can vectorize it.
 pub(crate) fn any_marked(flags: &[bool], from: usize, to: usize) -> bool
     requires { to ≤ length flags.now }
     ensures { result ≡ false → (v : ℕ) → from ≤ v → v < to → marked flags.now v ≡ false }
@@ -42,8 +43,8 @@ fn any_free(states: &[State], from: usize, to: usize) -> bool
     found
 }
 
-/// The number of modules in the leading blocks that have no free module.
-fn skip_blocks(states: &[State]) -> usize
+/// The number of modules before the first block that has a free module. Fewer than `BLOCK` modules at the end don't count as a block.
+fn skip_blocks_without_free(states: &[State]) -> usize
     ensures within { result ≤ length states.now }
     ensures passed { (k : ℕ) → k < result → state_at states.now k ≡ State.Free → ⊥ }
 {
@@ -60,7 +61,7 @@ pub(crate) fn first_free(states: &[State]) -> usize
     ensures passed { (k : ℕ) → k < result → state_at states.now k ≡ State.Free → ⊥ }
     ensures free { result < length states.now → state_at states.now result ≡ State.Free }
 {
-    let mut place = skip_blocks(states);
+    let mut place = skip_blocks_without_free(states);
     'places: while place < states.len() && !is_free(states[place]) {
         place += 1;
     }

@@ -114,7 +114,7 @@ fn walk_heading(out: &mut Items, name: Identdef, parameters: &Option<Parameters>
     out.emit(Item::Word);
 }
 
-/// Emits BEGIN and the statements of a procedure.
+/// Emits BEGIN and the statements of a procedure, if it has any.
 #[tactic(auto, using(crate::proofs::DeclarationWalks::section_walks))]
 fn walk_procedure_body(out: &mut Items, body: &Option<Box<StatementSequence>>)
     ensures { out.new ≡ with_items out.old (items_of (if_present (λ b. word kinds.Begin ++ block_events b.value) body.now)) }
@@ -156,7 +156,7 @@ fn walk_import(out: &mut Items, import: ImportItem)
     }
 }
 
-/// Emits IMPORT up to its semicolon.
+/// Emits the import list, from IMPORT to its semicolon, if there is one.
 #[tactic(auto, using(crate::proofs::DeclarationWalks::module_walks))]
 fn walk_imports(out: &mut Items, imports: &Option<OneOrMore<ImportItem>>)
     ensures { out.new ≡ with_items out.old (items_of (if_present (λ l. word kinds.Import ++ (separated kinds.Comma import_events l ++ word kinds.Semicolon)) imports.now)) }

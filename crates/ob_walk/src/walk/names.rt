@@ -28,10 +28,10 @@ pub(crate) fn walk_identdef(out: &mut Items, name: Identdef)
     ensures { out.new ≡ with_items out.old (items_of (identdef_events name)) }
 {
     let role = Role::Declares {
-        starred: name.starred,
+        is_exported: name.is_exported,
     };
     out.emit(Item::Identifier(role, name.name));
-    if name.starred {
+    if name.is_exported {
         out.emit(Item::Word);
     }
 }

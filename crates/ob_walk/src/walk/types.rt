@@ -32,10 +32,10 @@ fn walk_section_names(out: &mut Items, section: &ParameterSection)
     if section.variable {
         out.emit(Item::Word);
     }
-    out.emit(Item::Identifier(Role::Declares { starred: false }, section.names.first));
+    out.emit(Item::Identifier(Role::Declares { is_exported: false }, section.names.first));
     for name in &section.names.rest {
         out.emit(Item::Word);
-        out.emit(Item::Identifier(Role::Declares { starred: false }, *name));
+        out.emit(Item::Identifier(Role::Declares { is_exported: false }, *name));
     }
 }
 

@@ -24,11 +24,11 @@ pub fn append_identdef(builder: &mut TableBuilder, context: Context, name: Ident
     let number = builder.number;
     builder.add_declared(Declared {
         number,
-        exported: name.starred,
+        exported: name.is_exported,
         declared_by: context.decl_group,
     });
     builder.advance();
-    if name.starred {
+    if name.is_exported {
         builder.advance();
     }
 }

@@ -21,7 +21,7 @@ pub(crate) fn member_at(member: Option<u32>, head: u32) -> Option<u32>
     }
 }
 
-/// Appends a use of an identifier that is not the target of a pointer. `member` says whether a dot and a name follow.
+/// Appends a use of an identifier that is not the target of a pointer. `member` is `Some` if a dot and a name follow.
 #[tactic(auto, using(module_table::proofs::Steps::steps))]
 pub fn append_use(builder: &mut TableBuilder, context: Context, member: Option<u32>)
     requires advanced { builder.old.number + 1 < 2 ^ 32 }

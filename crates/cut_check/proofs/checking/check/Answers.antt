@@ -8,4 +8,4 @@ returns-in-Blocked-clause-cheapest c is_yes =
     let net = c.args.net.now in
     let chain = c.deref.result.now in
     let is_chain = subst (IsChainVerdict net c.args.from c.args.to chain) is_yes c.check_chain.ensures in
-    rw c.in-Blocked.is (λ x cut. c.no_cut_of_pins.ensures net c.args.from c.args.to x (pin_chain net c.args.from c.args.to chain is_chain) cut)
+    rw c.in-Blocked.is (λ x cut. c.pinned_path_excludes_cut.ensures net c.args.from c.args.to x (pin_chain net c.args.from c.args.to chain is_chain) cut)

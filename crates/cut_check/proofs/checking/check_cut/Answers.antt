@@ -120,7 +120,7 @@ returns-clause-cheapest c =
     if_ok (IsCutVerdict net c.args.from c.args.to printed total flow) _ c.check_flow.result
     (λ v h yes.
     let right = subst (IsCutVerdict net c.args.from c.args.to printed total flow) yes h in
-    c.certificate_with_pins.ensures net c.args.from c.args.to (removed_by printed) (flow_by flow) c.invariants.ensures.network.between c.requires.from
+    c.weak_duality_with_pins.ensures net c.args.from c.args.to (removed_by printed) (flow_by flow) c.invariants.ensures.network.between c.requires.from
     (record { removable = right.weights.removable; cut = right.cut })
     (subst (IsFlowWithPins net c.args.from c.args.to (flow_by flow)) right.weights.sum right.is_flow))
     (returns-clause-exact c)

@@ -6,23 +6,23 @@ use Rattle.cut_check.specs.Reaching.{any}
 use Rattle.cut_check.proofs.Adding.{adding_fits, adding_most, adding_more, from_in, to_in}
 use Rattle.cut_check.proofs.flow.sums_of.Goals as goal
 
-pub add_at-requires-clause-index : goal.add_at-requires-clause-index
-add_at-requires-clause-index c =
+pub add_to_sum-requires-clause-index : goal.add_to_sum-requires-clause-index
+add_to_sum-requires-clause-index c =
     let h = to_in c.args.imports.now c.args.modules c.loop-k.k c.requires.between c.loop-k-test.true in
     omega arith
 
-pub add_at-requires-clause-fits : goal.add_at-requires-clause-fits
-add_at-requires-clause-fits c =
+pub add_to_sum-requires-clause-fits : goal.add_to_sum-requires-clause-fits
+add_to_sum-requires-clause-fits c =
     let few = c.requires.few in
     adding_fits c.loop-k.into.items c.loop-k.k c.unwrap_or-amount.result (omega (arith, c.loop-k-test.true)) c.unwrap_or-amount.type_inv c.loop-k.invariant.into_most _
 
-pub add_at-requires-in-loop-k-clause-index : goal.add_at-requires-in-loop-k-clause-index
-add_at-requires-in-loop-k-clause-index c =
+pub add_to_sum-requires-in-loop-k-clause-index : goal.add_to_sum-requires-in-loop-k-clause-index
+add_to_sum-requires-in-loop-k-clause-index c =
     let h = from_in c.args.imports.now c.args.modules c.loop-k.k c.requires.between c.loop-k-test.true in
     omega arith
 
-pub add_at-requires-in-loop-k-clause-fits : goal.add_at-requires-in-loop-k-clause-fits
-add_at-requires-in-loop-k-clause-fits c =
+pub add_to_sum-requires-in-loop-k-clause-fits : goal.add_to_sum-requires-in-loop-k-clause-fits
+add_to_sum-requires-in-loop-k-clause-fits c =
     let few = c.requires.few in
     adding_fits c.loop-k.out.items c.loop-k.k c.unwrap_or-amount.result (omega (arith, c.loop-k-test.true)) c.unwrap_or-amount.type_inv c.loop-k.invariant.out_most _
 
@@ -42,16 +42,16 @@ loop-k-preserved c =
     let to_in_sums : (get_or imports k any).to < length c.loop-k.into.items = omega arith in
     let from_in_sums : (get_or imports k any).from < length c.loop-k.out.items = omega arith in
     record {
-      into_size = c.add_at.ensures.size ∙ into_size;
-      out_size = c.add_at-in-loop-k.ensures.size ∙ out_size;
-      into_most = rw c.add_at.ensures.items (adding_most c.loop-k.into.items k x c.unwrap_or-amount.type_inv c.loop-k.invariant.into_most _ to_in_sums);
-      out_most = rw c.add_at-in-loop-k.ensures.items (adding_most c.loop-k.out.items k x c.unwrap_or-amount.type_inv c.loop-k.invariant.out_most _ from_in_sums);
+      into_size = c.add_to_sum.ensures.size ∙ into_size;
+      out_size = c.add_to_sum-in-loop-k.ensures.size ∙ out_size;
+      into_most = rw c.add_to_sum.ensures.items (adding_most c.loop-k.into.items k x c.unwrap_or-amount.type_inv c.loop-k.invariant.into_most _ to_in_sums);
+      out_most = rw c.add_to_sum-in-loop-k.ensures.items (adding_most c.loop-k.out.items k x c.unwrap_or-amount.type_inv c.loop-k.invariant.out_most _ from_in_sums);
       sums = λ flow are.
           let so_far = c.loop-k.invariant.sums flow are in
           let x_is = amount ∙ are k any in_k in
           record {
-            into_is = rw c.add_at.ensures.items (adding_more imports k any in_k c.loop-k.into.items x (λ (i : Priced). i.to) flow c.args.modules so_far.into_is x_is to_in_sums);
-            out_is = rw c.add_at-in-loop-k.ensures.items (adding_more imports k any in_k c.loop-k.out.items x (λ (i : Priced). i.from) flow c.args.modules so_far.out_is x_is from_in_sums);
+            into_is = rw c.add_to_sum.ensures.items (adding_more imports k any in_k c.loop-k.into.items x (λ (i : Priced). i.to) flow c.args.modules so_far.into_is x_is to_in_sums);
+            out_is = rw c.add_to_sum-in-loop-k.ensures.items (adding_more imports k any in_k c.loop-k.out.items x (λ (i : Priced). i.from) flow c.args.modules so_far.out_is x_is from_in_sums);
           };
     }
 

@@ -8,9 +8,9 @@ use Rattle.cut_check.proofs.lines.match_lines.Goals.{then-is_some, else-is_some}
 
 pub loop-i-preserved : goal.loop-i-preserved
 loop-i-preserved c =
-    let h = c.amount_at-amount.ensures in
+    let h = c.amount_of_line_at-amount.ensures in
     let some = c.is_some.ensures in
-    let e : c.if-is_some.count ≡ c.loop-i.count + cond (is_some c.amount_at-amount.result) 1 0 =
+    let e : c.if-is_some.count ≡ c.loop-i.count + cond (is_some c.amount_of_line_at-amount.result) 1 0 =
     elim c.if-is_some.branch [
       | then-is_some w ↦ rw (← some, w.if-is_some.true) w.count-is
       | else-is_some w ↦ rw (← some, w.if-is_some.false) (omega arith)

@@ -15,12 +15,12 @@ loop-rest-preserved c =
     let long = length_push prefix piece in
     (prefix ++ piece ∷ [], lines ++ more, omega arith, omega arith, leaves_on c.args.bytes.now c.loop-rest.rest.now c.in-Ok.after.now prefix piece leaves some next, spell_more net_line prefix piece lines more spelled says, listed)
 
-pub returns-in-Err-Twice-clause-twice : goal.returns-in-Err-Twice-clause-twice
-returns-in-Err-Twice-clause-twice c line is =
+pub returns-in-Err-RepeatedImport-clause-twice : goal.returns-in-Err-RepeatedImport-clause-twice
+returns-in-Err-RepeatedImport-clause-twice c line is =
     let (prefix, lines, count, below, leaves, spelled, list) = c.loop-rest.invariant in
     let some : 0 < length c.loop-rest.rest.now = some_are c.loop-rest.rest.now c.is_empty.result c.is_empty.ensures c.loop-rest-test.true in
     let number : c.loop-rest.line + 1 ≡ line = cc in
-    repeat_at c.args.bytes.now c.loop-rest.rest.now prefix lines c.consume_line.new.self line (omega (arith, number, count)) leaves some spelled (c.in-Err-Twice.ensures.twice c.in-Err-Twice.field-0-is lines list)
+    repeat_at c.args.bytes.now c.loop-rest.rest.now prefix lines c.consume_line.new.self line (omega (arith, number, count)) leaves some spelled (c.in-Err-RepeatedImport.ensures.twice c.in-Err-RepeatedImport.field-0-is lines list)
 
 pub returns-clause-whole : goal.returns-clause-whole
 returns-clause-whole c is =

@@ -16,8 +16,8 @@ loop-piece-init c =
     let none = none_cloned c.in_ok-changes.changes.items many _ c.in_ok-changes.ensures.items_if_clones_equal (λ x h. h) in
     (refl, [], refl, nothing_told c.args.net.now c.in_ok-changes.changes.items many (ap length c.imports.ensures) none)
 
-pub note-requires : goal.note-requires
-note-requires c = let (count, lines, spelled, changes) = c.loop-piece.invariant in ap length changes.told_is ∙ length-map c.args.net.now.imports (change_of c.args.net.now lines)
+pub record_change-requires : goal.record_change-requires
+record_change-requires c = let (count, lines, spelled, changes) = c.loop-piece.invariant in ap length changes.changes_are ∙ length-map c.args.net.now.imports (change_of c.args.net.now lines)
 
 pub returns-in-Err-clause-fault : goal.returns-in-Err-clause-fault
 returns-in-Err-clause-fault c =
@@ -31,7 +31,7 @@ returns-in-Err-clause-fault c =
     let prefix : SpellPrices (take (length c.loop-piece.yielded) (pieces_of c.args.bytes.now)) lines = rw (← so_far) spelled in
     let present = slice_get_read (pieces_of c.args.bytes.now) _ (length c.loop-piece.yielded) c.in-Some.piece.now refl turn.0 turn.1 in
     let next = ap (λ (n : ℕ). n + 1) count in
-    rw c.at.ensures (fault_is c.args.net.now c.args.bytes.now (length c.loop-piece.yielded) _ lines c.in-Some.piece.now c.in-Err.fault c.note.new.changes.items next prefix changes.good present (c.in-Err.ensures lines changes))
+    rw c.at.ensures (fault_is c.args.net.now c.args.bytes.now (length c.loop-piece.yielded) _ lines c.in-Some.piece.now c.in-Err.fault c.record_change.new.changes.items next prefix changes.good present (c.in-Err.ensures lines changes))
 
 pub loop-piece-preserved : goal.loop-piece-preserved
 loop-piece-preserved c =

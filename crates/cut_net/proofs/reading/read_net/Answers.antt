@@ -11,23 +11,23 @@ names_on_cycle-requires-clause-between c =
     let long = length-map c.in_ok-names.names.items string_bytes in
     rw (c.as_slice-2.ensures.value, c.as_slice-3.ensures.value) (between_as _ _ _ long c.in_ok-names.ensures.text.is_net.between)
 
-pub of-requires : goal.of-requires
-of-requires c =
+pub from_parts-requires : goal.from_parts-requires
+from_parts-requires c =
     let long = length-map c.in_ok-names.names.items string_bytes in
-    let fits = rw c.as_slice.ensures.value at (c.fits.ensures.0 c.if-not-fits.false) in
+    let fits = rw c.as_slice.ensures.value at (c.total_weight_fits.ensures.0 c.if-not-total_weight_fits.false) in
     let acyclic = rw c.as_slice-3.ensures.value at (rw c.in-None.is at c.in_ok-names_on_cycle.ensures.none) in
     let few : length (texts c.in_ok-names.names.items) ≤ 8192 = rw long c.in_ok-names.ensures.few_names in
     keeps_all c.args.bytes.now _ c.in_ok-names.ensures.text few c.in_ok-names.ensures.few_imports fits acyclic
 
 pub returns-in-None : goal.returns-in-None
 returns-in-None c =
-    let fits = rw c.as_slice.ensures.value at (c.fits.ensures.0 c.if-not-fits.false) in
+    let fits = rw c.as_slice.ensures.value at (c.total_weight_fits.ensures.0 c.if-not-total_weight_fits.false) in
     let acyclic = rw c.as_slice-3.ensures.value at (rw c.in-None.is at c.in_ok-names_on_cycle.ensures.none) in
-    rw c.of.ensures (c.in_ok-names.ensures.text, fits, acyclic)
+    rw c.from_parts.ensures (c.in_ok-names.ensures.text, fits, acyclic)
 
 pub returns-in-Some : goal.returns-in-Some
 returns-in-Some c =
-    let fits = rw c.as_slice.ensures.value at (c.fits.ensures.0 c.if-not-fits.false) in
+    let fits = rw c.as_slice.ensures.value at (c.total_weight_fits.ensures.0 c.if-not-total_weight_fits.false) in
     let (cycle, named, are) = rw (c.as_slice-2.ensures.value, c.as_slice-3.ensures.value) at (rw c.in-Some.is at c.in_ok-names_on_cycle.ensures.named) in
     record {
       net = net_of c.in_ok-names.names.items c.in_ok-names.imports.items;

@@ -24,6 +24,6 @@ returns-clause-between c =
     let from_a : AreReachable net.imports c.args.from forth = subst (λ (v : List Priced). AreReachable v c.args.from forth) c.imports.ensures c.in_ok-forth.ensures.mark_reachable in
     let to_b : AreReachable (map reversed net.imports) c.args.to back =
     subst (λ (v : List Priced). AreReachable v c.args.to back) (c.deref.ensures.value ∙ c.in_ok-reversed.ensures ∙ ap (λ (v : List Priced). map reversed v) c.imports-2.ensures) c.in_ok-back.ensures.mark_reachable in
-    let both : (m : ℕ) → is_flagged marks m ≡ (is_flagged forth m && is_flagged back m) =
-    λ m. c.in_ok-marks.ensures.both m ∙ ap (λ (v : List Bool). is_flagged v m && is_flagged c.deref-3.result.now m) c.deref-2.ensures.value ∙ ap (λ (v : List Bool). is_flagged forth m && is_flagged v m) c.deref-3.ensures.value in
-    both_between net c.args.from c.args.to forth back marks from_a to_b both
+    let flags_in_both : (m : ℕ) → is_flagged marks m ≡ (is_flagged forth m && is_flagged back m) =
+    λ m. c.in_ok-marks.ensures.flags_in_both m ∙ ap (λ (v : List Bool). is_flagged v m && is_flagged c.deref-3.result.now m) c.deref-2.ensures.value ∙ ap (λ (v : List Bool). is_flagged forth m && is_flagged v m) c.deref-3.ensures.value in
+    both_between net c.args.from c.args.to forth back marks from_a to_b flags_in_both

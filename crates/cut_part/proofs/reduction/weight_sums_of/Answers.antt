@@ -7,26 +7,26 @@ use Rattle.cut_part.proofs.Adding.{adding_fits, adding_more, adding_most, from_i
 use Rattle.std.proofs.lemmas.Grind.{common_steps}
 use Rattle.cut_part.proofs.reduction.weight_sums_of.Goals as goal
 
-pub add_at-requires-clause-place : goal.add_at-requires-clause-place
-add_at-requires-clause-place c =
+pub add_to_sum-requires-clause-place : goal.add_to_sum-requires-clause-place
+add_to_sum-requires-clause-place c =
     let h = from_in c.args.imports.now c.args.modules c.loop-import.import-index c.requires.between c.loop-import-test.true in
     let size = c.loop-import.invariant.leaving_size in
     let ok = c.loop-import.leaving.ok.0 in
     omega arith
 
-pub add_at-requires-clause-fits : goal.add_at-requires-clause-fits
-add_at-requires-clause-fits c =
+pub add_to_sum-requires-clause-fits : goal.add_to_sum-requires-clause-fits
+add_to_sum-requires-clause-fits c =
     adding_fits c.args.imports.now c.loop-import.import-index missing_item c.loop-import-test.true c.loop-import.leaving.items _ c.loop-import.invariant.leaving_most (omega arith) _ c.requires.fits _
 
-pub add_at-requires-in-loop-import-clause-place : goal.add_at-requires-in-loop-import-clause-place
-add_at-requires-in-loop-import-clause-place c =
+pub add_to_sum-requires-in-loop-import-clause-place : goal.add_to_sum-requires-in-loop-import-clause-place
+add_to_sum-requires-in-loop-import-clause-place c =
     let h = to_in c.args.imports.now c.args.modules c.loop-import.import-index c.requires.between c.loop-import-test.true in
     let size = c.loop-import.invariant.entering_size in
     let ok = c.loop-import.entering.ok.0 in
     omega arith
 
-pub add_at-requires-in-loop-import-clause-fits : goal.add_at-requires-in-loop-import-clause-fits
-add_at-requires-in-loop-import-clause-fits c =
+pub add_to_sum-requires-in-loop-import-clause-fits : goal.add_to_sum-requires-in-loop-import-clause-fits
+add_to_sum-requires-in-loop-import-clause-fits c =
     adding_fits c.args.imports.now c.loop-import.import-index missing_item c.loop-import-test.true c.loop-import.entering.items _ c.loop-import.invariant.entering_most (omega arith) _ c.requires.fits _
 
 pub loop-import-preserved : goal.loop-import-preserved
@@ -41,8 +41,8 @@ loop-import-preserved c =
     let to_h = to_in imports c.args.modules k c.requires.between in_k in
     let from_in_sums : (get_or imports k missing_item).from < length c.loop-import.leaving.items = omega arith in
     let to_in_sums : (get_or imports k missing_item).to < length c.loop-import.entering.items = omega arith in
-    let left = c.add_at.ensures.items in
-    let entered = c.add_at-in-loop-import.ensures.items in
+    let left = c.add_to_sum.ensures.items in
+    let entered = c.add_to_sum-in-loop-import.ensures.items in
     record {
       leaving_size = ap length left ∙ length-set c.loop-import.leaving.items _ _ ∙ leaving_size;
       entering_size = ap length entered ∙ length-set c.loop-import.entering.items _ _ ∙ entering_size;

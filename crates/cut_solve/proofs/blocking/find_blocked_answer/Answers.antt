@@ -12,4 +12,4 @@ chain_of net a b (m ∷ more) (e, chain) = (more, subst (λ (n : ℕ). IsChain n
 pub returns-in-Some-clause-cheapest : goal.returns-in-Some-clause-cheapest
 returns-in-Some-clause-cheapest c = λ x cut.
     let least = rw c.in-Some.is at c.in_ok-chain.ensures.found in
-    c.no_cut_of_pins.ensures c.args.net.now c.args.from c.args.to x (chain_of c.args.net.now c.args.from c.args.to c.in-Some.chain.items least.is_chain) cut
+    c.pinned_path_excludes_cut.ensures c.args.net.now c.args.from c.args.to x (chain_of c.args.net.now c.args.from c.args.to c.in-Some.chain.items least.is_chain) cut

@@ -4,8 +4,8 @@ use Rattle.cut_solve.specs.Starts.{HasReducedWeights}
 use Rattle.cut_solve.proofs.Started.{below_between, lowered_below, start_below}
 use Rattle.cut_solve.proofs.solving.solve_reduced.Goals as goal
 
-pub reduced-requires-clause-between : goal.reduced-requires-clause-between
-reduced-requires-clause-between g c =
+pub reduce_to_initial_flow-requires-clause-between : goal.reduce_to_initial_flow-requires-clause-between
+reduce_to_initial_flow-requires-clause-between g c =
     let net = c.args.net.now in
     let s = c.in_ok-start.start in
     subst (AreBetween s.imports.items) (sym c.nodes.ensures)

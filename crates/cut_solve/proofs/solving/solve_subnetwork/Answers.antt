@@ -10,8 +10,8 @@ solve_reduced-requires-after_bounds g c κs within =
     let part = c.in_ok-part.part in
     ends_there net c.args.ends.0 c.args.ends.1 part.marks.items part.numbers.items part.new_numbers.items part.net c.in_ok-part.ensures c.requires c.index.result.now c.index-2.result.now c.index.ensures c.index-2.ensures
 
-pub cut_in_net-requires : goal.cut_in_net-requires
-cut_in_net-requires g c =
+pub renumbered_cut-requires : goal.renumbered_cut-requires
+renumbered_cut-requires g c =
     let part = c.in_ok-part.part in
     let cut = c.in_ok-cut.cut in
     let lines = lines_between c.args.net.now c.args.ends.0 c.args.ends.1 part.marks.items part.numbers.items part.new_numbers.items part.net c.in_ok-part.ensures c.requires

@@ -2,7 +2,7 @@
 use Rattle.std.proofs.Common.{◌≡◌, ℕ, ◌+◌, ◌<◌, ◌≤◌, ◌∙◌, Some, length, sym, subst, arith}
 use Rattle.std.specs.Prelude.{vec_len}
 use Rattle.std.proofs.lemmas.List.{length-set}
-use Rattle.digraph.specs.Cycle.{IsNext}
+use Rattle.digraph.specs.Cycle.{IsSmallestSuccessor}
 use Rattle.digraph.specs.Marks.{edge_at, marked, index_at}
 use Rattle.digraph.specs.Edges.{Leads}
 use Rattle.digraph.proofs.Settling.{marked_below, read_place}
@@ -41,8 +41,8 @@ index-requires-in-steps c =
     let in_marks : at < length marks = marked_below marks at w.member in
     let in_places : at < length places = (let a = c.args.core_nodes.now.marks.ok in let b = c.args.core_nodes.now.places.ok in let e = c.requires.sizes in omega arith) in
     let place : c.index.result.now ≡ index_at places at = read_place places at c.index.result.now c.index.ensures in_places in
-    let next : IsNext (Leads edges) (marked marks) at (edge_at edges c.index.result.now).to =
-    subst (λ (p : ℕ). IsNext (Leads edges) (marked marks) at (edge_at edges p).to) (sym place) (c.requires.next at w.member) in
+    let next : IsSmallestSuccessor (Leads edges) (marked marks) at (edge_at edges c.index.result.now).to =
+    subst (λ (p : ℕ). IsSmallestSuccessor (Leads edges) (marked marks) at (edge_at edges p).to) (sym place) (c.requires.next at w.member) in
     let below : (edge_at edges c.index.result.now).to < length marks = marked_below marks (edge_at edges c.index.result.now).to next.member in
     let size = c.steps.invariant.size in
     let ok = c.steps.place_of_node.ok in
@@ -60,7 +60,7 @@ returns-in-Some-clause-back c =
     let in_marks : at < length marks = marked_below marks at w.member in
     let in_places : at < length places = (let a = c.args.core_nodes.now.marks.ok in let b = c.args.core_nodes.now.places.ok in let e = c.requires.sizes in omega arith) in
     let place : c.index.result.now ≡ index_at places at = read_place places at c.index.result.now c.index.ensures in_places in
-    let next : IsNext (Leads edges) (marked marks) at y = subst (λ (p : ℕ). IsNext (Leads edges) (marked marks) at (edge_at edges p).to) (sym place) (c.requires.next at w.member) in
+    let next : IsSmallestSuccessor (Leads edges) (marked marks) at y = subst (λ (p : ℕ). IsSmallestSuccessor (Leads edges) (marked marks) at (edge_at edges p).to) (sym place) (c.requires.next at w.member) in
     let below : y < length marks = marked_below marks y next.member in
     let size : length table ≡ length marks = c.steps.invariant.size in
     let counted : c.len-in-steps.result ≡ length c.steps.walk.items = (let ok = c.steps.walk.ok in let e = c.len-in-steps.ensures in omega arith) in
@@ -83,7 +83,7 @@ steps-preserved c =
     let in_marks : at < length marks = marked_below marks at w.member in
     let in_places : at < length places = (let a = c.args.core_nodes.now.marks.ok in let b = c.args.core_nodes.now.places.ok in let e = c.requires.sizes in omega arith) in
     let place : c.index.result.now ≡ index_at places at = read_place places at c.index.result.now c.index.ensures in_places in
-    let next : IsNext (Leads edges) (marked marks) at y = subst (λ (p : ℕ). IsNext (Leads edges) (marked marks) at (edge_at edges p).to) (sym place) (c.requires.next at w.member) in
+    let next : IsSmallestSuccessor (Leads edges) (marked marks) at y = subst (λ (p : ℕ). IsSmallestSuccessor (Leads edges) (marked marks) at (edge_at edges p).to) (sym place) (c.requires.next at w.member) in
     let below : y < length marks = marked_below marks y next.member in
     let size : length table ≡ length marks = c.steps.invariant.size in
     let counted : c.len-in-steps.result ≡ length c.steps.walk.items = (let ok = c.steps.walk.ok in let e = c.len-in-steps.ensures in omega arith) in

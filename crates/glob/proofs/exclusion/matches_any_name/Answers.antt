@@ -3,7 +3,7 @@ use Rattle.std.specs.Prelude.{Contains}
 use Rattle.std.proofs.lemmas.List.{take_all}
 use Rattle.glob.specs.Globs.{Fits}
 use Rattle.glob.proofs.Excluding.{in_names, none_more}
-use Rattle.glob.proofs.Floating.{no, yes}
+use Rattle.glob.proofs.PiecesAfterStar.{no, yes}
 use Rattle.glob.proofs.exclusion.matches_any_name.Goals as goal
 
 pub returns-then-matches : goal.returns-then-matches

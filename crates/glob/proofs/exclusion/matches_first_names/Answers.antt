@@ -4,7 +4,7 @@ use Rattle.std.proofs.lemmas.List.{length-map}
 use Rattle.std.specs.Prelude.{slice_index_or}
 use Rattle.glob.specs.Globs.{Fits}
 use Rattle.glob.proofs.Excluding.{one_misses, too_many}
-use Rattle.glob.proofs.Floating.{no}
+use Rattle.glob.proofs.PiecesAfterStar.{no}
 use Rattle.glob.proofs.exclusion.matches_first_names.Goals as goal
 
 pub returns-then-globs-names : goal.returns-then-globs-names

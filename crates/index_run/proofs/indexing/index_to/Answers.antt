@@ -20,12 +20,12 @@ returns-in_err-write_encoded_index-clause-run g c =
     let root = string_bytes c.args.options.now.root in
     let parts = c.in_ok-parts.parts in
     rw (p.1, p.2) (error_prefix c.args.sources.now (IsIndexText c.args.sources.now package_name root) (parts_text parts) (g.S.Sink.taken c.args.sink.now) (g.S.Sink.taken c.write_encoded_index.new.sink) _
-    (index_text c.written_form_has_parts.ensures c.args.sources.now package_name root parts c.in_ok-parts.ensures.exact) (rw c.as_slice.ensures.value at c.in_err-write_encoded_index.ensures.writes))
+    (index_text c.written_form_is_concatenation.ensures c.args.sources.now package_name root parts c.in_ok-parts.ensures.exact) (rw c.as_slice.ensures.value at c.in_err-write_encoded_index.ensures.writes))
 
 pub returns-clause-run : goal.returns-clause-run
 returns-clause-run g c =
     let parts = c.in_ok-parts.parts in (
       parts_text parts,
-      index_text c.written_form_has_parts.ensures c.args.sources.now (string_bytes c.args.options.now.package) (string_bytes c.args.options.now.root) parts c.in_ok-parts.ensures.exact,
+      index_text c.written_form_is_concatenation.ensures c.args.sources.now (string_bytes c.args.options.now.package) (string_bytes c.args.options.now.root) parts c.in_ok-parts.ensures.exact,
       rw c.as_slice.ensures.value at c.in_ok-write_encoded_index.ensures.writes,
     )

@@ -8,4 +8,4 @@ returns-in_err-check_index-clause-run g c =
     rw (p.1, p.2) (refused_index _ _ _ _ _ _ _ c.in_err-check_index.ensures.fault)
 
 pub returns-clause-run : goal.returns-clause-run
-returns-clause-run g c = c.write_occurrences.ensures.run c.in_ok-check_index.ensures.means.0 c.in_ok-check_index.ensures.means.1
+returns-clause-run g c = c.write_locations_at_position.ensures.run c.in_ok-check_index.ensures.means.0 c.in_ok-check_index.ensures.means.1

@@ -4,12 +4,12 @@ use Rattle.scip_index.specs.Plain.{symbol_model, SymbolModel}
 use Rattle.ob_board.proofs.EntryHanding.{same_documents, same_externals}
 use Rattle.ob_board.proofs.indexing.assemble_index.Goals as goal
 
-pub all_externals-requires : goal.all_externals-requires
-all_externals-requires c = subst (λ (rows : List SymbolModel). AreExternalRows rows) (sym c.in_ok-documents.ensures.rows) c.requires
+pub merge_externals-requires : goal.merge_externals-requires
+merge_externals-requires c = subst (λ (rows : List SymbolModel). AreExternalRows rows) (sym c.in_ok-documents.ensures.rows) c.requires
 
 pub returns : goal.returns
 returns c = record {
   metadata = ap Some c.in_ok-metadata.ensures;
   documents = c.in_ok-documents.ensures.documents ∙ same_documents c.args.entries.items;
-  externals = subst (λ (rows : List SymbolModel). AreExternals rows (map symbol_model c.all_externals.result.items)) (c.in_ok-documents.ensures.rows ∙ same_externals c.args.entries.items) c.all_externals.ensures;
+  externals = subst (λ (rows : List SymbolModel). AreExternals rows (map symbol_model c.merge_externals.result.items)) (c.in_ok-documents.ensures.rows ∙ same_externals c.args.entries.items) c.merge_externals.ensures;
 }

@@ -5,7 +5,7 @@ use Rattle.std.proofs.lemmas.List.Sorted.{length_permutation}
 use Rattle.std.proofs.lemmas.Option.{slice_get_read, IfSome_then}
 use Rattle.std.proofs.lemmas.Result.{IfOk-weaker}
 use Rattle.ob_scan.specs.Spelling.{AreInText}
-use Rattle.ob_types.specs.World.{World}
+use Rattle.ob_view.specs.World.{World}
 use Rattle.source_tree.specs.declared.parts.ModuleParts.{ModuleParts}
 use Rattle.ob_board.specs.PrecomputedChains.{AreAllByName}
 use Rattle.ob_board.specs.Entries.{interfaces_of}

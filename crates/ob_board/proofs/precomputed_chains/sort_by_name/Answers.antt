@@ -6,7 +6,7 @@ use Rattle.std.proofs.lemmas.Cmp.{nat_list_cmp_total}
 use Rattle.std.proofs.lemmas.Fn.{always_returns_same}
 use Rattle.std.proofs.lemmas.List.Sorted.{ranks_by}
 use Rattle.ob_interface.specs.Interfaces.{ModuleInterface}
-use Rattle.ob_types.proofs.Ascending.{name_of, Shared}
+use Rattle.ob_view.proofs.Ascending.{name_of, Shared}
 use Rattle.ob_board.proofs.Within.{mapped_sorted}
 use Rattle.ob_board.proofs.precomputed_chains.sort_by_name.Goals as goal
 

@@ -8,8 +8,8 @@ use Rattle.ob_targets.specs.Refers.{unresolved}
 use Rattle.ob_board.proofs.Identifiers.{texts_of}
 use Rattle.ob_board.proofs.unresolved_entries.build_unresolved_entry.Goals as goal
 
-pub rows_of-requires-clause-texts : goal.rows_of-requires-clause-texts
-rows_of-requires-clause-texts g c =
+pub locate_all_unresolved-requires-clause-texts : goal.locate_all_unresolved-requires-clause-texts
+locate_all_unresolved-requires-clause-texts g c =
     let (refs, is, output_is) = c.in_ok-numbers.ensures in
     let whole = c.as_slice-2.ensures.value ∙ is in
     let bytes = c.args.source.now.bytes.items in

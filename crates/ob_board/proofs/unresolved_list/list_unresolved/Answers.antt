@@ -7,8 +7,8 @@ use Rattle.ob_board.specs.Unresolved.{unresolved_model, IsUnresolvedOf, Unresolv
 use Rattle.ob_board.proofs.Handing.{found_all, in_own}
 use Rattle.ob_board.proofs.unresolved_list.list_unresolved.Goals as goal
 
-pub of_files-precomputed_chains-requires : goal.of_files-precomputed_chains-requires
-of_files-precomputed_chains-requires g c = (c.args.tree.now.graph, rw c.as_slice.ensures.value c.requires.seen)
+pub from_files-precomputed_chains-requires : goal.from_files-precomputed_chains-requires
+from_files-precomputed_chains-requires g c = (c.args.tree.now.graph, rw c.as_slice.ensures.value c.requires.seen)
 
 pub returns : goal.returns
 returns g c =

@@ -7,11 +7,11 @@ use Rattle.ob_emit.proofs.documents.occurrences.Goals as goal
 use Rattle.ob_emit.proofs.documents.occurrences.Goals.{in-Some+in_ok-push, in_default}
 
 pub occurrence_of-requires-clause-external : goal.occurrence_of-requires-clause-external
-occurrence_of-requires-clause-external c = external_named c.args.types.now c.args.refs.now c.requires.of_names c.loop-reference.reference-index _ c.loop-reference-test.true
+occurrence_of-requires-clause-external c = external_named c.args.view.now c.args.refs.now c.requires.of_names c.loop-reference.reference-index _ c.loop-reference-test.true
 
 pub loop-reference-preserved : goal.loop-reference-preserved
 loop-reference-preserved c = λ p made.
-    let w = c.args.types.now in
+    let w = c.args.view.now in
     let i = c.loop-reference.reference-index in
     elim c.match-branch-4.branch [
       | in-Some+in_ok-push w' ↦
@@ -25,7 +25,7 @@ loop-reference-preserved c = λ p made.
     ]
 
 pub returns : goal.returns
-returns c = λ p made. rows_done occurrence_model (occurrence c.args.types.now p) c.args.refs.now c.loop-reference.reference-index c.loop-reference.found.items c.loop-reference-test.false (c.loop-reference.invariant p made)
+returns c = λ p made. rows_done occurrence_model (occurrence c.args.view.now p) c.args.refs.now c.loop-reference.reference-index c.loop-reference.found.items c.loop-reference-test.false (c.loop-reference.invariant p made)
 
 pub loop-reference-init : goal.loop-reference-init
 loop-reference-init c = λ p made. ap (map occurrence_model) c.in_ok-found.ensures.items

@@ -6,4 +6,4 @@ use Rattle.ob_emit.specs.StoredTexts.{AreSymbolTexts}
 use Rattle.ob_emit.proofs.documents.occurrences.Given as goal
 
 abbrev pub invariant-loop-reference : goal.invariant-loop-reference
-invariant-loop-reference l = (p : List ℕ) → AreSymbolTexts l.types p l.texts → map occurrence_model l.found.items ≡ filter_map (occurrence l.types p) (take l.reference-index l.refs)
+invariant-loop-reference l = (p : List ℕ) → AreSymbolTexts l.view p l.texts → map occurrence_model l.found.items ≡ filter_map (occurrence l.view p) (take l.reference-index l.refs)

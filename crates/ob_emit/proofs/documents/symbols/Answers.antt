@@ -1,31 +1,31 @@
 -- A token that denotes a name of an external module is an identifier. Each iteration adds the next reference.
 use Rattle.std.proofs.Common.{ap, map}
 use Rattle.scip_index.specs.Plain.{symbol_model}
-use Rattle.ob_emit.specs.Documents.{symbol_row}
+use Rattle.ob_emit.specs.Documents.{declared_symbol_info}
 use Rattle.ob_emit.proofs.Rows.{external_named, no_row, row_more, rows_done}
 use Rattle.ob_emit.proofs.documents.symbols.Goals as goal
 use Rattle.ob_emit.proofs.documents.symbols.Goals.{in-Some+in_ok-push, in_default}
 
-pub symbol_row-requires-clause-external : goal.symbol_row-requires-clause-external
-symbol_row-requires-clause-external c = external_named c.args.types.now c.args.refs.now c.requires.of_names c.loop-reference.reference-index _ c.loop-reference-test.true
+pub declared_symbol_info-requires-clause-external : goal.declared_symbol_info-requires-clause-external
+declared_symbol_info-requires-clause-external c = external_named c.args.view.now c.args.refs.now c.requires.of_names c.loop-reference.reference-index _ c.loop-reference-test.true
 
 pub loop-reference-preserved : goal.loop-reference-preserved
 loop-reference-preserved c = λ p made.
-    let w = c.args.types.now in
+    let w = c.args.view.now in
     let i = c.loop-reference.reference-index in
     elim c.match-branch-2.branch [
       | in-Some+in_ok-push w' ↦
           rw (w'.found-is, w'.in_ok-push.ensures.items)
-          (row_more symbol_model (symbol_row w p) c.args.refs.now i _ c.loop-reference.found.items c.loop-reference-test.true (c.loop-reference.invariant p made) w'.in-Some.row c.in_ok-row.field-0
+          (row_more symbol_model (declared_symbol_info w p) c.args.refs.now i _ c.loop-reference.found.items c.loop-reference-test.true (c.loop-reference.invariant p made) w'.in-Some.row c.in_ok-row.field-0
           (c.in_ok-row.ensures p made) w'.in-Some.is)
       | in_default w' ↦
           rw w'.found-is
-          (no_row symbol_model (symbol_row w p) c.args.refs.now i _ c.loop-reference.found.items c.loop-reference-test.true (c.loop-reference.invariant p made) c.in_ok-row.field-0
+          (no_row symbol_model (declared_symbol_info w p) c.args.refs.now i _ c.loop-reference.found.items c.loop-reference-test.true (c.loop-reference.invariant p made) c.in_ok-row.field-0
           (c.in_ok-row.ensures p made) w'.in_default.is)
     ]
 
 pub returns : goal.returns
-returns c = λ p made. rows_done symbol_model (symbol_row c.args.types.now p) c.args.refs.now c.loop-reference.reference-index c.loop-reference.found.items c.loop-reference-test.false (c.loop-reference.invariant p made)
+returns c = λ p made. rows_done symbol_model (declared_symbol_info c.args.view.now p) c.args.refs.now c.loop-reference.reference-index c.loop-reference.found.items c.loop-reference-test.false (c.loop-reference.invariant p made)
 
 pub loop-reference-init : goal.loop-reference-init
 loop-reference-init c = λ p made. ap (map symbol_model) c.new-found.ensures.items

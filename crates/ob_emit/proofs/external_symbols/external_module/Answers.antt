@@ -10,10 +10,10 @@ use Rattle.ob_emit.proofs.external_symbols.external_module.Goals as goal
 
 pub module_text-requires : goal.module_text-requires
 module_text-requires c =
-    let there : slice_get c.args.types.now.rows.imports c.args.item ≡ Some c.in-Some.import.now = sym c.import_at.ensures ∙ ap (option_map (λ (i : Bor Import). i.now)) c.in-Some.is in
-    subst IsName (sym c.text-name.ensures) (import_named c.args.types.now c.requires.named c.in-Some.import.now c.args.item there)
+    let there : slice_get c.args.view.now.rows.imports c.args.item ≡ Some c.in-Some.import.now = sym c.import_at.ensures ∙ ap (option_map (λ (i : Bor Import). i.now)) c.in-Some.is in
+    subst IsName (sym c.text-name.ensures) (import_named c.args.view.now c.requires.named c.in-Some.import.now c.args.item there)
 
 pub symbol_info-requires : goal.symbol_info-requires
 symbol_info-requires c =
-    let there : slice_get c.args.types.now.rows.imports c.args.item ≡ Some c.in-Some.import.now = sym c.import_at.ensures ∙ ap (option_map (λ (i : Bor Import). i.now)) c.in-Some.is in
-    subst IsName (sym c.text-name.ensures) (import_named c.args.types.now c.requires.named c.in-Some.import.now c.args.item there)
+    let there : slice_get c.args.view.now.rows.imports c.args.item ≡ Some c.in-Some.import.now = sym c.import_at.ensures ∙ ap (option_map (λ (i : Bor Import). i.now)) c.in-Some.is in
+    subst IsName (sym c.text-name.ensures) (import_named c.args.view.now c.requires.named c.in-Some.import.now c.args.item there)

@@ -4,4 +4,4 @@ use Rattle.ob_emit.proofs.foreign_texts.intern_external_name.Goals as goal
 
 pub returns : goal.returns
 returns c = λ prefix before.
-    names_more c.args.types.now c.args.texts.now c.insert.new.self c.args.key c.in_ok-text.text before c.in_ok-insert.ensures.updates.0 (c.in_ok-text.ensures prefix)
+    names_more c.args.view.now c.args.texts.now c.insert.new.self c.args.key c.in_ok-text.text before c.in_ok-insert.ensures.updates.0 (c.in_ok-text.ensures prefix)

@@ -6,7 +6,7 @@ use Rattle.ob_emit.proofs.locations.span_of.Goals as goal
 
 pub returns-clause-fits : goal.returns-clause-fits
 returns-clause-fits c =
-    let w = c.args.types.now in
+    let w = c.args.view.now in
     let s = c.token_offsets-start.result.0 in
     let e = c.token_offsets-end.result.1 in
     let starts : s ≤ length w.bytes = rw c.token_offsets-start.ensures.start (start_in_text w.bytes w.tokens c.args.first c.requires.in_text) in

@@ -16,14 +16,14 @@ use Rattle.ob_emit.proofs.module_texts.external_text.Goals as goal
 
 pub module_text-requires : goal.module_text-requires
 module_text-requires c =
-    let there : slice_get c.args.types.now.rows.imports c.args.item ≡ Some c.in-Some.import.now = sym c.import_at.ensures ∙ ap (option_map (λ (i : Bor Import). i.now)) c.in-Some.is in
-    subst IsName (sym c.text.ensures) (import_named c.args.types.now c.requires.named c.in-Some.import.now c.args.item there)
+    let there : slice_get c.args.view.now.rows.imports c.args.item ≡ Some c.in-Some.import.now = sym c.import_at.ensures ∙ ap (option_map (λ (i : Bor Import). i.now)) c.in-Some.is in
+    subst IsName (sym c.text.ensures) (import_named c.args.view.now c.requires.named c.in-Some.import.now c.args.item there)
 
 pub returns : goal.returns
 returns c = λ prefix.
-    let w = c.args.types.now in
+    let w = c.args.view.now in
     let there : slice_get w.rows.imports c.args.item ≡ Some c.in-Some.import.now = sym c.import_at.ensures ∙ ap (option_map (λ (i : Bor Import). i.now)) c.in-Some.is in
     external_text_is w c.args.item c.args.name.now c.in-Some.import.now c.args.outside.now (string_bytes c.in_ok-out.out) (string_bytes c.append_simple_descriptor.new.out) there
     prefix
     (c.in_ok-out.ensures ∙ ap (λ (x : List ℕ). c.args.outside.now ++ path_text (module_path x)) c.text.ensures)
-    (c.in_ok-append_simple_descriptor.ensures ∙ ap (λ (x : List ℕ). string_bytes c.in_ok-out.out ++ canonical_descriptor_text (descriptor Term x)) c.name_of.ensures)
+    (c.in_ok-append_simple_descriptor.ensures ∙ ap (λ (x : List ℕ). string_bytes c.in_ok-out.out ++ canonical_descriptor_text (descriptor Term x)) c.name_str.ensures)

@@ -6,9 +6,9 @@ use Rattle.ob_emit.proofs.own_declarations.decl_group_of.Goals as goal
 
 pub returns-in_err-declared : goal.returns-in_err-declared
 returns-in_err-declared c =
-    c.from_residual.ensures ∙ declarer_none c.args.types.now (rows_in c.table.result.now) c.args.number c.declared_at.result c.table.ensures c.declared_at.ensures c.in_err-declared.was
+    c.from_residual.ensures ∙ declarer_none c.args.view.now (rows_in c.table.result.now) c.args.number c.declared_at.result c.table.ensures c.declared_at.ensures c.in_err-declared.was
 
 pub returns : goal.returns
 returns c =
-    declarer_some c.args.types.now (rows_in c.table.result.now) (rows_in c.table-2.result.now) c.args.number c.in_ok-declared.declared c.declared_at.result c.decl_group_from.result
+    declarer_some c.args.view.now (rows_in c.table.result.now) (rows_in c.table-2.result.now) c.args.number c.in_ok-declared.declared c.declared_at.result c.decl_group_from.result
     c.table.ensures c.declared_at.ensures c.in_ok-declared.was c.table-2.ensures c.decl_group_from.ensures

@@ -13,8 +13,8 @@ pub returns-in_default : goal.returns-in_default
 returns-in_default g t c =
     path_none c.args.module_name.now (g.S.NumberedDeclarations.steps_in c.args.source.now) c.requires.before c.args.number (sym c.step.ensures ∙ ap (option_map step_model) c.in_default.is)
 
-pub name_of-requires-then-found : goal.name_of-requires-then-found
-name_of-requires-then-found g t c =
+pub name_str-requires-then-found : goal.name_str-requires-then-found
+name_str-requires-then-found g t c =
     c.requires.named c.args.number (step_model c.in-Some.step) (sym c.step.ensures ∙ ap (option_map step_model) c.in-Some.is)
 
 pub returns-in_ok-append_simple_descriptor : goal.returns-in_ok-append_simple_descriptor
@@ -25,12 +25,12 @@ returns-in_ok-append_simple_descriptor g t c =
     let above : IsAppended (string_bytes c.args.out.now) (string_bytes c.match-step-2.out) (option_map_or (path m steps) s.owner (Some (module_path m))) c.match-step-2.found =
     elim c.match-step-2.branch [
       | in-None+in_ok-append_simple_descriptor-in-None w ↦
-          rw (w.found-is, w.out-is, w.in-None.is, w.in_ok-append_simple_descriptor-in-None.ensures, w.name_of.ensures) (pushed_module (string_bytes c.args.out.now) m)
+          rw (w.found-is, w.out-is, w.in-None.is, w.in_ok-append_simple_descriptor-in-None.ensures, w.name_str.ensures) (pushed_module (string_bytes c.args.out.now) m)
       | in-Some-owner+in_ok-found-in-Some-owner w ↦ rw (w.found-is, w.out-is, w.in-Some-owner.is) w.in_ok-found-in-Some-owner.ensures
     ] in
     pushed_step m steps c.requires.before c.args.number s (string_bytes c.args.out.now) (string_bytes c.match-step-2.out) (string_bytes c.append_simple_descriptor-then-found.new.out) c.match-step-2.found
     (sym c.step.ensures ∙ ap (option_map step_model) c.in-Some.is) above c.if-found.true
-    (c.in_ok-append_simple_descriptor.ensures ∙ ap (λ (x : List ℕ). string_bytes c.match-step-2.out ++ canonical_descriptor_text (descriptor c.in-Some.step.kind x)) c.name_of-then-found.ensures)
+    (c.in_ok-append_simple_descriptor.ensures ∙ ap (λ (x : List ℕ). string_bytes c.match-step-2.out ++ canonical_descriptor_text (descriptor c.in-Some.step.kind x)) c.name_str-then-found.ensures)
 
 pub returns-else-found : goal.returns-else-found
 returns-else-found g t c =
@@ -40,7 +40,7 @@ returns-else-found g t c =
     let above : IsAppended (string_bytes c.args.out.now) (string_bytes c.match-step-2.out) (option_map_or (path m steps) s.owner (Some (module_path m))) c.match-step-2.found =
     elim c.match-step-2.branch [
       | in-None+in_ok-append_simple_descriptor-in-None w ↦
-          rw (w.found-is, w.out-is, w.in-None.is, w.in_ok-append_simple_descriptor-in-None.ensures, w.name_of.ensures) (pushed_module (string_bytes c.args.out.now) m)
+          rw (w.found-is, w.out-is, w.in-None.is, w.in_ok-append_simple_descriptor-in-None.ensures, w.name_str.ensures) (pushed_module (string_bytes c.args.out.now) m)
       | in-Some-owner+in_ok-found-in-Some-owner w ↦ rw (w.found-is, w.out-is, w.in-Some-owner.is) w.in_ok-found-in-Some-owner.ensures
     ] in
     pushed_no_step m steps c.requires.before c.args.number s (string_bytes c.args.out.now) (string_bytes c.match-step-2.out) c.match-step-2.found

@@ -7,5 +7,5 @@ use Rattle.ob_emit.specs.StoredTexts.{AreSymbolTexts}
 use Rattle.ob_emit.proofs.records.append_occurrences.Given as goal
 
 abbrev pub invariant-loop-reference : goal.invariant-loop-reference
-invariant-loop-reference l = (p : List ℕ) → AreSymbolTexts l.types p l.initial.texts → AreSymbolTexts l.types p l.texts
-    × (l.out.items ≡ l.initial.out.items ++ spelled_fields (payload_fields 2 (map written_occurrence (filter_map (occurrence l.types p) (take l.reference-index l.refs)))))
+invariant-loop-reference l = (p : List ℕ) → AreSymbolTexts l.view p l.initial.texts → AreSymbolTexts l.view p l.texts
+    × (l.out.items ≡ l.initial.out.items ++ spelled_fields (payload_fields 2 (map written_occurrence (filter_map (occurrence l.view p) (take l.reference-index l.refs)))))

@@ -2,10 +2,10 @@ use Rattle.std.proofs.Common.{◌≡◌, ◌++◌, ℕ, List, map, take}
 use Rattle.std.specs.List.{filter_map}
 use Rattle.proto_wire.specs.Writing.{payload_fields, spelled_fields}
 use Rattle.scip_index.specs.Written.{written_symbol}
-use Rattle.ob_emit.specs.Documents.{symbol_row}
+use Rattle.ob_emit.specs.Documents.{declared_symbol_info}
 use Rattle.ob_emit.specs.StoredTexts.{AreSymbolTexts}
 use Rattle.ob_emit.proofs.records.append_symbols.Given as goal
 
 abbrev pub invariant-loop-reference : goal.invariant-loop-reference
 invariant-loop-reference l =
-    (p : List ℕ) → AreSymbolTexts l.types p l.texts → l.out.items ≡ l.initial.out.items ++ spelled_fields (payload_fields 3 (map written_symbol (filter_map (symbol_row l.types p) (take l.reference-index l.refs))))
+    (p : List ℕ) → AreSymbolTexts l.view p l.texts → l.out.items ≡ l.initial.out.items ++ spelled_fields (payload_fields 3 (map written_symbol (filter_map (declared_symbol_info l.view p) (take l.reference-index l.refs))))

@@ -14,7 +14,7 @@ use Rattle.ob_emit.proofs.target_texts.declared_texts.Goals.{then-local, else-lo
 
 pub loop-row-preserved : goal.loop-row-preserved
 loop-row-preserved c =
-    let w = c.args.types.now in
+    let w = c.args.view.now in
     let rows = c.declared-declared.result.now in
     let n = c.loop-row.row-index in
     let row : Declared = get_or rows n (record { number = 0; exported = false; declared_by = 0 }) in
@@ -34,10 +34,10 @@ loop-row-preserved c =
 
 pub returns : goal.returns
 returns c = λ p f.
-    let w = c.args.types.now in
+    let w = c.args.view.now in
     let same : c.declared-declared.result.now ≡ w.rows.declared = c.declared-declared.ensures ∙ ap (λ (r : Rows). r.declared) c.table.ensures in
     let all : c.loop-row.row-index ≡ length w.rows.declared = omega (arith, ap length same, c.loop-row-test.false, c.loop-row.auto.row-index-end) in
     subst (λ (n : ℕ). AreDeclaredTexts w p n (map (option_map string_bytes) c.loop-row.texts.items)) all (c.loop-row.invariant.each p f)
 
 pub loop-row-init : goal.loop-row-init
-loop-row-init c = rw c.in_ok-texts.ensures.items (before_none c.args.types.now c.args.prefix.now)
+loop-row-init c = rw c.in_ok-texts.ensures.items (before_none c.args.view.now c.args.prefix.now)

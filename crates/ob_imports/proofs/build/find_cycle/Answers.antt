@@ -32,16 +32,16 @@ renumber_edges-requires c =
     let same : length c.args.names.now ≡ length c.in_ok-ranks.ranks.items = omega arith in
     record { between = rw c.as_slice.ensures.value (subst (AreBetween c.args.pairs.now) same c.requires.between) }
 
-pub cycle-requires-clause-between : goal.cycle-requires-clause-between
-cycle-requires-clause-between c =
+pub find_canonical_cycle-requires-clause-between : goal.find_canonical_cycle-requires-clause-between
+find_canonical_cycle-requires-clause-between c =
     let names = texts c.args.names.now in
     let count = length-map c.args.names.now string_bytes in
     let between : AreBetween c.args.pairs.now (length names) = subst (AreBetween c.args.pairs.now) (sym count) c.requires.between in
     let same : (p : Edge) → Contains c.in_ok-others.others.items p ↔ Contains (map (by_ranks c.in_ok-ranks.ranks.items) c.args.pairs.now) p = rw c.as_slice.ensures.value at c.in_ok-others.ensures.same in
     rw c.as_slice-2.ensures.value (others_between names c.args.order.now c.requires.order c.requires.once c.in_ok-ranks.ranks.items c.in_ok-ranks.ensures c.args.pairs.now c.in_ok-others.others.items between same)
 
-pub cycle-requires-clause-few_nodes : goal.cycle-requires-clause-few_nodes
-cycle-requires-clause-few_nodes c =
+pub find_canonical_cycle-requires-clause-few_nodes : goal.find_canonical_cycle-requires-clause-few_nodes
+find_canonical_cycle-requires-clause-few_nodes c =
     let long = order_long (texts c.args.names.now) c.args.order.now c.requires.order c.requires.once in
     let count = length-map c.args.names.now string_bytes in
     let few = c.requires.few in
@@ -53,11 +53,11 @@ returns-in-None-clause-none c =
     let count = length-map c.args.names.now string_bytes in
     let between : AreBetween c.args.pairs.now (length names) = subst (AreBetween c.args.pairs.now) (sym count) c.requires.between in
     let same : (p : Edge) → Contains c.in_ok-others.others.items p ↔ Contains (map (by_ranks c.in_ok-ranks.ranks.items) c.args.pairs.now) p = rw c.as_slice.ensures.value at c.in_ok-others.ensures.same in
-    let none : IsAcyclic (Leads c.in_ok-others.others.items) = rw c.as_slice-2.ensures.value at (rw c.in-None.is at c.in_ok-cycle.ensures.none) in
+    let none : IsAcyclic (Leads c.in_ok-others.others.items) = rw c.as_slice-2.ensures.value at (rw c.in-None.is at c.in_ok-find_canonical_cycle.ensures.none) in
     others_acyclic names c.args.order.now c.requires.order c.requires.once c.in_ok-ranks.ranks.items c.in_ok-ranks.ensures c.args.pairs.now c.in_ok-others.others.items between same none
 
 pub names_at-requires-clause-places : goal.names_at-requires-clause-places
-names_at-requires-clause-places c = rw c.as_slice-in-Some.ensures.value (rw c.in-Some.is at c.in_ok-cycle.ensures.within)
+names_at-requires-clause-places c = rw c.as_slice-in-Some.ensures.value (rw c.in-Some.is at c.in_ok-find_canonical_cycle.ensures.within)
 
 pub returns-clause-named : goal.returns-clause-named
 returns-clause-named c files led =
@@ -65,6 +65,6 @@ returns-clause-named c files led =
     let count = length-map c.args.names.now string_bytes in
     let between : AreBetween c.args.pairs.now (length names) = subst (AreBetween c.args.pairs.now) (sym count) c.requires.between in
     let same : (p : Edge) → Contains c.in_ok-others.others.items p ↔ Contains (map (by_ranks c.in_ok-ranks.ranks.items) c.args.pairs.now) p = rw c.as_slice.ensures.value at c.in_ok-others.ensures.same in
-    let named : IsCanonicalCycle (Leads c.in_ok-others.others.items) c.in-Some.cycle.items = rw c.as_slice-2.ensures.value at (rw c.in-Some.is at c.in_ok-cycle.ensures.named) in
+    let named : IsCanonicalCycle (Leads c.in_ok-others.others.items) c.in-Some.cycle.items = rw c.as_slice-2.ensures.value at (rw c.in-Some.is at c.in_ok-find_canonical_cycle.ensures.named) in
     others_cycle names c.args.order.now c.requires.order c.requires.once c.in_ok-ranks.ranks.items c.in_ok-ranks.ensures c.args.pairs.now c.in_ok-others.others.items between same files led c.in-Some.cycle.items _ named
     (rw c.as_slice-in-Some.ensures.value at c.in_ok-names_at-in-Some.ensures)

@@ -39,8 +39,8 @@ find_cycle-requires-clause-few c =
     let few = c.requires.few_names in
     rw c.as_slice-3.ensures.keys (omega arith)
 
-pub of-requires-clause-graph : goal.of-requires-clause-graph
-of-requires-clause-graph c =
+pub from_parts-requires-clause-graph : goal.from_parts-requires-clause-graph
+from_parts-requires-clause-graph c =
     let files = files_of c.args.parsed.now in
     let names = texts c.args.names.keys in
     let pairs_acyclic : IsAcyclic (Leads c.args.pairs.items) = rw c.as_slice-2.ensures.value at (rw c.in-None.is at c.in_ok-find_cycle.ensures.none) in
@@ -48,14 +48,14 @@ of-requires-clause-graph c =
     (acyclic_as (Leads c.args.pairs.items) (LeadsBy (Imports files) names) c.requires.is_graph.leads pairs_acyclic) in
     kept_graph files (graph_with c.args.names.keys (length c.args.parsed.now) c.args.pairs.items) c.requires none
 
-pub returns-in_ok-of-in-None : goal.returns-in_ok-of-in-None
-returns-in_ok-of-in-None c =
+pub returns-in_ok-from_parts-in-None : goal.returns-in_ok-from_parts-in-None
+returns-in_ok-from_parts-in-None c =
     let files = files_of c.args.parsed.now in
     let names = texts c.args.names.keys in
     let pairs_acyclic : IsAcyclic (Leads c.args.pairs.items) = rw c.as_slice-2.ensures.value at (rw c.in-None.is at c.in_ok-find_cycle.ensures.none) in
     let none : IsAcyclic (Imports files) = acyclic_names files names (nodes_known files names c.requires.is_graph.nodes)
     (acyclic_as (Leads c.args.pairs.items) (LeadsBy (Imports files) names) c.requires.is_graph.leads pairs_acyclic) in
-    rw c.in_ok-of-in-None.ensures (c.requires, none)
+    rw c.in_ok-from_parts-in-None.ensures (c.requires, none)
 
 pub returns-in-Some : goal.returns-in-Some
 returns-in-Some c =

@@ -25,7 +25,7 @@ returns c =
       bases = c.in_ok-rows-3.field-0;
       imports = c.in_ok-rows-4.field-0;
     } in
-    assembled bytes ts (rows_in c.args.table.now) ps rows c.append_text.new.text.items c.collect_declarations.new.text.items c.collect_bases.new.text.items c.collect_imports.new.text.items c.requires.same (λ more. c.in_ok-rows.ensures.decoded more ∙ c.of.ensures) c.in_ok-rows-2.ensures.grown
+    assembled bytes ts (rows_in c.args.table.now) ps rows c.append_text.new.text.items c.collect_declarations.new.text.items c.collect_bases.new.text.items c.collect_imports.new.text.items c.requires.same (λ more. c.in_ok-rows.ensures.decoded more ∙ c.token_text.ensures) c.in_ok-rows-2.ensures.grown
     (λ more. c.in_ok-rows-2.ensures.decode more ∙ ap (λ (xs : List Declared). filter_map (λ r. declaration_by bytes ts ps r (module_level_by c.decl_groups-decl_groups.result.now r.declared_by)) xs) c.declared-declared.ensures
     ∙ ap (λ (ds : List DeclGroup). filter_map (λ r. declaration_by bytes ts ps r (module_level_by ds r.declared_by)) (rows_in c.args.table.now).declared) c.decl_groups-decl_groups.ensures) c.in_ok-rows-3.ensures.grown
     (λ more. c.in_ok-rows-3.ensures.decode more ∙ ap (λ (xs : List Record). filter_map (base_of bytes ts c.decl_groups-decl_groups.result.now) xs) c.records.ensures

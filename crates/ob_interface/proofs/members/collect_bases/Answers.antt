@@ -13,8 +13,8 @@ loop-i-preserved c =
     let bytes = c.args.source.now.bytes.now in
     let ts = c.args.source.now.tokens.now in
     let h = λ (r : Record). base_by bytes ts r (module_level_by c.args.decl_groups.now r.owner) in
-    let found = c.base_of.ensures bytes ts in
-    elim c.match-base_of.branch [
+    let found = c.module_level_base.ensures bytes ts in
+    elim c.match-module_level_base.branch [
       | in-Some+in_ok-row-in-Some+in_ok-push-in-Some w ↦ rw (w.text-is, w.rows-is) (record {
         grown = grown_twice c.loop-i.invariant.grown w.in_ok-row-in-Some.ensures.grown;
         decode = rw w.in_ok-push-in-Some.ensures.items (more_told base_in h _ _ _ c.args.records.now c.loop-i.i _ _ _ c.loop-i.invariant.decode w.in_ok-row-in-Some.ensures.grown w.in_ok-row-in-Some.ensures.decoded c.loop-i-test.true

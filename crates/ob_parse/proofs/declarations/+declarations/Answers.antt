@@ -20,19 +20,19 @@ use Rattle.ob_parse.proofs.declarations.+declarations.Goals as goal
 
 pub procedures-more-smaller : goal.procedures-more-smaller
 procedures-more-smaller t c =
-    turn_shorter c.args.tokens.now (procedures c.args.depth) c.procedure_with_semicolon.result (λ b. b.value) c.more.here c.more.here _ _ _ (has_begun (is_word kinds.Procedure) _ (sym c.is_at.ensures ∙ c.more-test.true)) c.procedure_with_semicolon.ensures c.in_ok-here.ensures
+    turn_shorter c.args.tokens.now (procedures c.args.depth) c.procedure_with_semicolon.result (λ b. b.value) c.more.here c.more.here _ _ _ (has_begun (is_word kinds.Procedure) _ (sym c.next_is.ensures ∙ c.more-test.true)) c.procedure_with_semicolon.ensures c.in_ok-here.ensures
 
 pub procedures-more-preserved : goal.procedures-more-preserved
 procedures-more-preserved t c =
-    turn_kept c.args.tokens.now (procedures c.args.depth) c.procedure_with_semicolon.result (λ b. b.value) c.more.here c.more.here _ _ _ _ (has_begun (is_word kinds.Procedure) _ (sym c.is_at.ensures ∙ c.more-test.true)) c.procedure_with_semicolon.ensures c.in_ok-here.ensures c.more.invariant
+    turn_kept c.args.tokens.now (procedures c.args.depth) c.procedure_with_semicolon.result (λ b. b.value) c.more.here c.more.here _ _ _ _ (has_begun (is_word kinds.Procedure) _ (sym c.next_is.ensures ∙ c.more-test.true)) c.procedure_with_semicolon.ensures c.in_ok-here.ensures c.more.invariant
 
 pub procedures-returns-in_err-here : goal.procedures-returns-in_err-here
 procedures-returns-in_err-here t c =
-    stopped _ _ _ _ _ c.from_residual.ensures.1 (turn_failed c.args.tokens.now (procedures c.args.depth) c.procedure_with_semicolon.result (λ b. b.value) c.more.here c.more.here _ _ c.in_err-here.field-0.0 _ (has_begun (is_word kinds.Procedure) _ (sym c.is_at.ensures ∙ c.more-test.true)) c.procedure_with_semicolon.ensures c.in_err-here.ensures c.more.invariant)
+    stopped _ _ _ _ _ c.from_residual.ensures.1 (turn_failed c.args.tokens.now (procedures c.args.depth) c.procedure_with_semicolon.result (λ b. b.value) c.more.here c.more.here _ _ c.in_err-here.field-0.0 _ (has_begun (is_word kinds.Procedure) _ (sym c.next_is.ensures ∙ c.more-test.true)) c.procedure_with_semicolon.ensures c.in_err-here.ensures c.more.invariant)
 
 pub procedures-returns : goal.procedures-returns
 procedures-returns t c =
-    turns_done c.args.tokens.now (procedures c.args.depth) c.more.declared.items c.more.here _ (has_not_begun (is_word kinds.Procedure) _ (sym c.is_at.ensures ∙ c.more-test.false)) c.more.invariant
+    turns_done c.args.tokens.now (procedures c.args.depth) c.more.declared.items c.more.here _ (has_not_begun (is_word kinds.Procedure) _ (sym c.next_is.ensures ∙ c.more-test.false)) c.more.invariant
 
 pub declarations-declaration_section-requires : goal.declarations-declaration_section-requires
 declarations-declaration_section-requires t c = const_shortens c.args.depth (expr_at c.args.depth) (expr_at_sound c.args.depth)
@@ -45,7 +45,7 @@ declarations-declaration_section-requires-3 t c = variable_shortens c.args.depth
 
 pub declarations-returns : goal.declarations-returns
 unfolding declarations_with procedures_with
-declarations-returns t c = gives_boxed c.args.tokens.now declarations_events _ _ c.boxed.result _ c.boxed.ensures.of c.boxed.ensures.refused (rw (c.in_ok-constants.ensures, c.in_ok-types.ensures, c.in_ok-variables.ensures, c.in_ok-procedures.ensures, declarations_made (record { constants = c.in_ok-constants.constants; types = c.in_ok-types.types; variables = c.in_ok-variables.variables; procedures = c.in_ok-procedures.procedures })) refl)
+declarations-returns t c = gives_boxed c.args.tokens.now declarations_events _ _ c.box_value.result _ c.box_value.ensures.of c.box_value.ensures.refused (rw (c.in_ok-constants.ensures, c.in_ok-types.ensures, c.in_ok-variables.ensures, c.in_ok-procedures.ensures, declarations_made (record { constants = c.in_ok-constants.constants; types = c.in_ok-types.types; variables = c.in_ok-variables.variables; procedures = c.in_ok-procedures.procedures })) refl)
 
 pub procedure-returns : goal.procedure-returns
 unfolding procedure_at limit_at
@@ -55,6 +55,6 @@ pub procedure-returns-then-depth-eq0 : goal.procedure-returns-then-depth-eq0
 unfolding procedure_at limit_at
 procedure-returns-then-depth-eq0 t c = grind arith
 
-pub procedure_within-returns : goal.procedure_within-returns
+pub procedure_after_depth_check-returns : goal.procedure_after_depth_check-returns
 unfolding procedure_with procedure_named identdef_after
-procedure_within-returns t c = gives_boxed c.args.tokens.now procedure_events _ _ c.boxed.result _ c.boxed.ensures.of c.boxed.ensures.refused (grind (arith, declaring_made, names_made, star_read))
+procedure_after_depth_check-returns t c = gives_boxed c.args.tokens.now procedure_events _ _ c.box_value.result _ c.box_value.ensures.of c.box_value.ensures.refused (grind (arith, declaring_made, names_made, star_read))

@@ -1,5 +1,5 @@
 use Rattle.std.proofs.Common.{◌+◌, ◌*◌, length}
-use Rattle.ob_grammar.specs.AgreesWith.{remaining}
+use Rattle.ob_grammar.specs.ParsesAs.{remaining}
 use Rattle.ob_grammar.proofs.Repetitions.{procedures}
 use Rattle.ob_grammar.proofs.Turns.{AreTurnsRead}
 use Rattle.ob_parse.proofs.declarations.+declarations.Given as goal
@@ -19,8 +19,8 @@ decreases-declarations l = 16 * l.depth + 3
 abbrev pub decreases-procedure_remainder : goal.decreases-procedure_remainder
 decreases-procedure_remainder l = 16 * l.depth + 4
 
-abbrev pub decreases-procedure_within : goal.decreases-procedure_within
-decreases-procedure_within l = 16 * l.depth + 5
+abbrev pub decreases-procedure_after_depth_check : goal.decreases-procedure_after_depth_check
+decreases-procedure_after_depth_check l = 16 * l.depth + 5
 
 abbrev pub invariant-procedures-more : goal.invariant-procedures-more
 invariant-procedures-more l = AreTurnsRead l.fn.tokens (procedures l.depth) l.declared.items l.fn.input l.here

@@ -3,7 +3,7 @@ use Rattle.ob_scan.specs.declared.kind.Kind.TheVariants as kinds
 use Rattle.ob_tree.specs.TreeEvents.{each, word}
 use Rattle.ob_grammar.specs.Combinators.{begins, many}
 use Rattle.ob_grammar.specs.ReadModules.{is_identifier, with_semicolon}
-use Rattle.ob_grammar.specs.AgreesWith.{remaining}
+use Rattle.ob_grammar.specs.ParsesAs.{remaining}
 use Rattle.ob_grammar.proofs.Loops.{with_front}
 use Rattle.ob_parse.proofs.declarations.declared.Given as goal
 

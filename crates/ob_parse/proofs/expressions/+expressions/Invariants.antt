@@ -1,5 +1,5 @@
 use Rattle.std.proofs.Common.{◌+◌, ◌*◌, length}
-use Rattle.ob_grammar.specs.AgreesWith.{remaining}
+use Rattle.ob_grammar.specs.ParsesAs.{remaining}
 use Rattle.ob_grammar.proofs.Repetitions.{elements, expressions, factor_operations, selectors, term_operations}
 use Rattle.ob_grammar.proofs.Turns.{AreOperationsRead, AreTurnsRead}
 use Rattle.ob_parse.proofs.expressions.+expressions.Given as goal
@@ -10,8 +10,8 @@ decreases-expression l = 16 * l.depth + 0
 abbrev pub decreases-high : goal.decreases-high
 decreases-high l = 16 * l.depth + 1
 
-abbrev pub decreases-negated : goal.decreases-negated
-decreases-negated l = 16 * l.depth + 8
+abbrev pub decreases-negated_factor : goal.decreases-negated_factor
+decreases-negated_factor l = 16 * l.depth + 8
 
 abbrev pub decreases-element : goal.decreases-element
 decreases-element l = 16 * l.depth + 2
@@ -37,8 +37,8 @@ decreases-elements l = 16 * l.depth + 5
 abbrev pub decreases-selector : goal.decreases-selector
 decreases-selector l = 16 * l.depth + 5
 
-abbrev pub decreases-more_selectors : goal.decreases-more_selectors
-decreases-more_selectors l = 16 * l.depth + 6
+abbrev pub decreases-selector_list : goal.decreases-selector_list
+decreases-selector_list l = 16 * l.depth + 6
 
 abbrev pub decreases-designator : goal.decreases-designator
 decreases-designator l = 16 * l.depth + 7
@@ -100,8 +100,8 @@ invariant-more_elements-more l = AreTurnsRead l.fn.tokens (elements l.depth) l.r
 abbrev pub decreases-more_elements-more : goal.decreases-more_elements-more
 decreases-more_elements-more l = length (remaining l.fn.tokens l.here)
 
-abbrev pub invariant-more_selectors-more : goal.invariant-more_selectors-more
-invariant-more_selectors-more l = AreTurnsRead l.fn.tokens (selectors l.depth) l.selectors.items l.fn.input l.here
+abbrev pub invariant-selector_list-more : goal.invariant-selector_list-more
+invariant-selector_list-more l = AreTurnsRead l.fn.tokens (selectors l.depth) l.selectors.items l.fn.input l.here
 
-abbrev pub decreases-more_selectors-more : goal.decreases-more_selectors-more
-decreases-more_selectors-more l = length (remaining l.fn.tokens l.here)
+abbrev pub decreases-selector_list-more : goal.decreases-selector_list-more
+decreases-selector_list-more l = length (remaining l.fn.tokens l.here)

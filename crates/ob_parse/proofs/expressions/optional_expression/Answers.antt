@@ -5,4 +5,4 @@ use Rattle.ob_grammar.proofs.Somes.{gives_some}
 use Rattle.ob_parse.proofs.expressions.optional_expression.Goals as goal
 
 pub returns-in-Some : goal.returns-in-Some
-returns-in-Some c = gives_some c.args.tokens.now c.expression.result (λ e. expr_events e.value) c.some.result (accept_at c.args.word) _ _ _ c.some.ensures (sym c.in-Some.ensures.read) c.expression.ensures
+returns-in-Some c = gives_some c.args.tokens.now c.expression.result (λ e. expr_events e.value) c.wrap_in_some.result (accept_at c.args.word) _ _ _ c.wrap_in_some.ensures (sym c.in-Some.ensures.read) c.expression.ensures

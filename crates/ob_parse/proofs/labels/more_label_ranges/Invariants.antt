@@ -1,5 +1,5 @@
 use Rattle.std.proofs.Common.{length}
-use Rattle.ob_grammar.specs.AgreesWith.{remaining}
+use Rattle.ob_grammar.specs.ParsesAs.{remaining}
 use Rattle.ob_grammar.proofs.Repetitions.{label_ranges}
 use Rattle.ob_grammar.proofs.Turns.{AreTurnsRead}
 use Rattle.ob_parse.proofs.labels.more_label_ranges.Given as goal

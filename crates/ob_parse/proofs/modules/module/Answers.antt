@@ -7,4 +7,4 @@ use Rattle.ob_parse.proofs.modules.module.Goals as goal
 
 pub returns : goal.returns
 unfolding module_at module_after_name
-returns c = gives_boxed c.args.tokens.now module_events _ _ c.boxed.result _ c.boxed.ensures.of c.boxed.ensures.refused (grind (arith, declaring_made))
+returns c = gives_boxed c.args.tokens.now module_events _ _ c.box_value.result _ c.box_value.ensures.of c.box_value.ensures.refused (grind (arith, declaring_made))

@@ -1,5 +1,5 @@
 use Rattle.std.proofs.Common.{length}
-use Rattle.ob_grammar.specs.AgreesWith.{remaining}
+use Rattle.ob_grammar.specs.ParsesAs.{remaining}
 use Rattle.ob_grammar.proofs.Repetitions.{sections}
 use Rattle.ob_grammar.proofs.Turns.{AreTurnsRead}
 use Rattle.ob_parse.proofs.parameters.more_sections.Given as goal

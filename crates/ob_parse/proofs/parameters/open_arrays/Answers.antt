@@ -2,7 +2,7 @@ use Rattle.std.proofs.Common.{◌<◌, length, sym, ap, ◌∙◌, arith}
 use Rattle.ob_scan.specs.declared.kind.Kind.TheVariants as kinds
 use Rattle.ob_tree.specs.TreeEvents.{times}
 use Rattle.ob_grammar.specs.Combinators.{many, accept_at, expect_at}
-use Rattle.ob_grammar.specs.AgreesWith.{remaining, skipped}
+use Rattle.ob_grammar.specs.ParsesAs.{remaining, skipped}
 use Rattle.ob_grammar.proofs.Loops.{is_done}
 use Rattle.ob_grammar.proofs.LoopEnds.{ends, stopped}
 use Rattle.ob_grammar.proofs.Arrays.{array_of, array_advances, fewer, one_more, few_ahead}

@@ -8,8 +8,8 @@ use Rattle.ob_grammar.proofs.Loops.{has_begun}
 use Rattle.ob_grammar.proofs.Somes.{gives_some}
 use Rattle.ob_parse.proofs.parameters.optional_parameters.Goals as goal
 
-pub returns-then-is_at : goal.returns-then-is_at
+pub returns-then-next_is : goal.returns-then-next_is
 unfolding optional_parameters_at
-returns-then-is_at c =
-    gives_some c.args.tokens.now c.parameters.result parameters_events c.some.result (begins (is_word kinds.LeftParen)) _ _ _ c.some.ensures
-    (has_begun (is_word kinds.LeftParen) _ (sym c.is_at.ensures ∙ c.if-is_at.true)) c.parameters.ensures
+returns-then-next_is c =
+    gives_some c.args.tokens.now c.parameters.result parameters_events c.wrap_in_some.result (begins (is_word kinds.LeftParen)) _ _ _ c.wrap_in_some.ensures
+    (has_begun (is_word kinds.LeftParen) _ (sym c.next_is.ensures ∙ c.if-next_is.true)) c.parameters.ensures

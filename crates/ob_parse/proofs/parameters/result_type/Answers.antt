@@ -6,4 +6,4 @@ use Rattle.ob_grammar.proofs.Somes.{gives_some}
 use Rattle.ob_parse.proofs.parameters.result_type.Goals as goal
 
 pub returns-in-Some : goal.returns-in-Some
-returns-in-Some c = gives_some c.args.tokens.now c.qualident.result qualident_events c.some.result (accept_at kinds.Colon) _ _ _ c.some.ensures (sym c.in-Some.ensures.read) c.qualident.ensures.read
+returns-in-Some c = gives_some c.args.tokens.now c.qualident.result qualident_events c.wrap_in_some.result (accept_at kinds.Colon) _ _ _ c.wrap_in_some.ensures (sym c.in-Some.ensures.read) c.qualident.ensures.read

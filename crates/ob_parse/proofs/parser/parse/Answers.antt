@@ -4,9 +4,9 @@ use Rattle.ob_scan.specs.declared.token.Token.{Token}
 use Rattle.ob_tree.specs.Declaring.{module_events}
 use Rattle.ob_tree.specs.Derives.{Derives}
 use Rattle.ob_tree.specs.TreeEvents.{Events}
-use Rattle.ob_grammar.specs.AgreesWith.{Fails}
+use Rattle.ob_grammar.specs.ParsesAs.{Fails}
 use Rattle.ob_grammar.specs.Parsed.{IsOneTree, kinds_of, read_as_module}
-use Rattle.ob_grammar.proofs.OneTree.{one_tree, why_none, endings_are_known, tokens_placed, few_tokens}
+use Rattle.ob_grammar.proofs.OneTree.{tree_is_unique, why_none, endings_are_known, tokens_placed, few_tokens}
 use Rattle.ob_parse.proofs.parser.parse.Goals as goal
 
 pub parse_before_end_check-requires : goal.parse_before_end_check-requires
@@ -29,19 +29,19 @@ first_wrong_end-requires-clause-in_text c = rw c.as_slice-tokens.ensures (tokens
 
 pub returns-in-None-clause-tree : goal.returns-in-None-clause-tree
 returns-in-None-clause-tree c = rw c.into_inner.ensures (record {
-  tree = subst (λ (ts : List Token). IsOneTree ts c.in-Ok.tree.value) c.as_slice-tokens.ensures (one_tree c.as_slice-tokens.result.now c.in-Ok.tree.value c.in-Ok.ensures);
+  tree = subst (λ (ts : List Token). IsOneTree ts c.in-Ok.tree.value) c.as_slice-tokens.ensures (tree_is_unique c.as_slice-tokens.result.now c.in-Ok.tree.value c.in-Ok.ensures);
   ended = rw (sym c.deref.ensures, sym c.in_ok-ends.ensures, sym c.as_slice.ensures.value, sym c.as_slice-tokens.ensures) c.in-None.ensures;
 })
 
 pub returns-in-None-clause-few : goal.returns-in-None-clause-few
 returns-in-None-clause-few c =
     let text = spelled_in_text c.args.bytes.now c.args.tokens.now c.requires.1 in
-    let tree = one_tree c.as_slice-tokens.result.now c.in-Ok.tree.value c.in-Ok.ensures in
+    let tree = tree_is_unique c.as_slice-tokens.result.now c.in-Ok.tree.value c.in-Ok.ensures in
     rw c.into_inner.ensures (few_tokens c.args.bytes.now c.args.tokens.now c.in-Ok.tree.value text c.requires.0 (subst (λ (ts : List Token). Derives (kinds_of ts) c.in-Ok.tree.value) c.as_slice-tokens.ensures tree.derived))
 
 pub returns-in-Some-clause-fault : goal.returns-in-Some-clause-fault
 returns-in-Some-clause-fault c = record {
   of = c.in-Ok.tree.value;
-  tree = subst (λ (ts : List Token). IsOneTree ts c.in-Ok.tree.value) c.as_slice-tokens.ensures (one_tree c.as_slice-tokens.result.now c.in-Ok.tree.value c.in-Ok.ensures);
+  tree = subst (λ (ts : List Token). IsOneTree ts c.in-Ok.tree.value) c.as_slice-tokens.ensures (tree_is_unique c.as_slice-tokens.result.now c.in-Ok.tree.value c.in-Ok.ensures);
   first = rw (sym c.deref.ensures, sym c.in_ok-ends.ensures, sym c.as_slice.ensures.value, sym c.as_slice-tokens.ensures) c.in-Some.ensures;
 }

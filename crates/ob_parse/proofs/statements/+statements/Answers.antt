@@ -3,7 +3,7 @@ use Rattle.ob_scan.specs.declared.kind.Kind.TheVariants as kinds
 use Rattle.ob_tree.specs.declared.token.Leaf.TheVariants as leafs
 use Rattle.ob_tree.specs.Statements.{branch_events, case_events, stmt_events, block_events}
 use Rattle.ob_grammar.specs.Combinators.{accept_at, name_at, several}
-use Rattle.ob_grammar.specs.AgreesWith.{skipped, remaining}
+use Rattle.ob_grammar.specs.ParsesAs.{skipped, remaining}
 use Rattle.ob_grammar.specs.ReadStatements.{branch_with, case_with, statement_at, block_with, cases_with, for_with, if_with, repeat_with, statement_with, while_with, block_at, label_first}
 use Rattle.ob_parse.proofs.StatementSteps.{made}
 use Rattle.ob_parse.proofs.Boxes.{gives_boxed}
@@ -67,19 +67,19 @@ more_cases-returns t c =
 
 pub block-returns : goal.block-returns
 unfolding block_with several
-block-returns t c = gives_boxed c.args.tokens.now block_events _ _ c.boxed.result _ c.boxed.ensures.of c.boxed.ensures.refused (rw (c.in_ok-first.ensures, c.in_ok-rest.ensures, block_made c.into_inner.result c.in_ok-rest.rest, c.into_inner.ensures) refl)
+block-returns t c = gives_boxed c.args.tokens.now block_events _ _ c.box_value.result _ c.box_value.ensures.of c.box_value.ensures.refused (rw (c.in_ok-first.ensures, c.in_ok-rest.ensures, block_made c.into_inner.result c.in_ok-rest.rest, c.into_inner.ensures) refl)
 
 pub branch-returns : goal.branch-returns
 unfolding branch_with
-branch-returns t c = gives_boxed c.args.tokens.now (λ b. branch_events b c.args.keyword) _ _ c.boxed.result _ c.boxed.ensures.of c.boxed.ensures.refused (rw (c.in_ok-condition.ensures, c.in_ok-input.ensures.read, c.in_ok-body.ensures, branch_made c.into_inner.result c.into_inner-2.result c.args.keyword, c.into_inner.ensures, c.into_inner-2.ensures) refl)
+branch-returns t c = gives_boxed c.args.tokens.now (λ b. branch_events b c.args.keyword) _ _ c.box_value.result _ c.box_value.ensures.of c.box_value.ensures.refused (rw (c.in_ok-condition.ensures, c.in_ok-input.ensures.read, c.in_ok-body.ensures, branch_made c.into_inner.result c.into_inner-2.result c.args.keyword, c.into_inner.ensures, c.into_inner-2.ensures) refl)
 
 pub case-returns : goal.case-returns
 unfolding case_with
-case-returns t c = gives_boxed c.args.tokens.now case_events _ _ c.boxed-2.result _ c.boxed-2.ensures.of c.boxed-2.ensures.refused (rw (has_begun label_first (remaining c.args.tokens.now c.args.input) (sym c.begins_label.ensures ∙ c.if-not-begins_label.false), c.in_ok-labels.ensures, c.in_ok-input.ensures.read, c.in_ok-body.ensures, labelled_made c.in_ok-labels.labels c.in_ok-body.body) refl)
+case-returns t c = gives_boxed c.args.tokens.now case_events _ _ c.box_value-2.result _ c.box_value-2.ensures.of c.box_value-2.ensures.refused (rw (has_begun label_first (remaining c.args.tokens.now c.args.input) (sym c.begins_label.ensures ∙ c.if-not-begins_label.false), c.in_ok-labels.ensures, c.in_ok-input.ensures.read, c.in_ok-body.ensures, labelled_made c.in_ok-labels.labels c.in_ok-body.body) refl)
 
 pub case-returns-then-not-begins_label : goal.case-returns-then-not-begins_label
 unfolding case_with
-case-returns-then-not-begins_label t c = gives_boxed c.args.tokens.now case_events _ _ c.boxed.result _ c.boxed.ensures.of c.boxed.ensures.refused (rw (has_not_begun label_first (remaining c.args.tokens.now c.args.input) (sym c.begins_label.ensures ∙ c.if-not-begins_label.true), nothing_made) refl)
+case-returns-then-not-begins_label t c = gives_boxed c.args.tokens.now case_events _ _ c.box_value.result _ c.box_value.ensures.of c.box_value.ensures.refused (rw (has_not_begun label_first (remaining c.args.tokens.now c.args.input) (sym c.begins_label.ensures ∙ c.if-not-begins_label.true), nothing_made) refl)
 
 pub case_statement-returns : goal.case_statement-returns
 unfolding cases_with
@@ -99,33 +99,33 @@ repeat_statement-returns t c = rw (c.in_ok-body.ensures, c.in_ok-input.ensures.r
 
 pub statement-returns : goal.statement-returns
 unfolding statement_at
-statement-returns t c = gives_boxed c.args.tokens.now stmt_events _ _ c.boxed.result _ c.boxed.ensures.of c.boxed.ensures.refused (grind arith)
+statement-returns t c = gives_boxed c.args.tokens.now stmt_events _ _ c.box_value.result _ c.box_value.ensures.of c.box_value.ensures.refused (grind arith)
 
 pub statement-returns-then-depth-eq0 : goal.statement-returns-then-depth-eq0
 unfolding statement_at
 statement-returns-then-depth-eq0 t c = grind arith
 
-pub statement_within-returns-in-Some-Name-default : goal.statement_within-returns-in-Some-Name-default
-statement_within-returns-in-Some-Name-default t c = rw (statement_seen (expr_at c.args.depth) (block_at c.args.depth) _ _ (leaf_stands c.args.tokens.now _ c.args.input c.in-Some-Name-default.rest _ (leafs.Name c.in-Some-Name-default.number) c.in-Some-Name-default.is c.in-Some-Name-default.field-0-0-is c.next.ensures.read)) c.assignment.ensures
+pub statement_after_depth_check-returns-in-Some-Name-default : goal.statement_after_depth_check-returns-in-Some-Name-default
+statement_after_depth_check-returns-in-Some-Name-default t c = rw (statement_seen (expr_at c.args.depth) (block_at c.args.depth) _ _ (leaf_stands c.args.tokens.now _ c.args.input c.in-Some-Name-default.rest _ (leafs.Name c.in-Some-Name-default.number) c.in-Some-Name-default.is c.in-Some-Name-default.field-0-0-is c.next.ensures.read)) c.assignment.ensures
 
-pub statement_within-returns-in-Some-Word-Case-default : goal.statement_within-returns-in-Some-Word-Case-default
-statement_within-returns-in-Some-Word-Case-default t c = rw (statement_seen (expr_at c.args.depth) (block_at c.args.depth) _ _ (word_stands c.args.tokens.now _ c.args.input c.in-Some-Word-Case-default.rest _ _ kinds.Case c.in-Some-Word-Case-default.is c.in-Some-Word-Case-default.field-0-0-is c.in-Some-Word-Case-default.field-0-0-0-is c.next.ensures.read)) c.case_statement.ensures
+pub statement_after_depth_check-returns-in-Some-Word-Case-default : goal.statement_after_depth_check-returns-in-Some-Word-Case-default
+statement_after_depth_check-returns-in-Some-Word-Case-default t c = rw (statement_seen (expr_at c.args.depth) (block_at c.args.depth) _ _ (word_stands c.args.tokens.now _ c.args.input c.in-Some-Word-Case-default.rest _ _ kinds.Case c.in-Some-Word-Case-default.is c.in-Some-Word-Case-default.field-0-0-is c.in-Some-Word-Case-default.field-0-0-0-is c.next.ensures.read)) c.case_statement.ensures
 
-pub statement_within-returns-in-Some-Word-For-default : goal.statement_within-returns-in-Some-Word-For-default
-statement_within-returns-in-Some-Word-For-default t c = rw (statement_seen (expr_at c.args.depth) (block_at c.args.depth) _ _ (word_stands c.args.tokens.now _ c.args.input c.in-Some-Word-For-default.rest _ _ kinds.For c.in-Some-Word-For-default.is c.in-Some-Word-For-default.field-0-0-is c.in-Some-Word-For-default.field-0-0-0-is c.next.ensures.read)) c.for_statement.ensures
+pub statement_after_depth_check-returns-in-Some-Word-For-default : goal.statement_after_depth_check-returns-in-Some-Word-For-default
+statement_after_depth_check-returns-in-Some-Word-For-default t c = rw (statement_seen (expr_at c.args.depth) (block_at c.args.depth) _ _ (word_stands c.args.tokens.now _ c.args.input c.in-Some-Word-For-default.rest _ _ kinds.For c.in-Some-Word-For-default.is c.in-Some-Word-For-default.field-0-0-is c.in-Some-Word-For-default.field-0-0-0-is c.next.ensures.read)) c.for_statement.ensures
 
-pub statement_within-returns-in-Some-Word-If-default : goal.statement_within-returns-in-Some-Word-If-default
-statement_within-returns-in-Some-Word-If-default t c = rw (statement_seen (expr_at c.args.depth) (block_at c.args.depth) _ _ (word_stands c.args.tokens.now _ c.args.input c.in-Some-Word-If-default.rest _ _ kinds.If c.in-Some-Word-If-default.is c.in-Some-Word-If-default.field-0-0-is c.in-Some-Word-If-default.field-0-0-0-is c.next.ensures.read)) c.if_statement.ensures
+pub statement_after_depth_check-returns-in-Some-Word-If-default : goal.statement_after_depth_check-returns-in-Some-Word-If-default
+statement_after_depth_check-returns-in-Some-Word-If-default t c = rw (statement_seen (expr_at c.args.depth) (block_at c.args.depth) _ _ (word_stands c.args.tokens.now _ c.args.input c.in-Some-Word-If-default.rest _ _ kinds.If c.in-Some-Word-If-default.is c.in-Some-Word-If-default.field-0-0-is c.in-Some-Word-If-default.field-0-0-0-is c.next.ensures.read)) c.if_statement.ensures
 
-pub statement_within-returns-in-Some-Word-Repeat-default : goal.statement_within-returns-in-Some-Word-Repeat-default
-statement_within-returns-in-Some-Word-Repeat-default t c = rw (statement_seen (expr_at c.args.depth) (block_at c.args.depth) _ _ (word_stands c.args.tokens.now _ c.args.input c.in-Some-Word-Repeat-default.rest _ _ kinds.Repeat c.in-Some-Word-Repeat-default.is c.in-Some-Word-Repeat-default.field-0-0-is c.in-Some-Word-Repeat-default.field-0-0-0-is c.next.ensures.read)) c.repeat_statement.ensures
+pub statement_after_depth_check-returns-in-Some-Word-Repeat-default : goal.statement_after_depth_check-returns-in-Some-Word-Repeat-default
+statement_after_depth_check-returns-in-Some-Word-Repeat-default t c = rw (statement_seen (expr_at c.args.depth) (block_at c.args.depth) _ _ (word_stands c.args.tokens.now _ c.args.input c.in-Some-Word-Repeat-default.rest _ _ kinds.Repeat c.in-Some-Word-Repeat-default.is c.in-Some-Word-Repeat-default.field-0-0-is c.in-Some-Word-Repeat-default.field-0-0-0-is c.next.ensures.read)) c.repeat_statement.ensures
 
-pub statement_within-returns-in-Some-Word-While-default : goal.statement_within-returns-in-Some-Word-While-default
-statement_within-returns-in-Some-Word-While-default t c = rw (statement_seen (expr_at c.args.depth) (block_at c.args.depth) _ _ (word_stands c.args.tokens.now _ c.args.input c.in-Some-Word-While-default.rest _ _ kinds.While c.in-Some-Word-While-default.is c.in-Some-Word-While-default.field-0-0-is c.in-Some-Word-While-default.field-0-0-0-is c.next.ensures.read)) c.while_statement.ensures
+pub statement_after_depth_check-returns-in-Some-Word-While-default : goal.statement_after_depth_check-returns-in-Some-Word-While-default
+statement_after_depth_check-returns-in-Some-Word-While-default t c = rw (statement_seen (expr_at c.args.depth) (block_at c.args.depth) _ _ (word_stands c.args.tokens.now _ c.args.input c.in-Some-Word-While-default.rest _ _ kinds.While c.in-Some-Word-While-default.is c.in-Some-Word-While-default.field-0-0-is c.in-Some-Word-While-default.field-0-0-0-is c.next.ensures.read)) c.while_statement.ensures
 
-pub statement_within-returns-in_default : goal.statement_within-returns-in_default
+pub statement_after_depth_check-returns-in_default : goal.statement_after_depth_check-returns-in_default
 unfolding statement_with
-statement_within-returns-in_default t c = grind (arith, made)
+statement_after_depth_check-returns-in_default t c = grind (arith, made)
 
 pub while_statement-returns : goal.while_statement-returns
 unfolding while_with
@@ -133,4 +133,4 @@ while_statement-returns t c = rw (c.in_ok-first.ensures, c.in_ok-rest.ensures, c
 
 pub optional_block-returns-in-Some : goal.optional_block-returns-in-Some
 optional_block-returns-in-Some t c =
-    gives_some c.args.tokens.now c.block.result (λ b. block_events b.value) c.some.result (accept_at c.args.word) _ _ _ c.some.ensures (sym c.in-Some.ensures.read) c.block.ensures
+    gives_some c.args.tokens.now c.block.result (λ b. block_events b.value) c.wrap_in_some.result (accept_at c.args.word) _ _ _ c.wrap_in_some.ensures (sym c.in-Some.ensures.read) c.block.ensures

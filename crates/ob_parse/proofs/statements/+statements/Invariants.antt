@@ -1,5 +1,5 @@
 use Rattle.std.proofs.Common.{◌+◌, ◌*◌, length}
-use Rattle.ob_grammar.specs.AgreesWith.{remaining}
+use Rattle.ob_grammar.specs.ParsesAs.{remaining}
 use Rattle.ob_grammar.proofs.Repetitions.{branches, cases, statements}
 use Rattle.ob_grammar.proofs.Turns.{AreTurnsRead}
 use Rattle.ob_parse.proofs.statements.+statements.Given as goal
@@ -52,8 +52,8 @@ decreases-repeat_statement l = 16 * l.depth + 11
 abbrev pub decreases-for_statement : goal.decreases-for_statement
 decreases-for_statement l = 16 * l.depth + 11
 
-abbrev pub decreases-statement_within : goal.decreases-statement_within
-decreases-statement_within l = 16 * l.depth + 12
+abbrev pub decreases-statement_after_depth_check : goal.decreases-statement_after_depth_check
+decreases-statement_after_depth_check l = 16 * l.depth + 12
 
 abbrev pub invariant-more_statements-more : goal.invariant-more_statements-more
 invariant-more_statements-more l = AreTurnsRead l.fn.tokens (statements l.depth) l.rest.items l.fn.input l.here

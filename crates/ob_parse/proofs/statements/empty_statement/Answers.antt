@@ -7,4 +7,4 @@ use Rattle.ob_parse.proofs.statements.empty_statement.Goals as goal
 
 pub returns : goal.returns
 unfolding statement_at empty_at
-returns c = gives_boxed c.args.tokens.now stmt_events _ _ c.boxed.result _ c.boxed.ensures.of c.boxed.ensures.refused (grind (arith, made))
+returns c = gives_boxed c.args.tokens.now stmt_events _ _ c.box_value.result _ c.box_value.ensures.of c.box_value.ensures.refused (grind (arith, made))

@@ -4,7 +4,7 @@ use Rattle.ob_tree.specs.declared.token.Leaf.TheVariants as leafs
 use Rattle.ob_tree.specs.declared.declaration.Record.{roll-Record}
 use Rattle.ob_tree.specs.Types.{var_events, fields_events, type_events}
 use Rattle.ob_grammar.specs.Combinators.{limit_at, unless}
-use Rattle.ob_grammar.specs.AgreesWith.{skipped}
+use Rattle.ob_grammar.specs.ParsesAs.{skipped}
 use Rattle.ob_grammar.specs.ReadTypes.{var_with, type_at, fields_with, record_with, type_with}
 use Rattle.ob_tree.proofs.TypeLayers.{types_made, array_made, pointer_made, record_of_made, record_made, fields_made, var_made}
 use Rattle.ob_parse.proofs.Boxes.{gives_boxed}
@@ -37,7 +37,7 @@ array-returns t c = rw (c.in_ok-lengths.ensures, c.in_ok-rest.ensures.read, c.in
 
 pub fields-returns : goal.fields-returns
 unfolding fields_with
-fields-returns t c = gives_boxed c.args.tokens.now fields_events _ _ c.boxed.result _ c.boxed.ensures.of c.boxed.ensures.refused (rw (c.in_ok-first.ensures, c.in_ok-rest.ensures, sym c.skip-closing_semicolon.ensures.read, fields_made c.into_inner.result c.in_ok-rest.rest c.skip-closing_semicolon.result.0, c.into_inner.ensures) refl)
+fields-returns t c = gives_boxed c.args.tokens.now fields_events _ _ c.box_value.result _ c.box_value.ensures.of c.box_value.ensures.refused (rw (c.in_ok-first.ensures, c.in_ok-rest.ensures, sym c.skip-closing_semicolon.ensures.read, fields_made c.into_inner.result c.in_ok-rest.rest c.skip-closing_semicolon.result.0, c.into_inner.ensures) refl)
 
 pub pointer-returns : goal.pointer-returns
 pointer-returns t c = rw (c.in_ok-rest.ensures.read, c.in_ok-to.ensures, pointer_made c.in_ok-to.to) refl
@@ -48,39 +48,39 @@ record-returns t c = rw (c.in_ok-base.ensures.read, c.in_ok-fields.ensures, c.in
 
 pub optional_fields-returns : goal.optional_fields-returns
 optional_fields-returns t c =
-    gives_some c.args.tokens.now c.fields.result (λ l. fields_events l.value) c.some.result (unless kinds.End) _ _ _ c.some.ensures (not_closed kinds.End _ (sym c.is_at.ensures ∙ c.if-is_at.false)) c.fields.ensures
+    gives_some c.args.tokens.now c.fields.result (λ l. fields_events l.value) c.wrap_in_some.result (unless kinds.End) _ _ _ c.wrap_in_some.ensures (not_closed kinds.End _ (sym c.next_is.ensures ∙ c.if-next_is.false)) c.fields.ensures
 
-pub optional_fields-returns-then-is_at : goal.optional_fields-returns-then-is_at
+pub optional_fields-returns-then-next_is : goal.optional_fields-returns-then-next_is
 unfolding unless
-optional_fields-returns-then-is_at t c = grind arith
+optional_fields-returns-then-next_is t c = grind arith
 
 pub type_expression-returns : goal.type_expression-returns
 unfolding type_at limit_at
-type_expression-returns t c = gives_boxed c.args.tokens.now type_events _ _ c.boxed.result _ c.boxed.ensures.of c.boxed.ensures.refused (grind arith)
+type_expression-returns t c = gives_boxed c.args.tokens.now type_events _ _ c.box_value.result _ c.box_value.ensures.of c.box_value.ensures.refused (grind arith)
 
 pub type_expression-returns-then-depth-eq0 : goal.type_expression-returns-then-depth-eq0
 unfolding type_at limit_at
 type_expression-returns-then-depth-eq0 t c = grind arith
 
-pub type_within-returns-in-Some-Name-default : goal.type_within-returns-in-Some-Name-default
-type_within-returns-in-Some-Name-default t c = rw (type_seen (expr_at c.args.depth) (type_at c.args.depth) _ _ (leaf_stands c.args.tokens.now _ c.args.input c.in-Some-Name-default.rest _ (leafs.Name c.in-Some-Name-default.head) c.in-Some-Name-default.is c.in-Some-Name-default.field-0-0-is c.next.ensures.read)) c.named_type.ensures
+pub type_after_depth_check-returns-in-Some-Name-default : goal.type_after_depth_check-returns-in-Some-Name-default
+type_after_depth_check-returns-in-Some-Name-default t c = rw (type_seen (expr_at c.args.depth) (type_at c.args.depth) _ _ (leaf_stands c.args.tokens.now _ c.args.input c.in-Some-Name-default.rest _ (leafs.Name c.in-Some-Name-default.head) c.in-Some-Name-default.is c.in-Some-Name-default.field-0-0-is c.next.ensures.read)) c.named_type.ensures
 
-pub type_within-returns-in-Some-Word-Array-default : goal.type_within-returns-in-Some-Word-Array-default
-type_within-returns-in-Some-Word-Array-default t c = rw (type_seen (expr_at c.args.depth) (type_at c.args.depth) _ _ (word_stands c.args.tokens.now _ c.args.input c.in-Some-Word-Array-default.rest _ _ kinds.Array c.in-Some-Word-Array-default.is c.in-Some-Word-Array-default.field-0-0-is c.in-Some-Word-Array-default.field-0-0-0-is c.next.ensures.read)) c.array.ensures
+pub type_after_depth_check-returns-in-Some-Word-Array-default : goal.type_after_depth_check-returns-in-Some-Word-Array-default
+type_after_depth_check-returns-in-Some-Word-Array-default t c = rw (type_seen (expr_at c.args.depth) (type_at c.args.depth) _ _ (word_stands c.args.tokens.now _ c.args.input c.in-Some-Word-Array-default.rest _ _ kinds.Array c.in-Some-Word-Array-default.is c.in-Some-Word-Array-default.field-0-0-is c.in-Some-Word-Array-default.field-0-0-0-is c.next.ensures.read)) c.array.ensures
 
-pub type_within-returns-in-Some-Word-Pointer-default : goal.type_within-returns-in-Some-Word-Pointer-default
-type_within-returns-in-Some-Word-Pointer-default t c = rw (type_seen (expr_at c.args.depth) (type_at c.args.depth) _ _ (word_stands c.args.tokens.now _ c.args.input c.in-Some-Word-Pointer-default.rest _ _ kinds.Pointer c.in-Some-Word-Pointer-default.is c.in-Some-Word-Pointer-default.field-0-0-is c.in-Some-Word-Pointer-default.field-0-0-0-is c.next.ensures.read)) c.pointer.ensures
+pub type_after_depth_check-returns-in-Some-Word-Pointer-default : goal.type_after_depth_check-returns-in-Some-Word-Pointer-default
+type_after_depth_check-returns-in-Some-Word-Pointer-default t c = rw (type_seen (expr_at c.args.depth) (type_at c.args.depth) _ _ (word_stands c.args.tokens.now _ c.args.input c.in-Some-Word-Pointer-default.rest _ _ kinds.Pointer c.in-Some-Word-Pointer-default.is c.in-Some-Word-Pointer-default.field-0-0-is c.in-Some-Word-Pointer-default.field-0-0-0-is c.next.ensures.read)) c.pointer.ensures
 
-pub type_within-returns-in-Some-Word-Procedure-default : goal.type_within-returns-in-Some-Word-Procedure-default
-type_within-returns-in-Some-Word-Procedure-default t c = rw (type_seen (expr_at c.args.depth) (type_at c.args.depth) _ _ (word_stands c.args.tokens.now _ c.args.input c.in-Some-Word-Procedure-default.rest _ _ kinds.Procedure c.in-Some-Word-Procedure-default.is c.in-Some-Word-Procedure-default.field-0-0-is c.in-Some-Word-Procedure-default.field-0-0-0-is c.next.ensures.read)) c.procedure.ensures
+pub type_after_depth_check-returns-in-Some-Word-Procedure-default : goal.type_after_depth_check-returns-in-Some-Word-Procedure-default
+type_after_depth_check-returns-in-Some-Word-Procedure-default t c = rw (type_seen (expr_at c.args.depth) (type_at c.args.depth) _ _ (word_stands c.args.tokens.now _ c.args.input c.in-Some-Word-Procedure-default.rest _ _ kinds.Procedure c.in-Some-Word-Procedure-default.is c.in-Some-Word-Procedure-default.field-0-0-is c.in-Some-Word-Procedure-default.field-0-0-0-is c.next.ensures.read)) c.procedure.ensures
 
-pub type_within-returns-in-Some-Word-Record-default : goal.type_within-returns-in-Some-Word-Record-default
-type_within-returns-in-Some-Word-Record-default t c = rw (type_seen (expr_at c.args.depth) (type_at c.args.depth) _ _ (word_stands c.args.tokens.now _ c.args.input c.in-Some-Word-Record-default.rest _ _ kinds.Record c.in-Some-Word-Record-default.is c.in-Some-Word-Record-default.field-0-0-is c.in-Some-Word-Record-default.field-0-0-0-is c.next.ensures.read)) c.record.ensures
+pub type_after_depth_check-returns-in-Some-Word-Record-default : goal.type_after_depth_check-returns-in-Some-Word-Record-default
+type_after_depth_check-returns-in-Some-Word-Record-default t c = rw (type_seen (expr_at c.args.depth) (type_at c.args.depth) _ _ (word_stands c.args.tokens.now _ c.args.input c.in-Some-Word-Record-default.rest _ _ kinds.Record c.in-Some-Word-Record-default.is c.in-Some-Word-Record-default.field-0-0-is c.in-Some-Word-Record-default.field-0-0-0-is c.next.ensures.read)) c.record.ensures
 
-pub type_within-returns-in_default : goal.type_within-returns-in_default
+pub type_after_depth_check-returns-in_default : goal.type_after_depth_check-returns-in_default
 unfolding type_with
-type_within-returns-in_default t c = grind (arith, types_made)
+type_after_depth_check-returns-in_default t c = grind (arith, types_made)
 
 pub var_declaration-returns : goal.var_declaration-returns
 unfolding var_with
-var_declaration-returns t c = gives_boxed c.args.tokens.now var_events _ _ c.boxed.result _ c.boxed.ensures.of c.boxed.ensures.refused (rw (c.in_ok-names.ensures, c.in_ok-here.ensures.read, c.in_ok-type_expr.ensures, var_made c.in_ok-names.names c.into_inner-type_expr.result, c.into_inner-type_expr.ensures) refl)
+var_declaration-returns t c = gives_boxed c.args.tokens.now var_events _ _ c.box_value.result _ c.box_value.ensures.of c.box_value.ensures.refused (rw (c.in_ok-names.ensures, c.in_ok-here.ensures.read, c.in_ok-type_expr.ensures, var_made c.in_ok-names.names c.into_inner-type_expr.result, c.into_inner-type_expr.ensures) refl)

@@ -1,5 +1,5 @@
 use Rattle.std.proofs.Common.{◌+◌, ◌*◌, length}
-use Rattle.ob_grammar.specs.AgreesWith.{remaining}
+use Rattle.ob_grammar.specs.ParsesAs.{remaining}
 use Rattle.ob_grammar.proofs.Repetitions.{field_lists}
 use Rattle.ob_grammar.proofs.Turns.{AreTurnsRead}
 use Rattle.ob_parse.proofs.types.+types.Given as goal
@@ -31,8 +31,8 @@ invariant-more_field_lists-more l = AreTurnsRead l.fn.tokens (field_lists l.dept
 abbrev pub decreases-more_field_lists-more : goal.decreases-more_field_lists-more
 decreases-more_field_lists-more l = length (remaining l.fn.tokens l.here)
 
-abbrev pub decreases-type_within : goal.decreases-type_within
-decreases-type_within l = 16 * l.depth + 8
+abbrev pub decreases-type_after_depth_check : goal.decreases-type_after_depth_check
+decreases-type_after_depth_check l = 16 * l.depth + 8
 
 abbrev pub decreases-array : goal.decreases-array
 decreases-array l = 16 * l.depth + 7

@@ -1,5 +1,5 @@
 use Rattle.std.proofs.Common.{ap, ◌∙◌}
-use Rattle.ob_types.specs.World.{World}
+use Rattle.ob_view.specs.World.{World}
 use Rattle.ob_targets.specs.Steps.{guard_type}
 use Rattle.ob_resolve.proofs.Selecting.{led_to_elements, led_to_target, led_by_guard}
 use Rattle.ob_resolve.proofs.selectors.follow_selector.Goals as goal

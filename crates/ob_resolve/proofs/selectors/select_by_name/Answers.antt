@@ -1,5 +1,5 @@
 use Rattle.std.proofs.Common.{ap, ◌∙◌}
-use Rattle.ob_types.specs.World.{World}
+use Rattle.ob_view.specs.World.{World}
 use Rattle.ob_targets.specs.Targets.{target_type}
 use Rattle.ob_resolve.proofs.Selecting.{led_to_field}
 use Rattle.ob_resolve.proofs.selectors.select_by_name.Goals as goal

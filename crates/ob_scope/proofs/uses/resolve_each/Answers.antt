@@ -24,12 +24,12 @@ loop-k-init c =
       counted = counted_none name c.args.blocks.now c.args.members.now c.args.uses.now c.args.counts.now c.requires.as_many c.requires.zero;
     }
 
-pub meaning-requires-clause-before : goal.meaning-requires-clause-before
-meaning-requires-clause-before c = λ p m below there.
+pub resolve_use-requires-clause-before : goal.resolve_use-requires-clause-before
+resolve_use-requires-clause-before c = λ p m below there.
     c.loop-k.invariant.before c.loop-k.k p _ m (omega arith) (slice_get-get_or c.args.uses.now c.loop-k.k _ c.loop-k-test.true) below there
 
-pub meaning-requires-clause-walk : goal.meaning-requires-clause-walk
-meaning-requires-clause-walk c =
+pub resolve_use-requires-clause-walk : goal.resolve_use-requires-clause-walk
+resolve_use-requires-clause-walk c =
     let uses = c.args.uses.now in
     let at = slice_get-get_or uses c.loop-k.k _ c.loop-k-test.true in
     (uses, c.loop-k.invariant.walk c.loop-k.k _ (omega arith) at, use_row _ (contains_slice uses c.loop-k.k _ at) refl refl)

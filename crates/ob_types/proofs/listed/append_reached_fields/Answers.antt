@@ -1,15 +1,16 @@
-use Rattle.std.proofs.Common.{◌≡◌, ◌<◌, ◌≤◌, ◌∙◌, Some, ap, arith, length, map, sym}
+use Rattle.std.proofs.Common.{◌≡◌, ◌<◌, ◌≤◌, ◌∙◌, List, Some, ap, arith, length, map, subst, sym}
 use Rattle.std.specs.Prelude.{slice_get}
 use Rattle.std.specs.Arc.{arc_value}
 use Rattle.std.proofs.lemmas.List.{get_or-map, length-map}
 use Rattle.std.proofs.lemmas.Option.{slice_get-get_or}
 use Rattle.ob_interface.specs.Interfaces.{ModuleInterface}
+use Rattle.ob_types.specs.FieldLists.{ListsReached}
 use Rattle.ob_types.proofs.Telling.{module_more, reached_told, stay_on}
 use Rattle.ob_types.proofs.listed.append_reached_fields.Goals as goal
 
 pub loop-at-preserved : goal.loop-at-preserved
 loop-at-preserved c =
-    let reached = c.args.parts.now.reached.now in
+    let reached = c.reached-reached.result.now in
     let at = c.loop-at.at in
     let element = c.index-reached-at.result in
     let all : at < length (map arc_value reached) = omega (arith, length-map reached arc_value) in
@@ -23,6 +24,7 @@ loop-at-preserved c =
 
 pub returns : goal.returns
 returns c =
-    let reached = c.args.parts.now.reached.now in
+    let reached = c.reached-reached.result.now in
     let all : length (map arc_value reached) ≤ c.loop-at.at = omega (arith, length-map reached arc_value) in
-    reached_told (map arc_value reached) c.loop-at.at c.args.fields.now.items c.loop-at.fields.items c.loop-at.invariant.stay c.loop-at.invariant.listed all
+    subst (λ (ms : List ModuleInterface). ListsReached ms c.args.fields.now.items c.loop-at.fields.items) c.reached-reached.ensures
+    (reached_told (map arc_value reached) c.loop-at.at c.args.fields.now.items c.loop-at.fields.items c.loop-at.invariant.stay c.loop-at.invariant.listed all)

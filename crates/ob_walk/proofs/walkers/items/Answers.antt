@@ -10,6 +10,6 @@ returns c =
     let out = items_of (module_events c.args.«module».now) in
     let emit = λ (s : List Item × ℕ). with_items s out in
     let count : c.count.result ≡ min (0 + length out) 18446744073709551615 =
-    c.count.ensures ∙ ap (λ (s : List Item × ℕ). s.1) (c.walk_module.ensures ∙ ap emit c.over-counted.ensures) ∙ counted (c.new.result.items, 0) out (omega arith) in
+    c.count.ensures ∙ ap (λ (s : List Item × ℕ). s.1) (c.walk_module.ensures ∙ ap emit c.with_slots-counted.ensures) ∙ counted (c.new.result.items, 0) out (omega arith) in
     let slots : length c.in_ok-vec.field-0.items ≡ length out = omega (arith, count, c.in_ok-vec.field-0.ok, c.in_ok-vec.field-0.small, c.in_ok-vec.ensures.len) in
-    c.slots.ensures ∙ ap (λ (s : List Item × ℕ). s.0) (c.walk_module-2.ensures ∙ ap emit c.over-filled.ensures) ∙ filled c.in_ok-vec.field-0.items out slots (omega arith)
+    c.slots.ensures ∙ ap (λ (s : List Item × ℕ). s.0) (c.walk_module-2.ensures ∙ ap emit c.with_slots-filled.ensures) ∙ filled c.in_ok-vec.field-0.items out slots (omega arith)

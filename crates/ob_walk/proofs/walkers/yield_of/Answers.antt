@@ -12,7 +12,7 @@ overflow_cast-position c =
 
 pub loop-item-preserved : goal.loop-item-preserved
 loop-item-preserved c = (
-  rw (c.in_ok-push.ensures.items, c.number_of.ensures, c.len-position.ensures, c.loop-item.invariant.0, c.loop-item.invariant.1)
+  rw (c.in_ok-push.ensures.items, c.token_number.ensures, c.len-position.ensures, c.loop-item.invariant.0, c.loop-item.invariant.1)
       (sym (numbers-with_items c.deref-item-items.result.now c.loop-item.item-index _ c.loop-item-test.true)),
   rw (c.in_ok-push.ensures.len, c.loop-item.invariant.1) (omega arith),
 )

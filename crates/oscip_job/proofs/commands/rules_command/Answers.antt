@@ -1,4 +1,4 @@
 use Rattle.oscip_job.proofs.commands.rules_command.Goals as goal
 
 pub returns : goal.returns
-returns c = c.with_tree_options.ensures _ (c.with_required_argument-command-2.ensures _ (c.with_required_argument-command.ensures _ c.named-command.ensures))
+returns c = c.with_tree_options.ensures _ (c.with_required_argument-command-2.ensures _ (c.with_required_argument-command.ensures _ c.new_command-command.ensures))

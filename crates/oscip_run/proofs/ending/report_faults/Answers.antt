@@ -11,6 +11,6 @@ loop-fault-preserved g c =
     let at = c.loop-fault in
     let steps : into_iter_items at.fault-iterator ≡ c.in-Some.fault ∷ into_iter_items c.next.new.self = c.in-Some.ensures.steps.0 in
     record {
-      reported = more c.in-Some.fault c.report_left_out-all.result at.invariant.reported c.report_left_out-all.ensures;
+      reported = more c.in-Some.fault c.report_skipped_file-all.result at.invariant.reported c.report_skipped_file-all.ensures;
       whole = append_assoc at.yielded (c.in-Some.fault ∷ []) _ ∙ rw (← steps) at.invariant.whole;
     }

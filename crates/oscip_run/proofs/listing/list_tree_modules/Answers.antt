@@ -26,8 +26,8 @@ paths_by_module-requires-clause-within g c =
     let (files, all) = c.in_ok-located.ensures.modules in
     rw (c.as_slice-modules.ensures.value, c.nodes.ensures) (modules_within c.args.sources.now c.in_ok-located.located.net c.in_ok-located.located.modules.items files all)
 
-pub located_modules-requires : goal.located_modules-requires
-located_modules-requires g c = ap length c.as_slice.ensures.value ∙ c.in_ok-paths.ensures.size ∙ c.nodes.ensures
+pub modules_with_paths-requires : goal.modules_with_paths-requires
+modules_with_paths-requires g c = ap length c.as_slice.ensures.value ∙ c.in_ok-paths.ensures.size ∙ c.nodes.ensures
 
 pub returns-in_err-write_lines-clause-run : goal.returns-in_err-write_lines-clause-run
 returns-in_err-write_lines-clause-run g c =

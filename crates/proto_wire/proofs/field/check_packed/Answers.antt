@@ -1,7 +1,7 @@
 use Rattle.std.proofs.Common.{◌++◌, ◌∷◌, [], refl, sym}
 use Rattle.std.proofs.lemmas.Result.{err_from_is_err_and}
 use Rattle.std.proofs.lemmas.Bool.{eqb-true}
-use Rattle.proto_wire.specs.Packed.{int32}
+use Rattle.proto_wire.specs.Packed.{varint_to_int32}
 use Rattle.proto_wire.proofs.PieceLaws.{some_from_test}
 use Rattle.proto_wire.proofs.PackedLaws.{Counts-start, Counts-step, Counts-fault, Counts-end}
 use Rattle.proto_wire.proofs.field.check_packed.Goals as goal
@@ -20,7 +20,7 @@ pub loop-rest-preserved : goal.loop-rest-preserved
 loop-rest-preserved c =
     let read = c.loop-rest.invariant in
     let here = c.in_ok-after in
-    (read.0 ++ int32 here.field-0-0 ∷ [], Counts-step c.args.at c.args.payload.now read.0 c.loop-rest.rest.now here.field-0-0 here.after.now read.1 here.ensures.value here.ensures.shorter)
+    (read.0 ++ varint_to_int32 here.field-0-0 ∷ [], Counts-step c.args.at c.args.payload.now read.0 c.loop-rest.rest.now here.field-0-0 here.after.now read.1 here.ensures.value here.ensures.shorter)
 
 pub returns-clause-clean : goal.returns-clause-clean
 returns-clause-clean c =

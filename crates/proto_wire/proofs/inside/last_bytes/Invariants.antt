@@ -1,11 +1,11 @@
 use Rattle.std.proofs.Common.{◌≡◌, ◌+◌, [], length}
 use Rattle.proto_wire.specs.MessageBytes.{records_of}
-use Rattle.proto_wire.specs.Messages.{bytes_in, each_of, latest}
+use Rattle.proto_wire.specs.Messages.{bytes_in, field_values, latest}
 use Rattle.proto_wire.proofs.inside.last_bytes.Given as goal
 
 abbrev pub invariant-loop-wire : goal.invariant-loop-wire
 invariant-loop-wire l = record {
-  same : latest [] (each_of l.field bytes_in (records_of l.message)) ≡ latest l.last (each_of l.field bytes_in (records_of l.rest));
+  same : latest [] (field_values l.field bytes_in (records_of l.message)) ≡ latest l.last (field_values l.field bytes_in (records_of l.rest));
   within : l.rest.start + length l.rest.bytes.now ≡ l.message.start + length l.message.bytes.now;
 }
 

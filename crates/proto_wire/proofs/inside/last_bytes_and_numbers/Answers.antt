@@ -1,7 +1,7 @@
 use Rattle.std.proofs.Common.{List, ◌++◌, ℤ, ◌∙◌, ap, sym, append_assoc}
 use Rattle.std.proofs.lemmas.List.{append-nil}
 use Rattle.proto_wire.specs.MessageBytes.{records_of}
-use Rattle.proto_wire.specs.Messages.{bytes_in, each_of, if_field, numbers_in, payload_record}
+use Rattle.proto_wire.specs.Messages.{bytes_in, field_values, if_field, numbers_in, payload_record}
 use Rattle.proto_wire.proofs.InsideLaws.{each_none, each_then, latest_none, latest_then}
 use Rattle.proto_wire.proofs.inside.last_bytes_and_numbers.Goals as goal
 
@@ -13,8 +13,8 @@ loop-wire-preserved c =
       text = c.loop-wire.invariant.text
           ∙ latest_then c.args.text_field bytes_in c.loop-wire.text.now c.bytes_or_last-text.result.now (records_of c.loop-wire.rest) p (records_of c.next_record.new.rest) c.in-Some.ensures.some c.bytes_or_last-text.ensures;
       numbers = c.loop-wire.invariant.numbers ∙ ap (λ (zs : List ℤ). c.loop-wire.numbers.items ++ zs) more
-          ∙ sym (append_assoc c.loop-wire.numbers.items (if_field c.args.numbers_field c.in-Some.wire (numbers_in p)) (each_of c.args.numbers_field numbers_in (records_of c.next_record.new.rest)))
-          ∙ ap (λ (zs : List ℤ). zs ++ each_of c.args.numbers_field numbers_in (records_of c.next_record.new.rest)) (sym c.in_ok-append_field_numbers.ensures.numbers);
+          ∙ sym (append_assoc c.loop-wire.numbers.items (if_field c.args.numbers_field c.in-Some.wire (numbers_in p)) (field_values c.args.numbers_field numbers_in (records_of c.next_record.new.rest)))
+          ∙ ap (λ (zs : List ℤ). zs ++ field_values c.args.numbers_field numbers_in (records_of c.next_record.new.rest)) (sym c.in_ok-append_field_numbers.ensures.numbers);
       within = c.in-Some.ensures.within ∙ c.loop-wire.invariant.within;
     }
 

@@ -1,12 +1,12 @@
 use Rattle.std.proofs.Common.{◌≡◌, ◌+◌, ◌++◌, [], length}
 use Rattle.proto_wire.specs.MessageBytes.{records_of}
-use Rattle.proto_wire.specs.Messages.{bytes_in, each_of, latest, numbers_in}
+use Rattle.proto_wire.specs.Messages.{bytes_in, field_values, latest, numbers_in}
 use Rattle.proto_wire.proofs.inside.last_bytes_and_numbers.Given as goal
 
 abbrev pub invariant-loop-wire : goal.invariant-loop-wire
 invariant-loop-wire l = record {
-  text : latest [] (each_of l.text_field bytes_in (records_of l.message)) ≡ latest l.text (each_of l.text_field bytes_in (records_of l.rest));
-  numbers : each_of l.numbers_field numbers_in (records_of l.message) ≡ l.numbers.items ++ each_of l.numbers_field numbers_in (records_of l.rest);
+  text : latest [] (field_values l.text_field bytes_in (records_of l.message)) ≡ latest l.text (field_values l.text_field bytes_in (records_of l.rest));
+  numbers : field_values l.numbers_field numbers_in (records_of l.message) ≡ l.numbers.items ++ field_values l.numbers_field numbers_in (records_of l.rest);
   within : l.rest.start + length l.rest.bytes.now ≡ l.message.start + length l.message.bytes.now;
 }
 

@@ -1,11 +1,11 @@
 use Rattle.std.proofs.Common.{◌≡◌, ◌+◌, length, pos}
 use Rattle.proto_wire.specs.MessageBytes.{records_of}
-use Rattle.proto_wire.specs.Messages.{each_of, latest, number_in}
+use Rattle.proto_wire.specs.Messages.{field_values, latest, number_in}
 use Rattle.proto_wire.proofs.inside.last_number.Given as goal
 
 abbrev pub invariant-loop-wire : goal.invariant-loop-wire
 invariant-loop-wire l = record {
-  same : latest (pos 0) (each_of l.field number_in (records_of l.message)) ≡ latest l.last (each_of l.field number_in (records_of l.rest));
+  same : latest (pos 0) (field_values l.field number_in (records_of l.message)) ≡ latest l.last (field_values l.field number_in (records_of l.rest));
   within : l.rest.start + length l.rest.bytes.now ≡ l.message.start + length l.message.bytes.now;
 }
 

@@ -1,7 +1,7 @@
 use Rattle.std.proofs.Common.{List, ◌++◌, ℤ, ◌∙◌, ap, sym, append_assoc}
 use Rattle.std.proofs.lemmas.List.{append-nil}
 use Rattle.proto_wire.specs.MessageBytes.{records_of}
-use Rattle.proto_wire.specs.Messages.{each_of, if_field, numbers_in, payload_record}
+use Rattle.proto_wire.specs.Messages.{field_values, if_field, numbers_in, payload_record}
 use Rattle.proto_wire.proofs.InsideLaws.{each_none, each_then}
 use Rattle.proto_wire.proofs.inside.read_field_numbers.Goals as goal
 
@@ -11,8 +11,8 @@ loop-wire-preserved c =
     let more = each_then c.args.field numbers_in (records_of c.loop-wire.rest) p (records_of c.next_record.new.rest) c.in-Some.ensures.some in
     record {
       same = c.loop-wire.invariant.same ∙ ap (λ (zs : List ℤ). c.loop-wire.numbers.items ++ zs) more
-          ∙ sym (append_assoc c.loop-wire.numbers.items (if_field c.args.field c.in-Some.wire (numbers_in p)) (each_of c.args.field numbers_in (records_of c.next_record.new.rest)))
-          ∙ ap (λ (zs : List ℤ). zs ++ each_of c.args.field numbers_in (records_of c.next_record.new.rest)) (sym c.in_ok-append_field_numbers.ensures.numbers);
+          ∙ sym (append_assoc c.loop-wire.numbers.items (if_field c.args.field c.in-Some.wire (numbers_in p)) (field_values c.args.field numbers_in (records_of c.next_record.new.rest)))
+          ∙ ap (λ (zs : List ℤ). zs ++ field_values c.args.field numbers_in (records_of c.next_record.new.rest)) (sym c.in_ok-append_field_numbers.ensures.numbers);
       within = c.in-Some.ensures.within ∙ c.loop-wire.invariant.within;
     }
 

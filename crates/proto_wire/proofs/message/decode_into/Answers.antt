@@ -28,16 +28,16 @@ returns-in_err-wire-clause-err g c =
     (fault_of-end inside c.args.start c.args.bytes.now read.0 (Some fault) read.1
     (stop_found c.args.start c.args.bytes.now read.0 fault (IsSplit-fault c.args.start c.args.bytes.now read.0 c.loop-rest.at c.loop-rest.rest.now fault read.3 (some_from_test _ (sym c.loop-rest-test.ensures)) c.in_err-wire.ensures.exact))))
 
-pub returns-in_err-take-clause-err : goal.returns-in_err-take-clause-err
-returns-in_err-take-clause-err g c =
-    let p = err_from_is_err_and c.from_residual-in_err-take.result c.from_residual-in_err-take.ensures.1 in
+pub returns-in_err-decode_record-clause-err : goal.returns-in_err-decode_record-clause-err
+returns-in_err-decode_record-clause-err g c =
+    let p = err_from_is_err_and c.from_residual-in_err-decode_record.result c.from_residual-in_err-decode_record.ensures.1 in
     let read = c.loop-rest.invariant.read in
     let inside = g.M.Message.fault_in in
-    let fault = c.in_err-take.field-0.0 in
+    let fault = c.in_err-decode_record.field-0.0 in
     let here = c.in_ok-wire in
     let taken = payload_record here.wire here.payload.now in
     rw (p.1, p.2)
-    (UnlessMemory-then fault c.in_err-take.ensures.err
+    (UnlessMemory-then fault c.in_err-decode_record.ensures.err
     (λ e. fault_of-inside inside c.args.start c.args.bytes.now read.0 taken _ here.after.now fault read.1
     (IsSplit-step c.args.start c.args.bytes.now read.0 c.loop-rest.at c.loop-rest.rest.now taken here.after.now read.3 here.ensures.exact) e))
 
@@ -46,12 +46,12 @@ loop-rest-preserved g c =
     let read = c.loop-rest.invariant.read in
     let here = c.in_ok-wire in
     let taken = payload_record here.wire here.payload.now in
-    let now = c.take.new.self in
+    let now = c.decode_record.new.self in
     record {
       read = (
         read.0 ++ taken ∷ [],
-        IsClean-push g.M.Message.fault_in read.0 taken read.1 c.in_ok-take.ensures.clean,
-        λ before h. subst (λ (ps : List PayloadRecord). g.M.Message.means now ps) (append_assoc before read.0 (taken ∷ [])) (c.in_ok-take.ensures.means (before ++ read.0) (read.2 before h)),
+        IsClean-push g.M.Message.fault_in read.0 taken read.1 c.in_ok-decode_record.ensures.clean,
+        λ before h. subst (λ (ps : List PayloadRecord). g.M.Message.means now ps) (append_assoc before read.0 (taken ∷ [])) (c.in_ok-decode_record.ensures.means (before ++ read.0) (read.2 before h)),
         IsSplit-step c.args.start c.args.bytes.now read.0 c.loop-rest.at c.loop-rest.rest.now taken here.after.now read.3 here.ensures.exact,
       );
       inside = omega (arith, here.ensures.shorter);

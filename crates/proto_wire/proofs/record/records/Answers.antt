@@ -6,7 +6,7 @@ use Rattle.proto_wire.specs.Records.{PayloadRecord}
 use Rattle.proto_wire.proofs.FaultLaws.{UnlessMemory-from}
 use Rattle.proto_wire.proofs.PieceLaws.{some_from_test}
 use Rattle.proto_wire.proofs.RowLaws.{IsSplit-start, IsSplit-step, IsSplit-fault, IsSplit-end}
-use Rattle.proto_wire.proofs.PieceReadings.{one_outcome}
+use Rattle.proto_wire.proofs.PieceReadings.{outcome_is_unique}
 use Rattle.proto_wire.proofs.record.records.Goals as goal
 
 pub loop-rest-init : goal.loop-rest-init
@@ -20,7 +20,7 @@ returns-in_err-record c =
     let stopped = IsSplit-fault 0 c.args.bytes.now read.0 c.loop-rest.at c.loop-rest.rest.now fault read.2 (some_from_test _ (sym c.loop-rest-test.ensures)) c.in_err-record.ensures.exact in
     rw (p.1, p.2) (record {
       exact = UnlessMemory-from fault (read.0, stopped);
-      only = λ o h. UnlessMemory-from fault (one_outcome c.args.bytes.now (Err fault) o (read.0, stopped) h);
+      only = λ o h. UnlessMemory-from fault (outcome_is_unique c.args.bytes.now (Err fault) o (read.0, stopped) h);
     })
 
 pub loop-rest-preserved : goal.loop-rest-preserved
@@ -38,4 +38,4 @@ returns c =
     let read = c.loop-rest.invariant.read in
     let bytes = c.args.bytes.now in
     let whole = IsSplit-end 0 bytes read.0 c.loop-rest.at c.loop-rest.rest.now read.2 (eqb-true _ _ (sym c.loop-rest-test.ensures)) in
-    record { exact = (read.0, whole, read.1); only = λ o h. one_outcome bytes (Ok c.loop-rest.found.items) o (read.0, whole, read.1) h }
+    record { exact = (read.0, whole, read.1); only = λ o h. outcome_is_unique bytes (Ok c.loop-rest.found.items) o (read.0, whole, read.1) h }

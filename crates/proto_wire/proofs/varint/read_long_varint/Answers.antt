@@ -12,6 +12,6 @@ returns-in_err-high-in-len5-up-clause-value c =
 pub returns-in_ok-high-in-len5-up-clause-value : goal.returns-in_ok-high-in-len5-up-clause-value
 returns-in_ok-high-in-len5-up-clause-value c =
     let it = c.in_ok-high-in-len5-up in
-    five_then c.args.at c.args.bytes.now c.low.result c.low-in-len5-up.result c.low-in-len5-up-2.result c.low-in-len5-up-3.result c.low-in-len5-up-4.result it.high it.rest.now c.in-len5-up.len_at_least
+    five_then c.args.at c.args.bytes.now c.low_bits.result c.low_bits-in-len5-up.result c.low_bits-in-len5-up-2.result c.low_bits-in-len5-up-3.result c.low_bits-in-len5-up-4.result it.high it.rest.now c.in-len5-up.len_at_least
     c.if-a-ge128.true c.if-b-ge128.true c.if-c-ge128.true c.if-d-ge128.true c.if-e-ge128.true
-    c.low.ensures.exact c.low-in-len5-up.ensures.exact c.low-in-len5-up-2.ensures.exact c.low-in-len5-up-3.ensures.exact c.low-in-len5-up-4.ensures.exact it.ensures.value
+    c.low_bits.ensures.exact c.low_bits-in-len5-up.ensures.exact c.low_bits-in-len5-up-2.ensures.exact c.low_bits-in-len5-up-3.ensures.exact c.low_bits-in-len5-up-4.ensures.exact it.ensures.value

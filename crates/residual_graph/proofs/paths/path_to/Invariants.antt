@@ -6,8 +6,8 @@ use Rattle.residual_graph.proofs.paths.path_to.Given as goal
 
 abbrev pub invariant-loop-at : goal.invariant-loop-at
 invariant-loop-at l = record {
-  within : 0 < l.at → l.at < length l.found.places.items;
-  walking : (g : Graph) (start : ℕ) → IsSearchOf g start l.found → Walking g l.found.places.items l.initial.at l.at l.path.items;
+  within : 0 < l.at → l.at < length l.found.visits.items;
+  walking : (g : Graph) (start : ℕ) → IsSearchOf g start l.found → Walking g l.found.visits.items l.initial.at l.at l.path.items;
 }
 
 abbrev pub decreases-loop-at : goal.decreases-loop-at

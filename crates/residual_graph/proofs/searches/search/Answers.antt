@@ -11,9 +11,9 @@ returns-clause-reached c =
     let z = c.loop-place.invariant.search in
     let past = c.loop-place-test.false in
     let len = c.len.ensures in
-    let ok = c.loop-place.places.ok.0 in
-    reached c.args.graph.now c.args.start c.loop-place.reached_flags.items c.loop-place.places.items z.tree
-    (searching_end c.args.graph.now c.args.start c.loop-place.reached_flags.items c.loop-place.places.items c.loop-place.place _ 0 z (omega arith))
+    let ok = c.loop-place.visits.ok.0 in
+    reached c.args.graph.now c.args.start c.loop-place.reached_flags.items c.loop-place.visits.items z.tree
+    (searching_end c.args.graph.now c.args.start c.loop-place.reached_flags.items c.loop-place.visits.items c.loop-place.place _ 0 z (omega arith))
 
 pub loop-place-preserved : goal.loop-place-preserved
 loop-place-preserved c = record {
@@ -30,14 +30,14 @@ loop-place-smaller c =
     let few = count_by-le-length (λ (s : Bool). s) c.loop-place.reached_flags.items in
     let within = c.loop-place-test.true in
     let len = c.len.ensures in
-    let ok = c.loop-place.places.ok.0 in
+    let ok = c.loop-place.visits.ok.0 in
     omega arith
 
 pub visit_heads-requires-clause-node : goal.visit_heads-requires-clause-node
 visit_heads-requires-clause-node c =
     let within = c.loop-place-test.true in
     let len = c.len.ensures in
-    let ok = c.loop-place.places.ok.0 in
+    let ok = c.loop-place.visits.ok.0 in
     (c.loop-place.invariant.search.tree.listed c.loop-place.place (omega arith)).0
 
 pub invariant_of-result : goal.invariant_of-result
@@ -47,8 +47,8 @@ pub returns-clause-closed : goal.returns-clause-closed
 returns-clause-closed c =
     let past = c.loop-place-test.false in
     let len = c.len.ensures in
-    let ok = c.loop-place.places.ok.0 in
-    searching_end c.args.graph.now c.args.start c.loop-place.reached_flags.items c.loop-place.places.items c.loop-place.place _ 0 c.loop-place.invariant.search (omega arith)
+    let ok = c.loop-place.visits.ok.0 in
+    searching_end c.args.graph.now c.args.start c.loop-place.reached_flags.items c.loop-place.visits.items c.loop-place.place _ 0 c.loop-place.invariant.search (omega arith)
 
 pub returns-clause-tree : goal.returns-clause-tree
 returns-clause-tree c = record { tree = c.loop-place.invariant.search.tree }
@@ -60,7 +60,7 @@ loop-place-init c =
     let step : ResidualArc = record { arc = 0; forward = false } in
     let unseen : c.in_ok-reached_flags.reached_flags.items ≡ replicate g.nodes false = c.in_ok-reached_flags.ensures.items_if_clones_equal (λ y same. same) ∙ ap (λ n. replicate n false) c.nodes.ensures in
     let placed : c.push.new.self.items ≡ (record { node = start; step = step; parent = 0 }) ∷ [] =
-    c.in_ok-push.ensures.items ∙ ap (λ (v : List Visit). v ++ (record { node = start; step = step; parent = 0 }) ∷ []) c.new-places.ensures.items in
+    c.in_ok-push.ensures.items ∙ ap (λ (v : List Visit). v ++ (record { node = start; step = step; parent = 0 }) ∷ []) c.new-visits.ensures.items in
     record {
       seen_size = c.in_ok-reached_flags.ensures.len ∙ c.nodes.ensures;
       levels_size = c.in_ok-levels.ensures.len ∙ c.nodes-2.ensures;

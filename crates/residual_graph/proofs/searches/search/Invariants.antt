@@ -6,7 +6,7 @@ abbrev pub invariant-loop-place : goal.invariant-loop-place
 invariant-loop-place l = record {
   seen_size : vec_len l.reached_flags ≡ l.graph.nodes;
   levels_size : vec_len l.levels ≡ l.graph.nodes;
-  search : Searching l.graph l.start l.reached_flags.items l.places.items l.place [] 0;
+  search : Searching l.graph l.start l.reached_flags.items l.visits.items l.place [] 0;
 }
 
 abbrev pub decreases-loop-place : goal.decreases-loop-place

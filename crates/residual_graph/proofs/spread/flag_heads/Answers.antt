@@ -2,7 +2,7 @@ use Rattle.std.proofs.Common.{◌≡◌, ◌<◌, ◌+◌, ◌-◌, ◌*◌, ◌
 use Rattle.std.proofs.lemmas.List.{get_or_default}
 use Rattle.digraph.proofs.SpreadMarks.{left_same}
 use Rattle.residual_graph.specs.Graphs.{head, is_flagged}
-use Rattle.residual_graph.specs.Spreading.{step_at, IsFollowing, IsSpreading, LeavesFrom}
+use Rattle.residual_graph.specs.Spreading.{residual_arc_at, IsFollowing, IsSpreading, LeavesFrom}
 use Rattle.residual_graph.proofs.Following.{following_ends, following_starts, follows_marked, follows_unmarked, head_low, step_in}
 use Rattle.residual_graph.proofs.spread.flag_heads.Goals as goal
 use Rattle.residual_graph.proofs.spread.flag_heads.Goals.{then-not-index+in_ok-push, else-not-index}
@@ -44,23 +44,23 @@ loop-next-preserved c =
     let less = last.within in
     let ok = at.reached_flags.ok.0 in
     let size = at.invariant.size in
-    let to : c.head_of-to.result ≡ head arcs (step_at number) = c.head_of-to.ensures ∙ ap (head arcs) c.step_at.ensures in
-    let in_seen : head arcs (step_at number) < length at.reached_flags.items = (let low_head = head_low arcs c.args.reached_flags.now.len c.requires.between (step_at number) (step_in number (length arcs) low) in omega arith) in
-    let mark : c.index.result.now ≡ is_flagged at.reached_flags.items (head arcs (step_at number)) = c.index.ensures ∙ ap (λ (v : ℕ). get_or at.reached_flags.items v c.index.result.now) to ∙ get_or_default at.reached_flags.items (head arcs (step_at number)) c.index.result.now false in_seen in
+    let to : c.head_of-to.result ≡ head arcs (residual_arc_at number) = c.head_of-to.ensures ∙ ap (head arcs) c.residual_arc_at.ensures in
+    let in_seen : head arcs (residual_arc_at number) < length at.reached_flags.items = (let low_head = head_low arcs c.args.reached_flags.now.len c.requires.between (residual_arc_at number) (step_in number (length arcs) low) in omega arith) in
+    let mark : c.index.result.now ≡ is_flagged at.reached_flags.items (head arcs (residual_arc_at number)) = c.index.ensures ∙ ap (λ (v : ℕ). get_or at.reached_flags.items v c.index.result.now) to ∙ get_or_default at.reached_flags.items (head arcs (residual_arc_at number)) c.index.result.now false in_seen in
     let ready : (start : ℕ) → IsSpreading arcs start c.args.reached_flags.now.items (c.args.waiting.now.items ++ node ∷ []) → IsFollowing arcs start at.reached_flags.items at.waiting.items node (number + 1) =
     λ start s. subst (IsFollowing arcs start at.reached_flags.items at.waiting.items node) one (at.invariant.following start s) in
     elim c.if-not-index.branch [
       | then-not-index+in_ok-push w ↦
-          let off : is_flagged at.reached_flags.items (head arcs (step_at number)) ≡ false = sym mark ∙ w.if-not-index.true in
+          let off : is_flagged at.reached_flags.items (head arcs (residual_arc_at number)) ≡ false = sym mark ∙ w.if-not-index.true in
           rw (w.reached_flags-is, w.waiting-is, w.in_ok-push.ensures.items, is, to) record {
             size = size;
             within = omega arith;
             own = last.own;
             following = λ start s. follows_unmarked arcs start at.reached_flags.items at.waiting.items node number (get_or before number 0) low own last (ready start s) in_seen off;
-            same = left_same at.reached_flags.items at.waiting.items (head arcs (step_at number)) in_seen off ∙ at.invariant.same;
+            same = left_same at.reached_flags.items at.waiting.items (head arcs (residual_arc_at number)) in_seen off ∙ at.invariant.same;
           }
       | else-not-index w ↦
-          let on : is_flagged at.reached_flags.items (head arcs (step_at number)) ≡ true = sym mark ∙ w.if-not-index.false in
+          let on : is_flagged at.reached_flags.items (head arcs (residual_arc_at number)) ≡ true = sym mark ∙ w.if-not-index.false in
           rw (w.reached_flags-is, w.waiting-is, is) record {
             size = size;
             within = omega arith;

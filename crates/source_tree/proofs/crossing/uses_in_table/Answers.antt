@@ -7,6 +7,6 @@ use Rattle.source_tree.proofs.crossing.uses_in_table.Goals as goal
 pub returns : goal.returns
 returns c =
     let found = c.in_ok-found.found.items in
-    IfOk-weaker c.use_spans.result _ _
+    IfOk-weaker c.crossing_spans.result _ _
     (λ spans are. (found, c.in_ok-found.ensures, subst (λ (cs : List Crossing). AreSpans c.args.bytes.now c.args.tokens.now cs spans.items) c.as_slice.ensures.value are))
-    c.use_spans.ensures
+    c.crossing_spans.ensures

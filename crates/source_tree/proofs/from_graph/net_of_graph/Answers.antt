@@ -35,8 +35,8 @@ weighted_imports-requires-clause-all_ranked c =
     let size = c.in_ok-ranks.ensures.size in
     rw c.as_slice.ensures.value (omega arith)
 
-pub of-requires : goal.of-requires
-of-requires c =
+pub from_parts-requires : goal.from_parts-requires
+from_parts-requires c =
     let g = c.args.graph.now in
     let ss = c.args.scopes.now in
     let ranks = c.in_ok-ranks.ranks.items in
@@ -58,5 +58,5 @@ returns c =
     let entries : old ≡ map (ranked ranks) (map (graph_entry g ss) g.pairs) = rw c.as_slice.ensures.value at c.in_ok-imports.ensures.entries in
     let moved = subst (λ (is : List Priced). IsPermutation is imports) entries c.sort_imports.ensures.same in
     let ordered = subst (λ (is : List Priced). IsDistinct have_equal_ends is → IsAscending imports) entries c.sort_imports.ensures.ascending in
-    rw c.of.ensures (subst (λ (names : List (List ℕ)). IsNetOf (graph_lines g ss) (unpinned names imports)) (sym c.in_ok-names.ensures)
+    rw c.from_parts.ensures (subst (λ (names : List (List ℕ)). IsNetOf (graph_lines g ss) (unpinned names imports)) (sym c.in_ok-names.ensures)
     (ranked_net g ss c.invariants.ensures c.by_name-order.result.now c.by_name-order.ensures ranks c.in_ok-ranks.ensures c.in_ok-imports.ensures.light c.requires.named imports moved ordered))

@@ -33,8 +33,8 @@ returns-in-Ok-clause-scoped c =
       scoped,
     )
 
-pub scope_fault-requires : goal.scope_fault-requires
-scope_fault-requires c =
+pub locate_scope_fault-requires : goal.locate_scope_fault-requires
+locate_scope_fault-requires c =
     let (tree, is_tree, same) = c.requires.parsed in (
       c.args.tokens.now,
       tree,

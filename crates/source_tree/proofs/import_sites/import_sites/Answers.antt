@@ -1,7 +1,7 @@
 use Rattle.std.proofs.Common.{◌≡◌, ◌∙◌, ◌<◌, ℕ, List, Some, length, get_or, vec_len, refl, subst, sym, ap, arith}
 use Rattle.std.specs.Prelude.{Vec, slice_get}
 use Rattle.std.specs.declared.alloc.Global.{Global}
-use Rattle.ob_scan.specs.declared.place.Position.{Position}
+use Rattle.ob_scan.specs.declared.line_column.Position.{Position}
 use Rattle.cut_net.specs.Network.{missing_item}
 use Rattle.source_tree.specs.Located.{no_site, HasSite, IsSetFrom}
 use Rattle.source_tree.proofs.ImportSites.{found_more, none_found}

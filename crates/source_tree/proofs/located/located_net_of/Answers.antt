@@ -3,7 +3,7 @@ use Rattle.std.specs.Prelude.{All, Contains, Vec}
 use Rattle.std.specs.declared.alloc.Global.{Global}
 use Rattle.std.proofs.lemmas.List.{length-map}
 use Rattle.cut_net.specs.Network.{name_of}
-use Rattle.ob_scan.specs.declared.place.Position.{Position}
+use Rattle.ob_scan.specs.declared.line_column.Position.{Position}
 use Rattle.scopes.specs.Scoped.{ModuleScopes}
 use Rattle.source_tree.specs.TreeReading.{AreFilesRead, IsTreeOf}
 use Rattle.source_tree.specs.declared.import_sites.LocatedScopes.{LocatedScopes}

@@ -24,8 +24,8 @@ parts_from_scopes-requires-clause-scoped c =
     subst (λ (bytes : List ℕ). AreScopes bytes c.args.tokens rows c.in-Ok.scopes) c.as_slice-2.ensures.value
     (subst (λ (ts : List Token). AreScopes c.as_slice-2.result.now ts rows c.in-Ok.scopes) c.as_slice.ensures c.in-Ok.ensures.scoped)
 
-pub scope_fault-requires : goal.scope_fault-requires
-scope_fault-requires c =
+pub locate_scope_fault-requires : goal.locate_scope_fault-requires
+locate_scope_fault-requires c =
     let (tree, is_tree, same) = c.requires.parsed in (
       c.args.tokens,
       tree,

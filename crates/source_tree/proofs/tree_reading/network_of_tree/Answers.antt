@@ -29,7 +29,7 @@ returns-clause-net c sources of =
     let g = c.args.tree.now.graph in
     let ss = c.args.tree.now.scopes.items in
     IfOk-weaker c.net_of_graph.result _ _
-    (λ net is. net_of_tree sources of.files g of.kept ss of.read c.weight_of_aliases.ensures c.invariants.ensures c.one_weight.ensures of.acyclic net
+    (λ net is. net_of_tree sources of.files g of.kept ss of.read c.weight_of_aliases.ensures c.invariants.ensures c.weight_is_unique.ensures of.acyclic net
     (subst (λ (all : List ModuleScopes). IsNetOf (graph_lines g all) net) c.as_slice.ensures.value is)) c.net_of_graph.ensures
 
 pub returns-clause-named : goal.returns-clause-named

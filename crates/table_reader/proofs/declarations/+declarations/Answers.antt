@@ -9,7 +9,7 @@ use Rattle.module_table.specs.Parts.{in_block}
 use Rattle.module_table.specs.Parts.{each as pieces}
 use Rattle.ob_grammar.specs.Lookahead.{is_word}
 use Rattle.ob_grammar.specs.Combinators.{begins, seq, expect_at, name_at, optional, accept_at, limit_at}
-use Rattle.ob_grammar.specs.AgreesWith.{remaining}
+use Rattle.ob_grammar.specs.ParsesAs.{remaining}
 use Rattle.ob_grammar.specs.ReadExpressions.{expr_at}
 use Rattle.ob_grammar.specs.ReadStatements.{block_at}
 use Rattle.ob_grammar.specs.ReadTypes.{type_at}
@@ -29,23 +29,23 @@ procedures-more-init t c = (pieces_begun c.args.source.now.tokens.now (begins (i
 pub procedures-more-smaller : goal.procedures-more-smaller
 procedures-more-smaller t c =
     listing_smaller c.args.source.now.tokens.now (begins (is_word kinds.Procedure)) (with_semicolon (procedure_at c.args.depth)) (ended_events procedure_events) (λ p. after (ended_rows procedure_rows p) c.args.context) []
-    (procedure_advances c.args.depth) _ _ c.more.here c.more.here c.in-Ok.next (has_begun (is_word kinds.Procedure) _ (sym c.is_at.ensures ∙ c.more-test.true)) c.in-Ok.ensures.effect
+    (procedure_advances c.args.depth) _ _ c.more.here c.more.here c.in-Ok.next (has_begun (is_word kinds.Procedure) _ (sym c.next_is.ensures ∙ c.more-test.true)) c.in-Ok.ensures.effect
 
 pub procedures-more-preserved : goal.procedures-more-preserved
-procedures-more-preserved t c = (pieces_more c.args.source.now.tokens.now (begins (is_word kinds.Procedure)) (with_semicolon (procedure_at c.args.depth)) (ended_events procedure_events) (ended_rows procedure_rows) c.args.context (ended_events procedure_events) (λ p. after (ended_rows procedure_rows p) c.args.context) (λ p. p) [] (procedure_advances c.args.depth) (λ p. refl) (λ p s. refl) _ _ _ c.args.input c.more.here c.more.here c.in-Ok.next (has_begun (is_word kinds.Procedure) _ (sym c.is_at.ensures ∙ c.more-test.true)) c.more.invariant.0 c.in-Ok.ensures.effect, c.in-Ok.ensures.number)
+procedures-more-preserved t c = (pieces_more c.args.source.now.tokens.now (begins (is_word kinds.Procedure)) (with_semicolon (procedure_at c.args.depth)) (ended_events procedure_events) (ended_rows procedure_rows) c.args.context (ended_events procedure_events) (λ p. after (ended_rows procedure_rows p) c.args.context) (λ p. p) [] (procedure_advances c.args.depth) (λ p. refl) (λ p s. refl) _ _ _ c.args.input c.more.here c.more.here c.in-Ok.next (has_begun (is_word kinds.Procedure) _ (sym c.next_is.ensures ∙ c.more-test.true)) c.more.invariant.0 c.in-Ok.ensures.effect, c.in-Ok.ensures.number)
 
 pub procedures-returns-in-Err-clause-effect : goal.procedures-returns-in-Err-clause-effect
 unfolding procedures_with
 procedures-returns-in-Err-clause-effect t c =
     listing_failed c.args.source.now.tokens.now (begins (is_word kinds.Procedure)) (with_semicolon (procedure_at c.args.depth)) (ended_events procedure_events) (λ xs. after (pieces (ended_rows procedure_rows) xs) c.args.context)
     Any c.in-Err.stop [] (procedure_advances c.args.depth) _ _ c.args.input c.more.here c.more.here
-    (has_begun (is_word kinds.Procedure) _ (sym c.is_at.ensures ∙ c.more-test.true)) c.more.invariant.0 c.in-Err.ensures.effect
+    (has_begun (is_word kinds.Procedure) _ (sym c.next_is.ensures ∙ c.more-test.true)) c.more.invariant.0 c.in-Err.ensures.effect
 
 pub procedures-returns-clause-effect : goal.procedures-returns-clause-effect
 unfolding procedures_with
 procedures-returns-clause-effect t c =
     pieces_done c.args.source.now.tokens.now (begins (is_word kinds.Procedure)) (with_semicolon (procedure_at c.args.depth)) (ended_events procedure_events) (ended_rows procedure_rows) c.args.context
-    (procedure_advances c.args.depth) _ _ c.args.input c.more.here (has_not_begun (is_word kinds.Procedure) _ (sym c.is_at.ensures ∙ c.more-test.false)) c.more.invariant.0
+    (procedure_advances c.args.depth) _ _ c.args.input c.more.here (has_not_begun (is_word kinds.Procedure) _ (sym c.next_is.ensures ∙ c.more-test.false)) c.more.invariant.0
 
 pub procedure_with_semicolon-returns-in-Ok-clause-effect : goal.procedure_with_semicolon-returns-in-Ok-clause-effect
 procedure_with_semicolon-returns-in-Ok-clause-effect t c =
@@ -59,15 +59,15 @@ unfolding procedure_at limit_at
 procedure-returns-then-depth-eq0-clause-effect t c = grind arith
 
 pub procedure-returns-clause-effect : goal.procedure-returns-clause-effect
-procedure-returns-clause-effect t c = rw (procedure_deeper c.args.depth (remaining c.args.source.now.tokens.now c.args.input) c.if-depth-eq0.false) c.procedure_within.ensures.effect
+procedure-returns-clause-effect t c = rw (procedure_deeper c.args.depth (remaining c.args.source.now.tokens.now c.args.input) c.if-depth-eq0.false) c.procedure_after_depth_check.ensures.effect
 
-pub procedure_within-returns-in-Ok-clause-effect : goal.procedure_within-returns-in-Ok-clause-effect
-procedure_within-returns-in-Ok-clause-effect t c =
+pub procedure_after_depth_check-returns-in-Ok-clause-effect : goal.procedure_after_depth_check-returns-in-Ok-clause-effect
+procedure_after_depth_check-returns-in-Ok-clause-effect t c =
     within_told c.args.source.now.tokens.now (expr_at c.args.depth) (block_at c.args.depth) (declarations_at c.args.depth) c.args.context c.block_context-around.result c.new_decl_group-row.result c.open_decl_group-at.result _ c.open_decl_group-at.new.self c.add_block.new.self _ _ c.args.input c.in-Ok.here
     c.new_decl_group-row.ensures (c.block_context-around.ensures ∙ ap (λ (d : Context). in_block d c.args.builder.now.number) c.decl_group_context.ensures) c.open_decl_group-at.ensures.slot c.open_decl_group-at.ensures.stage c.add_block.ensures.stage c.in-Ok.ensures.effect c.close_decl_group.ensures.stage
 
-pub procedure_within-returns-in-Err-clause-effect : goal.procedure_within-returns-in-Err-clause-effect
-procedure_within-returns-in-Err-clause-effect t c = within_failed c.args.source.now.tokens.now (expr_at c.args.depth) (block_at c.args.depth) (declarations_at c.args.depth) c.in-Err.stop _ c.in-Err.ensures.effect
+pub procedure_after_depth_check-returns-in-Err-clause-effect : goal.procedure_after_depth_check-returns-in-Err-clause-effect
+procedure_after_depth_check-returns-in-Err-clause-effect t c = within_failed c.args.source.now.tokens.now (expr_at c.args.depth) (block_at c.args.depth) (declarations_at c.args.depth) c.in-Err.stop _ c.in-Err.ensures.effect
 
 pub procedure_in_block-returns-in-Ok-identifier-clause-effect : goal.procedure_in_block-returns-in-Ok-identifier-clause-effect
 procedure_in_block-returns-in-Ok-identifier-clause-effect t c =
@@ -76,18 +76,18 @@ procedure_in_block-returns-in-Ok-identifier-clause-effect t c =
 
 pub procedure_after_name-returns-in-Ok-expect_word-clause-effect : goal.procedure_after_name-returns-in-Ok-expect_word-clause-effect
 procedure_after_name-returns-in-Ok-expect_word-clause-effect t c =
-    named_told c.args.source.now.tokens.now c.args.name (expr_at c.args.depth) (block_at c.args.depth) (declarations_at c.args.depth) c.args.context _ _ _ _ _ c.args.input c.skip-starred.result.1 c.in-Ok.here c.in-Ok-expect_word.here _
-    (star_told c.args.source.now.tokens.now c.args.name c.skip-starred.result.0 c.args.context _ _ c.args.input c.skip-starred.result.1 c.skip-starred.ensures.read c.append_identdef.ensures.stage) c.in-Ok.ensures.effect c.in-Ok-expect_word.ensures.effect c.procedure_block.ensures.effect
+    named_told c.args.source.now.tokens.now c.args.name (expr_at c.args.depth) (block_at c.args.depth) (declarations_at c.args.depth) c.args.context _ _ _ _ _ c.args.input c.skip-is_exported.result.1 c.in-Ok.here c.in-Ok-expect_word.here _
+    (star_told c.args.source.now.tokens.now c.args.name c.skip-is_exported.result.0 c.args.context _ _ c.args.input c.skip-is_exported.result.1 c.skip-is_exported.ensures.read c.append_identdef.ensures.stage) c.in-Ok.ensures.effect c.in-Ok-expect_word.ensures.effect c.procedure_block.ensures.effect
 
 pub procedure_after_name-returns-in-Err-clause-effect : goal.procedure_after_name-returns-in-Err-clause-effect
 procedure_after_name-returns-in-Err-clause-effect t c =
-    named_failed c.args.source.now.tokens.now c.args.name (expr_at c.args.depth) (block_at c.args.depth) (declarations_at c.args.depth) c.args.context _ _ c.args.input c.skip-starred.result.1 c.in-Err.stop
-    (star_told c.args.source.now.tokens.now c.args.name c.skip-starred.result.0 c.args.context _ _ c.args.input c.skip-starred.result.1 c.skip-starred.ensures.read c.append_identdef.ensures.stage) c.in-Err.ensures.effect
+    named_failed c.args.source.now.tokens.now c.args.name (expr_at c.args.depth) (block_at c.args.depth) (declarations_at c.args.depth) c.args.context _ _ c.args.input c.skip-is_exported.result.1 c.in-Err.stop
+    (star_told c.args.source.now.tokens.now c.args.name c.skip-is_exported.result.0 c.args.context _ _ c.args.input c.skip-is_exported.result.1 c.skip-is_exported.ensures.read c.append_identdef.ensures.stage) c.in-Err.ensures.effect
 
 pub procedure_block-returns-in-Ok-clause-effect : goal.procedure_block-returns-in-Ok-clause-effect
 procedure_block-returns-in-Ok-clause-effect t c =
     behind_heading_told c.args.source.now.tokens.now c.args.name (declarations_at c.args.depth) (seq (body_with (block_at c.args.depth)) (seq (optional (accept_at kinds.Return) (expr_at c.args.depth)) (seq (expect_at kinds.End) (name_at (repeated c.args.name)))))
-    c.args.context _ _ _ c.args.input c.in-Ok.here _ c.in-Ok.ensures.effect c.ending.ensures.effect
+    c.args.context _ _ _ c.args.input c.in-Ok.here _ c.in-Ok.ensures.effect c.procedure_ending.ensures.effect
 
 pub declarations-returns-in-Ok-declaration_section-2-clause-effect : goal.declarations-returns-in-Ok-declaration_section-2-clause-effect
 unfolding const_with const_events const_rows type_decl_with type_decl_events type_decl_rows variable_with variable_events variable_rows
@@ -97,8 +97,8 @@ declarations-returns-in-Ok-declaration_section-2-clause-effect t c =
 
 pub procedure_after_name-returns-in-Err-expect_word-clause-effect : goal.procedure_after_name-returns-in-Err-expect_word-clause-effect
 procedure_after_name-returns-in-Err-expect_word-clause-effect t c =
-    named_failed_behind c.args.source.now.tokens.now c.args.name (expr_at c.args.depth) (block_at c.args.depth) (declarations_at c.args.depth) c.args.context _ _ _ c.args.input c.skip-starred.result.1 c.in-Ok.here c.in-Err-expect_word.stop
-    (star_told c.args.source.now.tokens.now c.args.name c.skip-starred.result.0 c.args.context _ _ c.args.input c.skip-starred.result.1 c.skip-starred.ensures.read c.append_identdef.ensures.stage) c.in-Ok.ensures.effect c.in-Err-expect_word.ensures.effect
+    named_failed_behind c.args.source.now.tokens.now c.args.name (expr_at c.args.depth) (block_at c.args.depth) (declarations_at c.args.depth) c.args.context _ _ _ c.args.input c.skip-is_exported.result.1 c.in-Ok.here c.in-Err-expect_word.stop
+    (star_told c.args.source.now.tokens.now c.args.name c.skip-is_exported.result.0 c.args.context _ _ c.args.input c.skip-is_exported.result.1 c.skip-is_exported.ensures.read c.append_identdef.ensures.stage) c.in-Ok.ensures.effect c.in-Err-expect_word.ensures.effect
 
 pub declarations-returns-in-Err-clause-effect : goal.declarations-returns-in-Err-clause-effect
 unfolding const_with

@@ -5,7 +5,7 @@ use Rattle.table_rules.specs.Statements.{block_rows}
 use Rattle.module_table.specs.TableStages.{after}
 use Rattle.module_table.proofs.Steps.{after_nothing}
 use Rattle.ob_grammar.specs.Combinators.{accept_at}
-use Rattle.ob_grammar.specs.AgreesWith.{skipped}
+use Rattle.ob_grammar.specs.ParsesAs.{skipped}
 use Rattle.ob_grammar.specs.ReadStatements.{block_at}
 use Rattle.ob_grammar.specs.ReadModules.{body_with}
 use Rattle.table_reader.specs.DeclarationShapes.{body_events, body_rows}

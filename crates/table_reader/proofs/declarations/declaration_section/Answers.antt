@@ -1,7 +1,7 @@
 use Rattle.std.proofs.Common.{sym, ap, ◌∙◌}
 use Rattle.ob_tree.specs.TreeEvents.{construct}
 use Rattle.module_table.specs.Parts.{declaring}
-use Rattle.ob_grammar.specs.AgreesWith.{skipped}
+use Rattle.ob_grammar.specs.ParsesAs.{skipped}
 use Rattle.ob_grammar.specs.Combinators.{node}
 use Rattle.table_reader.proofs.SectionTrees.{section_absent, section_told}
 use Rattle.table_reader.proofs.declarations.declaration_section.Goals as goal

@@ -1,7 +1,7 @@
 use Rattle.std.proofs.Common.{◌≡◌, length}
 use Rattle.ob_tree.specs.TreeEvents.{construct}
 use Rattle.module_table.specs.Parts.{declaring}
-use Rattle.ob_grammar.specs.AgreesWith.{remaining}
+use Rattle.ob_grammar.specs.ParsesAs.{remaining}
 use Rattle.ob_grammar.specs.Combinators.{node}
 use Rattle.ob_grammar.proofs.Repetitions.{declarations}
 use Rattle.table_reader.specs.DeclarationShapes.{ended_rows}

@@ -5,7 +5,7 @@ use Rattle.table_rules.specs.Expressions.{expr_rows}
 use Rattle.module_table.specs.TableStages.{after}
 use Rattle.module_table.proofs.Steps.{after_nothing}
 use Rattle.ob_grammar.specs.Combinators.{accept_at}
-use Rattle.ob_grammar.specs.AgreesWith.{skipped}
+use Rattle.ob_grammar.specs.ParsesAs.{skipped}
 use Rattle.ob_grammar.specs.ReadExpressions.{expr_at}
 use Rattle.table_reader.specs.DeclarationShapes.{returned_events, returned_rows}
 use Rattle.table_reader.proofs.Combine.{told_absent}

@@ -2,7 +2,7 @@ use Rattle.table_rules.specs.Declaring.{procedure_end}
 use Rattle.module_table.specs.TableStages.{after}
 use Rattle.module_table.specs.Parts.{with_rows, token}
 use Rattle.ob_tree.specs.TreeEvents.{repeated}
-use Rattle.ob_grammar.specs.AgreesWith.{remaining}
+use Rattle.ob_grammar.specs.ParsesAs.{remaining}
 use Rattle.ob_grammar.specs.Combinators.{name_at}
 use Rattle.table_reader.proofs.Following.{name_failed, name_read}
 use Rattle.table_reader.proofs.Combine.{told_walked}

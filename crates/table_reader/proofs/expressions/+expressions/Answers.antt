@@ -16,7 +16,7 @@ use Rattle.table_rules.proofs.ExpressionLayers as effect
 use Rattle.ob_grammar.specs.declared.cursor.Cursor.{Cursor}
 use Rattle.ob_grammar.specs.Lookahead.{uncons, head_is}
 use Rattle.ob_grammar.specs.Combinators.{accept_at, expect_at, begins, optional, several, unless, limit_at}
-use Rattle.ob_grammar.specs.AgreesWith.{remaining, with_remaining, skipped}
+use Rattle.ob_grammar.specs.ParsesAs.{remaining, with_remaining, skipped}
 use Rattle.ob_grammar.specs.ReadExpressions.{relation_start, element_with, selector_first, selector_with, designator_with, factor_with, expr_at, negated_at}
 use Rattle.ob_grammar.proofs.Loops.{accept_advances, selector_advances, marked_some, marked_none, has_begun, has_not_begun}
 use Rattle.ob_grammar.proofs.Somes.{not_closed}
@@ -47,7 +47,7 @@ expression-returns-then-not-is_operator_at-clause-effect t c =
 pub expression-returns-in-Ok-more_terms-clause-effect : goal.expression-returns-in-Ok-more_terms-clause-effect
 expression-returns-in-Ok-more_terms-clause-effect t c =
     rw (expr_deeper c.args.depth (remaining c.args.source.now.tokens.now c.args.input) c.if-depth-eq0.false)
-    (operated_told c.args.source.now.tokens.now c.args.context (c.args.depth - 1) _ _ _ _ _ _ c.args.input _ c.in-Ok.here c.in-Ok-more_factors.here c.in-Ok-more_terms.here _ c.optional_sign-here.ensures.effect c.in-Ok.ensures.effect c.in-Ok-more_factors.ensures.effect c.in-Ok-more_terms.ensures.effect c.compared.ensures.effect)
+    (operated_told c.args.source.now.tokens.now c.args.context (c.args.depth - 1) _ _ _ _ _ _ c.args.input _ c.in-Ok.here c.in-Ok-more_factors.here c.in-Ok-more_terms.here _ c.optional_sign-here.ensures.effect c.in-Ok.ensures.effect c.in-Ok-more_factors.ensures.effect c.in-Ok-more_terms.ensures.effect c.comparison.ensures.effect)
 
 pub expression-returns-in-Err-more_terms-clause-effect : goal.expression-returns-in-Err-more_terms-clause-effect
 expression-returns-in-Err-more_terms-clause-effect t c =
@@ -63,13 +63,13 @@ pub expression-returns-in-Err-clause-effect : goal.expression-returns-in-Err-cla
 expression-returns-in-Err-clause-effect t c =
     rw (expr_deeper c.args.depth (remaining c.args.source.now.tokens.now c.args.input) c.if-depth-eq0.false) (factor_fails c.args.source.now.tokens.now c.args.context (c.args.depth - 1) _ _ _ c.args.input _ c.optional_sign-here.ensures.effect c.in-Err.ensures.effect)
 
-pub compared-returns-in-None-clause-effect : goal.compared-returns-in-None-clause-effect
-compared-returns-in-None-clause-effect t c =
+pub comparison-returns-in-None-clause-effect : goal.comparison-returns-in-None-clause-effect
+comparison-returns-in-None-clause-effect t c =
     told_absent c.args.source.now.tokens.now compared_events (λ x. after (compared_rows x) c.args.context) None relation_start _ _ c.args.input refl (λ s. after_nothing c.args.context s)
     (marked_none relation_kind _ (sym (ap (with_remaining c.args.source.now.tokens.now) c.in-None.is) ∙ c.relation.ensures.read))
 
-pub compared-returns-in-Some-clause-effect : goal.compared-returns-in-Some-clause-effect
-compared-returns-in-Some-clause-effect t c =
+pub comparison-returns-in-Some-clause-effect : goal.comparison-returns-in-Some-clause-effect
+comparison-returns-in-Some-clause-effect t c =
     compared_told c.args.source.now.tokens.now c.args.context c.args.depth _ _ _ c.args.input c.in-Some.field-0-0 c.in-Some.rest _
     (marked_some relation_kind c.in-Some.field-0-0 (remaining c.args.source.now.tokens.now c.in-Some.rest) _ (sym (ap (with_remaining c.args.source.now.tokens.now) c.in-Some.is) ∙ c.relation.ensures.read)) c.advance.ensures.stage c.sum.ensures.effect
 
@@ -90,36 +90,36 @@ more_terms-more-init t c = (operations_begun c.args.source.now.tokens.now (term_
 
 pub more_terms-more-smaller : goal.more_terms-more-smaller
 more_terms-more-smaller t c =
-    operation_shorter c.args.source.now.tokens.now (term_operations c.args.depth) term_rows c.args.context c.in-Some.field-0-0 _ _ c.more.here c.in-Some.following c.in-Ok.next (sym (ap (with_remaining c.args.source.now.tokens.now) c.in-Some.is) ∙ c.add_operator.ensures.read) c.in-Ok.ensures.effect
+    operation_shorter c.args.source.now.tokens.now (term_operations c.args.depth) term_rows c.args.context c.in-Some.field-0-0 _ _ c.more.here c.in-Some.following c.in-Ok.next (sym (ap (with_remaining c.args.source.now.tokens.now) c.in-Some.is) ∙ c.parse_add_operator.ensures.read) c.in-Ok.ensures.effect
 
 pub more_terms-more-preserved : goal.more_terms-more-preserved
-more_terms-more-preserved t c = (operation_told c.args.source.now.tokens.now (term_operations c.args.depth) term_rows c.args.context c.in-Some.field-0-0 _ _ _ _ c.args.input c.more.here c.in-Some.following c.in-Ok.next (sym (ap (with_remaining c.args.source.now.tokens.now) c.in-Some.is) ∙ c.add_operator.ensures.read) c.more.invariant.0 c.advance.ensures.stage c.in-Ok.ensures.effect, c.in-Ok.ensures.number)
+more_terms-more-preserved t c = (operation_told c.args.source.now.tokens.now (term_operations c.args.depth) term_rows c.args.context c.in-Some.field-0-0 _ _ _ _ c.args.input c.more.here c.in-Some.following c.in-Ok.next (sym (ap (with_remaining c.args.source.now.tokens.now) c.in-Some.is) ∙ c.parse_add_operator.ensures.read) c.more.invariant.0 c.advance.ensures.stage c.in-Ok.ensures.effect, c.in-Ok.ensures.number)
 
 pub more_terms-returns-in-Err-clause-effect : goal.more_terms-returns-in-Err-clause-effect
 more_terms-returns-in-Err-clause-effect t c =
-    operation_failed c.args.source.now.tokens.now (term_operations c.args.depth) term_rows c.args.context c.in-Some.field-0-0 c.in-Err.stop _ _ c.args.input c.more.here c.in-Some.following (sym (ap (with_remaining c.args.source.now.tokens.now) c.in-Some.is) ∙ c.add_operator.ensures.read) c.more.invariant.0 c.in-Err.ensures.effect
+    operation_failed c.args.source.now.tokens.now (term_operations c.args.depth) term_rows c.args.context c.in-Some.field-0-0 c.in-Err.stop _ _ c.args.input c.more.here c.in-Some.following (sym (ap (with_remaining c.args.source.now.tokens.now) c.in-Some.is) ∙ c.parse_add_operator.ensures.read) c.more.invariant.0 c.in-Err.ensures.effect
 
 pub more_terms-returns-clause-effect : goal.more_terms-returns-clause-effect
 more_terms-returns-clause-effect t c =
-    operations_done c.args.source.now.tokens.now (term_operations c.args.depth) term_rows c.args.context _ _ c.args.input c.more.here (sym (ap (with_remaining c.args.source.now.tokens.now) c.in_default.is) ∙ c.add_operator.ensures.read) c.more.invariant.0
+    operations_done c.args.source.now.tokens.now (term_operations c.args.depth) term_rows c.args.context _ _ c.args.input c.more.here (sym (ap (with_remaining c.args.source.now.tokens.now) c.in_default.is) ∙ c.parse_add_operator.ensures.read) c.more.invariant.0
 
 pub more_factors-more-init : goal.more_factors-more-init
 more_factors-more-init t c = (operations_begun c.args.source.now.tokens.now (factor_operations c.args.depth) factor_rows c.args.context _ c.args.input, c.requires)
 
 pub more_factors-more-smaller : goal.more_factors-more-smaller
 more_factors-more-smaller t c =
-    operation_shorter c.args.source.now.tokens.now (factor_operations c.args.depth) factor_rows c.args.context c.in-Some.field-0-0 _ _ c.more.here c.in-Some.following c.in-Ok.next (sym (ap (with_remaining c.args.source.now.tokens.now) c.in-Some.is) ∙ c.mul_operator.ensures.read) c.in-Ok.ensures.effect
+    operation_shorter c.args.source.now.tokens.now (factor_operations c.args.depth) factor_rows c.args.context c.in-Some.field-0-0 _ _ c.more.here c.in-Some.following c.in-Ok.next (sym (ap (with_remaining c.args.source.now.tokens.now) c.in-Some.is) ∙ c.parse_mul_operator.ensures.read) c.in-Ok.ensures.effect
 
 pub more_factors-more-preserved : goal.more_factors-more-preserved
-more_factors-more-preserved t c = (operation_told c.args.source.now.tokens.now (factor_operations c.args.depth) factor_rows c.args.context c.in-Some.field-0-0 _ _ _ _ c.args.input c.more.here c.in-Some.following c.in-Ok.next (sym (ap (with_remaining c.args.source.now.tokens.now) c.in-Some.is) ∙ c.mul_operator.ensures.read) c.more.invariant.0 c.advance.ensures.stage c.in-Ok.ensures.effect, c.in-Ok.ensures.number)
+more_factors-more-preserved t c = (operation_told c.args.source.now.tokens.now (factor_operations c.args.depth) factor_rows c.args.context c.in-Some.field-0-0 _ _ _ _ c.args.input c.more.here c.in-Some.following c.in-Ok.next (sym (ap (with_remaining c.args.source.now.tokens.now) c.in-Some.is) ∙ c.parse_mul_operator.ensures.read) c.more.invariant.0 c.advance.ensures.stage c.in-Ok.ensures.effect, c.in-Ok.ensures.number)
 
 pub more_factors-returns-in-Err-clause-effect : goal.more_factors-returns-in-Err-clause-effect
 more_factors-returns-in-Err-clause-effect t c =
-    operation_failed c.args.source.now.tokens.now (factor_operations c.args.depth) factor_rows c.args.context c.in-Some.field-0-0 c.in-Err.stop _ _ c.args.input c.more.here c.in-Some.following (sym (ap (with_remaining c.args.source.now.tokens.now) c.in-Some.is) ∙ c.mul_operator.ensures.read) c.more.invariant.0 c.in-Err.ensures.effect
+    operation_failed c.args.source.now.tokens.now (factor_operations c.args.depth) factor_rows c.args.context c.in-Some.field-0-0 c.in-Err.stop _ _ c.args.input c.more.here c.in-Some.following (sym (ap (with_remaining c.args.source.now.tokens.now) c.in-Some.is) ∙ c.parse_mul_operator.ensures.read) c.more.invariant.0 c.in-Err.ensures.effect
 
 pub more_factors-returns-clause-effect : goal.more_factors-returns-clause-effect
 more_factors-returns-clause-effect t c =
-    operations_done c.args.source.now.tokens.now (factor_operations c.args.depth) factor_rows c.args.context _ _ c.args.input c.more.here (sym (ap (with_remaining c.args.source.now.tokens.now) c.in_default.is) ∙ c.mul_operator.ensures.read) c.more.invariant.0
+    operations_done c.args.source.now.tokens.now (factor_operations c.args.depth) factor_rows c.args.context _ _ c.args.input c.more.here (sym (ap (with_remaining c.args.source.now.tokens.now) c.in_default.is) ∙ c.parse_mul_operator.ensures.read) c.more.invariant.0
 
 pub more_elements-more-init : goal.more_elements-more-init
 more_elements-more-init t c = (repeat_begun c.args.source.now.tokens.now (elements c.args.depth) (behind_token element_rows) c.args.context _ c.args.input, c.requires)
@@ -185,7 +185,7 @@ factor-returns-in-Some-Word-LeftParen-default-clause-effect t c =
 pub factor-returns-in-Some-Word-Tilde-default-clause-effect : goal.factor-returns-in-Some-Word-Tilde-default-clause-effect
 factor-returns-in-Some-Word-Tilde-default-clause-effect t c =
     let e = word_stands c.args.source.now.tokens.now _ c.args.input c.in-Some-Word-Tilde-default.rest _ _ kinds.Tilde c.in-Some-Word-Tilde-default.is c.in-Some-Word-Tilde-default.field-0-0-is c.in-Some-Word-Tilde-default.field-0-0-0-is c.next.ensures.read in
-    told_factor c.args.source.now.tokens.now factor_events (λ x. after (factor_rows x) c.args.context) c.args.depth _ _ _ _ _ e c.negated.ensures.effect
+    told_factor c.args.source.now.tokens.now factor_events (λ x. after (factor_rows x) c.args.context) c.args.depth _ _ _ _ _ e c.negated_factor.ensures.effect
 
 pub factor-returns-in_default-clause-effect : goal.factor-returns-in_default-clause-effect
 unfolding factor_with
@@ -207,20 +207,20 @@ parenthesized_factor-returns-in-Ok-clause-effect t c = group_told c.args.source.
 pub parenthesized_factor-returns-in-Err-clause-effect : goal.parenthesized_factor-returns-in-Err-clause-effect
 parenthesized_factor-returns-in-Err-clause-effect t c = between_failed c.args.source.now.tokens.now constructs.Factor (word kinds.LeftParen) (expr_at c.args.depth) (expect_at kinds.RightParen) _ (remaining c.args.source.now.tokens.now c.args.input) c.in-Err.ensures.effect
 
-pub negated-returns-then-depth-eq0-clause-effect : goal.negated-returns-then-depth-eq0-clause-effect
+pub negated_factor-returns-then-depth-eq0-clause-effect : goal.negated_factor-returns-then-depth-eq0-clause-effect
 unfolding negated_at limit_at
-negated-returns-then-depth-eq0-clause-effect t c = grind arith
+negated_factor-returns-then-depth-eq0-clause-effect t c = grind arith
 
-pub negated-returns-clause-effect : goal.negated-returns-clause-effect
-negated-returns-clause-effect t c = not_told c.args.source.now.tokens.now c.args.context c.args.depth _ _ _ c.args.input _ c.if-depth-eq0.false c.advance.ensures.stage c.factor.ensures.effect
+pub negated_factor-returns-clause-effect : goal.negated_factor-returns-clause-effect
+negated_factor-returns-clause-effect t c = not_told c.args.source.now.tokens.now c.args.context c.args.depth _ _ _ c.args.input _ c.if-depth-eq0.false c.advance.ensures.stage c.factor.ensures.effect
 
-pub elements-returns-then-is_at-clause-effect : goal.elements-returns-then-is_at-clause-effect
-elements-returns-then-is_at-clause-effect t c =
-    told_absent c.args.source.now.tokens.now set_events (λ x. after (set_rows x) c.args.context) None (unless kinds.RightBrace) _ _ c.args.input refl (λ s. after_nothing c.args.context s) (closed kinds.RightBrace _ (sym c.is_at.ensures ∙ c.if-is_at.true))
+pub elements-returns-then-next_is-clause-effect : goal.elements-returns-then-next_is-clause-effect
+elements-returns-then-next_is-clause-effect t c =
+    told_absent c.args.source.now.tokens.now set_events (λ x. after (set_rows x) c.args.context) None (unless kinds.RightBrace) _ _ c.args.input refl (λ s. after_nothing c.args.context s) (closed kinds.RightBrace _ (sym c.next_is.ensures ∙ c.if-next_is.true))
 
 pub elements-returns-clause-effect : goal.elements-returns-clause-effect
 elements-returns-clause-effect t c =
-    some_elements_told c.args.source.now.tokens.now c.args.context _ _ _ c.args.input _ (not_closed kinds.RightBrace _ (sym c.is_at.ensures ∙ c.if-is_at.false)) c.element_list.ensures.effect
+    some_elements_told c.args.source.now.tokens.now c.args.context _ _ _ c.args.input _ (not_closed kinds.RightBrace _ (sym c.next_is.ensures ∙ c.if-next_is.false)) c.element_list.ensures.effect
 
 pub element_list-returns-in-Ok-clause-effect : goal.element_list-returns-in-Ok-clause-effect
 element_list-returns-in-Ok-clause-effect t c = element_list_told c.args.source.now.tokens.now c.args.context _ _ _ _ c.args.input c.in-Ok.here _ c.in-Ok.ensures.effect c.more_elements.ensures.effect
@@ -229,28 +229,28 @@ pub element_list-returns-in-Err-clause-effect : goal.element_list-returns-in-Err
 element_list-returns-in-Err-clause-effect t c = several_failed c.args.source.now.tokens.now kinds.Comma _ _ _ c.in-Err.ensures.effect
 
 pub element-returns-in-Ok-clause-effect : goal.element-returns-in-Ok-clause-effect
-element-returns-in-Ok-clause-effect t c = element_told c.args.source.now.tokens.now c.args.context c.args.depth _ _ _ c.args.input c.in-Ok.here _ c.in-Ok.ensures.effect c.high.ensures.effect
+element-returns-in-Ok-clause-effect t c = element_told c.args.source.now.tokens.now c.args.context c.args.depth _ _ _ c.args.input c.in-Ok.here _ c.in-Ok.ensures.effect c.upper_bound.ensures.effect
 
 pub element-returns-in-Err-clause-effect : goal.element-returns-in-Err-clause-effect
 element-returns-in-Err-clause-effect t c = element_failed c.args.source.now.tokens.now c.args.depth _ c.args.input c.in-Err.ensures.effect
 
-pub high-returns-in-None-clause-effect : goal.high-returns-in-None-clause-effect
-high-returns-in-None-clause-effect t c =
+pub upper_bound-returns-in-None-clause-effect : goal.upper_bound-returns-in-None-clause-effect
+upper_bound-returns-in-None-clause-effect t c =
     told_absent c.args.source.now.tokens.now high_events (λ x. after (high_rows x) c.args.context) None (accept_at kinds.DotDot) _ _ c.args.input refl (λ s. after_nothing c.args.context s) (sym c.accept.ensures.read ∙ ap (skipped c.args.source.now.tokens.now kinds.DotDot) c.in-None.is)
 
-pub high-returns-in-Some-clause-effect : goal.high-returns-in-Some-clause-effect
-high-returns-in-Some-clause-effect t c =
+pub upper_bound-returns-in-Some-clause-effect : goal.upper_bound-returns-in-Some-clause-effect
+upper_bound-returns-in-Some-clause-effect t c =
     high_told c.args.source.now.tokens.now c.args.context c.args.depth _ _ _ c.args.input c.in-Some.rest _ (sym c.accept.ensures.read ∙ ap (skipped c.args.source.now.tokens.now kinds.DotDot) c.in-Some.is) c.advance.ensures.stage c.expression.ensures.effect
 
 pub designator-returns-then-not-begins_selector-clause-effect : goal.designator-returns-then-not-begins_selector-clause-effect
 designator-returns-then-not-begins_selector-clause-effect t c =
     let none : head_is selector_first (uncons (remaining c.args.source.now.tokens.now c.args.input)) ≡ false = sym c.begins_selector.ensures ∙ c.if-not-begins_selector.true in
-    designator_told c.args.source.now.tokens.now c.args.context false c.args.depth c.args.number _ _ _ _ _ _ c.args.input (Ok c.args.input) refl c.add_designator.ensures.stage c.dot_is_next.ensures.dot c.append_use.ensures.stage
+    designator_told c.args.source.now.tokens.now c.args.context false c.args.depth c.args.number _ _ _ _ _ _ c.args.input (Ok c.args.input) refl c.add_designator.ensures.stage c.member_placeholder.ensures.dot c.append_use.ensures.stage
     (none_chosen c.args.source.now.tokens.now (selector_with (expr_at c.args.depth)) c.args.context _ (selector_advances c.args.depth _ (expr_at_sound c.args.depth)) _ c.args.input none (has_not_begun selector_first (remaining c.args.source.now.tokens.now c.args.input) none))
 
 pub designator-returns-clause-effect : goal.designator-returns-clause-effect
 designator-returns-clause-effect t c =
-    designator_told c.args.source.now.tokens.now c.args.context false c.args.depth c.args.number _ _ _ _ _ _ c.args.input _ refl c.add_designator.ensures.stage c.dot_is_next.ensures.dot c.append_use.ensures.stage c.selectors.ensures.effect
+    designator_told c.args.source.now.tokens.now c.args.context false c.args.depth c.args.number _ _ _ _ _ _ c.args.input _ refl c.add_designator.ensures.stage c.member_placeholder.ensures.dot c.append_use.ensures.stage c.selectors.ensures.effect
 
 pub selectors-more-init : goal.selectors-more-init
 selectors-more-init t c = (chosen_begun c.args.source.now.tokens.now (selector_with (expr_at c.args.depth)) c.args.context c.args.head c.selector_count-at.result c.selector_count-end.result c.estimate_selectors.result _ _ c.args.input c.selector_count-at.ensures c.reserve_slots.ensures.stage c.selector_count-end.ensures, c.reserve_slots.ensures.number ∙ c.requires)
@@ -326,17 +326,17 @@ call-returns-in-Ok-clause-effect t c =
 pub call-returns-in-Err-clause-effect : goal.call-returns-in-Err-clause-effect
 call-returns-in-Err-clause-effect t c = between_failed c.args.source.now.tokens.now constructs.Selector (word kinds.LeftParen) (optional (unless kinds.RightParen) (several kinds.Comma (expr_at c.args.depth))) (expect_at kinds.RightParen) _ (remaining c.args.source.now.tokens.now c.args.input) c.in-Err.ensures.effect
 
-pub arguments-returns-then-is_at-clause-effect : goal.arguments-returns-then-is_at-clause-effect
-arguments-returns-then-is_at-clause-effect t c =
-    told_absent c.args.source.now.tokens.now arguments_events (λ x. after (arguments_rows x) c.args.context) None (unless kinds.RightParen) _ _ c.args.input refl (λ s. after_nothing c.args.context s) (closed kinds.RightParen _ (sym c.is_at.ensures ∙ c.if-is_at.true))
+pub arguments-returns-then-next_is-clause-effect : goal.arguments-returns-then-next_is-clause-effect
+arguments-returns-then-next_is-clause-effect t c =
+    told_absent c.args.source.now.tokens.now arguments_events (λ x. after (arguments_rows x) c.args.context) None (unless kinds.RightParen) _ _ c.args.input refl (λ s. after_nothing c.args.context s) (closed kinds.RightParen _ (sym c.next_is.ensures ∙ c.if-next_is.true))
 
 pub arguments-returns-in-Ok-clause-effect : goal.arguments-returns-in-Ok-clause-effect
 arguments-returns-in-Ok-clause-effect t c =
-    some_arguments_told c.args.source.now.tokens.now c.args.context (several kinds.Comma (expr_at c.args.depth)) _ _ _ c.args.input c.in-Ok.here (not_closed kinds.RightParen _ (sym c.is_at.ensures ∙ c.if-is_at.false)) c.in-Ok.ensures.effect
+    some_arguments_told c.args.source.now.tokens.now c.args.context (several kinds.Comma (expr_at c.args.depth)) _ _ _ c.args.input c.in-Ok.here (not_closed kinds.RightParen _ (sym c.next_is.ensures ∙ c.if-next_is.false)) c.in-Ok.ensures.effect
 
 pub arguments-returns-in-Err-clause-effect : goal.arguments-returns-in-Err-clause-effect
 arguments-returns-in-Err-clause-effect t c =
-    rw (not_closed kinds.RightParen (remaining c.args.source.now.tokens.now c.args.input) (sym c.is_at.ensures ∙ c.if-is_at.false)) (failed_prefixed c.args.source.now.tokens.now [] (several kinds.Comma (expr_at c.args.depth)) _ (remaining c.args.source.now.tokens.now c.args.input) c.in-Err.ensures.effect)
+    rw (not_closed kinds.RightParen (remaining c.args.source.now.tokens.now c.args.input) (sym c.next_is.ensures ∙ c.if-next_is.false)) (failed_prefixed c.args.source.now.tokens.now [] (several kinds.Comma (expr_at c.args.depth)) _ (remaining c.args.source.now.tokens.now c.args.input) c.in-Err.ensures.effect)
 
 pub expression_list-more_expressions-requires : goal.expression_list-more_expressions-requires
 expression_list-more_expressions-requires t c =

@@ -1,6 +1,6 @@
 use Rattle.std.proofs.Common.{◌≡◌, ◌+◌, ◌*◌, length}
 use Rattle.table_rules.specs.Expressions.{term_rows, factor_rows, element_rows}
-use Rattle.ob_grammar.specs.AgreesWith.{remaining}
+use Rattle.ob_grammar.specs.ParsesAs.{remaining}
 use Rattle.ob_grammar.specs.ReadExpressions.{selector_with, expr_at}
 use Rattle.ob_grammar.proofs.Repetitions.{elements, factor_operations, term_operations}
 use Rattle.table_reader.proofs.Lists.{behind_token, OperationListing, RepeatListing}
@@ -11,8 +11,8 @@ use Rattle.table_reader.proofs.expressions.+expressions.Given as goal
 abbrev pub decreases-expression : goal.decreases-expression
 decreases-expression l = 16 * l.depth + 0
 
-abbrev pub decreases-compared : goal.decreases-compared
-decreases-compared l = 16 * l.depth + 14
+abbrev pub decreases-comparison : goal.decreases-comparison
+decreases-comparison l = 16 * l.depth + 14
 
 abbrev pub decreases-sum : goal.decreases-sum
 decreases-sum l = 16 * l.depth + 13
@@ -35,8 +35,8 @@ decreases-set l = 16 * l.depth + 8
 abbrev pub decreases-parenthesized_factor : goal.decreases-parenthesized_factor
 decreases-parenthesized_factor l = 16 * l.depth + 8
 
-abbrev pub decreases-negated : goal.decreases-negated
-decreases-negated l = 16 * l.depth + 8
+abbrev pub decreases-negated_factor : goal.decreases-negated_factor
+decreases-negated_factor l = 16 * l.depth + 8
 
 abbrev pub decreases-elements : goal.decreases-elements
 decreases-elements l = 16 * l.depth + 6
@@ -50,8 +50,8 @@ decreases-more_elements l = 16 * l.depth + 4
 abbrev pub decreases-element : goal.decreases-element
 decreases-element l = 16 * l.depth + 3
 
-abbrev pub decreases-high : goal.decreases-high
-decreases-high l = 16 * l.depth + 2
+abbrev pub decreases-upper_bound : goal.decreases-upper_bound
+decreases-upper_bound l = 16 * l.depth + 2
 
 abbrev pub decreases-designator : goal.decreases-designator
 decreases-designator l = 16 * l.depth + 7

@@ -4,7 +4,7 @@ use Rattle.ob_tree.specs.Constructs as constructs
 use Rattle.ob_tree.specs.TreeEvents.{word}
 use Rattle.ob_tree.specs.TreeEvents as marks
 use Rattle.ob_grammar.specs.Combinators.{prefixed, name_at}
-use Rattle.ob_grammar.specs.AgreesWith.{remaining}
+use Rattle.ob_grammar.specs.ParsesAs.{remaining}
 use Rattle.table_reader.proofs.Combine.{failed_node, failed_prefixed}
 use Rattle.table_reader.proofs.DesignatorTrees.{failed_name, field_told}
 use Rattle.table_reader.proofs.expressions.field.Goals as goal

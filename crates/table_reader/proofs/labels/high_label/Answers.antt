@@ -3,7 +3,7 @@ use Rattle.ob_scan.specs.declared.kind.Kind.TheVariants as kinds
 use Rattle.ob_tree.specs.Statements.{label_events}
 use Rattle.table_rules.specs.Statements.{label_rows}
 use Rattle.ob_grammar.specs.Combinators.{accept_at}
-use Rattle.ob_grammar.specs.AgreesWith.{skipped}
+use Rattle.ob_grammar.specs.ParsesAs.{skipped}
 use Rattle.ob_grammar.specs.ReadStatements.{case_label_at}
 use Rattle.table_reader.proofs.Parts.{told_some, told_none}
 use Rattle.table_reader.proofs.labels.high_label.Goals as goal

@@ -6,7 +6,7 @@ use Rattle.ob_tree.specs.TreeEvents.{Value}
 use Rattle.ob_tree.proofs.StatementLayers as events
 use Rattle.table_rules.proofs.StatementLayers as effect
 use Rattle.ob_grammar.specs.declared.cursor.Cursor.{Cursor}
-use Rattle.ob_grammar.specs.AgreesWith.{remaining}
+use Rattle.ob_grammar.specs.ParsesAs.{remaining}
 use Rattle.ob_grammar.specs.ReadStatements.{case_label_at}
 use Rattle.table_reader.proofs.LabelTrees.{label_seen, value_told, name_told}
 use Rattle.ob_grammar.proofs.Lookaheads.{leaf_stands, value_stands}

@@ -1,6 +1,6 @@
 use Rattle.std.proofs.Common.{◌≡◌, length}
 use Rattle.table_rules.specs.Statements.{label_range_rows}
-use Rattle.ob_grammar.specs.AgreesWith.{remaining}
+use Rattle.ob_grammar.specs.ParsesAs.{remaining}
 use Rattle.ob_grammar.proofs.Repetitions.{label_ranges}
 use Rattle.table_reader.proofs.Lists.{behind_token, RepeatListing}
 use Rattle.table_reader.proofs.labels.more_label_ranges.Given as goal

@@ -5,7 +5,7 @@ use Rattle.module_table.specs.TableStages.{after}
 use Rattle.module_table.specs.Parts.{if_present}
 use Rattle.module_table.proofs.Steps.{after_nothing}
 use Rattle.ob_grammar.specs.Combinators.{accept_at}
-use Rattle.ob_grammar.specs.AgreesWith.{skipped}
+use Rattle.ob_grammar.specs.ParsesAs.{skipped}
 use Rattle.ob_grammar.specs.ReadModules.{imports_at}
 use Rattle.table_reader.specs.DeclarationShapes.{imports_events}
 use Rattle.table_reader.proofs.Combine.{told_absent}

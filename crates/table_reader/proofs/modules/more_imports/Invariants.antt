@@ -1,6 +1,6 @@
 use Rattle.std.proofs.Common.{◌≡◌, length}
 use Rattle.table_rules.specs.Declaring.{import_rows}
-use Rattle.ob_grammar.specs.AgreesWith.{remaining}
+use Rattle.ob_grammar.specs.ParsesAs.{remaining}
 use Rattle.ob_grammar.proofs.Repetitions.{imports}
 use Rattle.table_reader.proofs.Lists.{behind_token, RepeatListing}
 use Rattle.table_reader.proofs.modules.more_imports.Given as goal

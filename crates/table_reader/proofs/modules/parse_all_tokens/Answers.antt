@@ -2,7 +2,7 @@ use Rattle.std.proofs.Common.{sym, ap, ◌∙◌}
 use Rattle.ob_tree.specs.Declaring.{module_events}
 use Rattle.table_rules.specs.Declaring.{module_rows}
 use Rattle.module_table.specs.TableStages.{after}
-use Rattle.ob_grammar.specs.AgreesWith.{remaining, with_remaining}
+use Rattle.ob_grammar.specs.ParsesAs.{remaining, with_remaining}
 use Rattle.table_reader.proofs.ModuleTrees.{whole_told, whole_failed, whole_left}
 use Rattle.table_reader.proofs.modules.parse_all_tokens.Goals as goal
 

@@ -1,6 +1,6 @@
 use Rattle.std.proofs.Common.{◌≡◌, length}
 use Rattle.table_rules.specs.Types.{parameter_rows}
-use Rattle.ob_grammar.specs.AgreesWith.{remaining}
+use Rattle.ob_grammar.specs.ParsesAs.{remaining}
 use Rattle.ob_grammar.proofs.Repetitions.{parameter_names}
 use Rattle.table_reader.proofs.Lists.{behind_token, RepeatListing}
 use Rattle.table_reader.proofs.parameters.more_names.Given as goal

@@ -6,7 +6,7 @@ use Rattle.module_table.specs.Parts.{each}
 use Rattle.table_rules.specs.Types.{part_row}
 use Rattle.module_table.specs.declared.rows.Part.TheVariants as parts
 use Rattle.ob_grammar.specs.Combinators.{accept_at, expect_at, many}
-use Rattle.ob_grammar.specs.AgreesWith.{remaining, skipped}
+use Rattle.ob_grammar.specs.ParsesAs.{remaining, skipped}
 use Rattle.ob_grammar.proofs.Arrays.{array_advances}
 use Rattle.table_reader.proofs.Lists.{Any, pieces_begun, pieces_more, pieces_done, listing_smaller, listing_failed}
 use Rattle.table_reader.proofs.ParameterTrees.{array_piece, array_after, array_told, arrays_told}

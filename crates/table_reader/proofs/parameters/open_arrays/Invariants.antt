@@ -2,7 +2,7 @@ use Rattle.std.proofs.Common.{◌≡◌, ◌++◌, length}
 use Rattle.ob_scan.specs.declared.kind.Kind.TheVariants as kinds
 use Rattle.ob_tree.specs.TreeEvents.{word}
 use Rattle.ob_grammar.specs.Combinators.{accept_at, expect_at}
-use Rattle.ob_grammar.specs.AgreesWith.{remaining}
+use Rattle.ob_grammar.specs.ParsesAs.{remaining}
 use Rattle.table_reader.proofs.Lists.{PieceListing}
 use Rattle.table_reader.proofs.ParameterTrees.{array_piece}
 use Rattle.table_reader.proofs.parameters.open_arrays.Given as goal

@@ -5,7 +5,7 @@ use Rattle.ob_tree.specs.Names.{qualident_events}
 use Rattle.module_table.specs.Parts.{both, token}
 use Rattle.table_rules.specs.Statements.{qualident_rows}
 use Rattle.ob_grammar.specs.Combinators.{accept_at}
-use Rattle.ob_grammar.specs.AgreesWith.{skipped}
+use Rattle.ob_grammar.specs.ParsesAs.{skipped}
 use Rattle.ob_grammar.specs.ReadNames.{qualident_at}
 use Rattle.table_reader.proofs.Following.{absent_told, word_there_told}
 use Rattle.table_reader.proofs.parameters.result_type.Goals as goal

@@ -11,10 +11,10 @@ use Rattle.table_reader.proofs.Following.{absent_told, there_told}
 use Rattle.table_reader.proofs.FactorTrees.{closed}
 use Rattle.table_reader.proofs.parameters.sections.Goals as goal
 
-pub returns-then-is_at-clause-effect : goal.returns-then-is_at-clause-effect
-returns-then-is_at-clause-effect c =
-    absent_told c.args.tokens.now c.args.context (separated kinds.Semicolon section_events) (list_rows section_rows) (unless kinds.RightParen) (several kinds.Semicolon section_at) _ c.args.input (closed kinds.RightParen _ (sym c.is_at.ensures ∙ c.if-is_at.true))
+pub returns-then-next_is-clause-effect : goal.returns-then-next_is-clause-effect
+returns-then-next_is-clause-effect c =
+    absent_told c.args.tokens.now c.args.context (separated kinds.Semicolon section_events) (list_rows section_rows) (unless kinds.RightParen) (several kinds.Semicolon section_at) _ c.args.input (closed kinds.RightParen _ (sym c.next_is.ensures ∙ c.if-next_is.true))
 
 pub returns-clause-effect : goal.returns-clause-effect
 returns-clause-effect c =
-    there_told c.args.tokens.now c.args.context (separated kinds.Semicolon section_events) (list_rows section_rows) (unless kinds.RightParen) (several kinds.Semicolon section_at) _ _ c.args.input _ (not_closed kinds.RightParen _ (sym c.is_at.ensures ∙ c.if-is_at.false)) c.section_list.ensures.effect
+    there_told c.args.tokens.now c.args.context (separated kinds.Semicolon section_events) (list_rows section_rows) (unless kinds.RightParen) (several kinds.Semicolon section_at) _ _ c.args.input _ (not_closed kinds.RightParen _ (sym c.next_is.ensures ∙ c.if-next_is.false)) c.section_list.ensures.effect

@@ -6,7 +6,7 @@ use Rattle.table_rules.specs.Declaring.{module_rows, outermost}
 use Rattle.module_table.specs.TableStages.{Stage}
 use Rattle.module_table.proofs.Steps.{number_of}
 use Rattle.module_table.proofs.TableRows.{rows_after}
-use Rattle.ob_grammar.specs.AgreesWith.{Fails}
+use Rattle.ob_grammar.specs.ParsesAs.{Fails}
 use Rattle.ob_grammar.specs.Parsed.{kinds_of, read_as_module}
 use Rattle.ob_grammar.proofs.OneTree.{tokens_placed, why_none}
 use Rattle.table_reader.proofs.WholeTables.{right_tree, tree_rows_as, whole_tree, wrong_tree}

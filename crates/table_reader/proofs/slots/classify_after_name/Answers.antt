@@ -1,6 +1,6 @@
 use Rattle.std.proofs.Common.{sym, ap, ◌∙◌}
 use Rattle.ob_scan.specs.declared.kind.Kind.TheVariants as kinds
-use Rattle.ob_grammar.specs.AgreesWith.{remaining, with_remaining, skipped}
+use Rattle.ob_grammar.specs.ParsesAs.{remaining, with_remaining, skipped}
 use Rattle.table_reader.proofs.SoleEnds.{same_ahead, no_dot_told, no_second_told, second_told, third_told}
 use Rattle.table_reader.proofs.slots.classify_after_name.Goals as goal
 

@@ -1,5 +1,5 @@
 use Rattle.std.proofs.Common.{sym, ap, ◌∙◌}
-use Rattle.ob_grammar.specs.AgreesWith.{with_remaining}
+use Rattle.ob_grammar.specs.ParsesAs.{with_remaining}
 use Rattle.table_reader.proofs.SoleEnds.{name_then_told}
 use Rattle.table_reader.proofs.slots.classify_tokens.Goals as goal
 

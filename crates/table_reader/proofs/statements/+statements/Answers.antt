@@ -8,7 +8,7 @@ use Rattle.ob_tree.specs.TreeEvents.{construct}
 use Rattle.ob_tree.specs.Statements.{block_events}
 use Rattle.table_rules.specs.Statements.{branch_rows, case_rows, stmt_rows, block_rows}
 use Rattle.ob_grammar.specs.Combinators.{accept_at}
-use Rattle.ob_grammar.specs.AgreesWith.{remaining, skipped}
+use Rattle.ob_grammar.specs.ParsesAs.{remaining, skipped}
 use Rattle.ob_grammar.specs.ReadExpressions.{expr_at}
 use Rattle.ob_grammar.specs.ReadStatements.{block_at, label_first, statement_with}
 use Rattle.ob_grammar.proofs.Loops.{has_begun, has_not_begun}
@@ -31,53 +31,53 @@ statement-returns-then-depth-eq0-clause-effect t c =
 
 pub statement-returns-clause-effect : goal.statement-returns-clause-effect
 statement-returns-clause-effect t c =
-    rw (deeper c.args.depth (remaining c.args.source.now.tokens.now c.args.input) c.if-depth-eq0.false) c.statement_within.ensures.effect
+    rw (deeper c.args.depth (remaining c.args.source.now.tokens.now c.args.input) c.if-depth-eq0.false) c.statement_after_depth_check.ensures.effect
 
-pub statement_within-returns-in-Some-Name-default-clause-effect : goal.statement_within-returns-in-Some-Name-default-clause-effect
-statement_within-returns-in-Some-Name-default-clause-effect t c =
+pub statement_after_depth_check-returns-in-Some-Name-default-clause-effect : goal.statement_after_depth_check-returns-in-Some-Name-default-clause-effect
+statement_after_depth_check-returns-in-Some-Name-default-clause-effect t c =
     let e = leaf_stands c.args.source.now.tokens.now _ c.args.input c.in-Some-Name-default.rest _ (leafs.Name c.in-Some-Name-default.number) c.in-Some-Name-default.is c.in-Some-Name-default.field-0-0-is c.next.ensures.read in
     told_seen c.args.source.now.tokens.now c.args.context (expr_at c.args.depth) (block_at c.args.depth) _ _ _ _ _ e c.assignment.ensures.effect
 
-pub statement_within-returns-in-Some-Word-If-default-clause-effect : goal.statement_within-returns-in-Some-Word-If-default-clause-effect
-statement_within-returns-in-Some-Word-If-default-clause-effect t c =
+pub statement_after_depth_check-returns-in-Some-Word-If-default-clause-effect : goal.statement_after_depth_check-returns-in-Some-Word-If-default-clause-effect
+statement_after_depth_check-returns-in-Some-Word-If-default-clause-effect t c =
     let e = word_stands c.args.source.now.tokens.now _ c.args.input c.in-Some-Word-If-default.rest _ _ kinds.If c.in-Some-Word-If-default.is c.in-Some-Word-If-default.field-0-0-is c.in-Some-Word-If-default.field-0-0-0-is c.next.ensures.read in
     told_seen c.args.source.now.tokens.now c.args.context (expr_at c.args.depth) (block_at c.args.depth) _ _ _ _ _ e c.if_statement.ensures.effect
 
-pub statement_within-returns-in-Some-Word-Case-default-clause-effect : goal.statement_within-returns-in-Some-Word-Case-default-clause-effect
-statement_within-returns-in-Some-Word-Case-default-clause-effect t c =
+pub statement_after_depth_check-returns-in-Some-Word-Case-default-clause-effect : goal.statement_after_depth_check-returns-in-Some-Word-Case-default-clause-effect
+statement_after_depth_check-returns-in-Some-Word-Case-default-clause-effect t c =
     let e = word_stands c.args.source.now.tokens.now _ c.args.input c.in-Some-Word-Case-default.rest _ _ kinds.Case c.in-Some-Word-Case-default.is c.in-Some-Word-Case-default.field-0-0-is c.in-Some-Word-Case-default.field-0-0-0-is c.next.ensures.read in
     told_seen c.args.source.now.tokens.now c.args.context (expr_at c.args.depth) (block_at c.args.depth) _ _ _ _ _ e c.case_statement.ensures.effect
 
-pub statement_within-returns-in-Some-Word-While-default-clause-effect : goal.statement_within-returns-in-Some-Word-While-default-clause-effect
-statement_within-returns-in-Some-Word-While-default-clause-effect t c =
+pub statement_after_depth_check-returns-in-Some-Word-While-default-clause-effect : goal.statement_after_depth_check-returns-in-Some-Word-While-default-clause-effect
+statement_after_depth_check-returns-in-Some-Word-While-default-clause-effect t c =
     let e = word_stands c.args.source.now.tokens.now _ c.args.input c.in-Some-Word-While-default.rest _ _ kinds.While c.in-Some-Word-While-default.is c.in-Some-Word-While-default.field-0-0-is c.in-Some-Word-While-default.field-0-0-0-is c.next.ensures.read in
     told_seen c.args.source.now.tokens.now c.args.context (expr_at c.args.depth) (block_at c.args.depth) _ _ _ _ _ e c.while_statement.ensures.effect
 
-pub statement_within-returns-in-Some-Word-Repeat-default-clause-effect : goal.statement_within-returns-in-Some-Word-Repeat-default-clause-effect
-statement_within-returns-in-Some-Word-Repeat-default-clause-effect t c =
+pub statement_after_depth_check-returns-in-Some-Word-Repeat-default-clause-effect : goal.statement_after_depth_check-returns-in-Some-Word-Repeat-default-clause-effect
+statement_after_depth_check-returns-in-Some-Word-Repeat-default-clause-effect t c =
     let e = word_stands c.args.source.now.tokens.now _ c.args.input c.in-Some-Word-Repeat-default.rest _ _ kinds.Repeat c.in-Some-Word-Repeat-default.is c.in-Some-Word-Repeat-default.field-0-0-is c.in-Some-Word-Repeat-default.field-0-0-0-is c.next.ensures.read in
     told_seen c.args.source.now.tokens.now c.args.context (expr_at c.args.depth) (block_at c.args.depth) _ _ _ _ _ e c.repeat_statement.ensures.effect
 
-pub statement_within-returns-in-Some-Word-For-default-clause-effect : goal.statement_within-returns-in-Some-Word-For-default-clause-effect
-statement_within-returns-in-Some-Word-For-default-clause-effect t c =
+pub statement_after_depth_check-returns-in-Some-Word-For-default-clause-effect : goal.statement_after_depth_check-returns-in-Some-Word-For-default-clause-effect
+statement_after_depth_check-returns-in-Some-Word-For-default-clause-effect t c =
     let e = word_stands c.args.source.now.tokens.now _ c.args.input c.in-Some-Word-For-default.rest _ _ kinds.For c.in-Some-Word-For-default.is c.in-Some-Word-For-default.field-0-0-is c.in-Some-Word-For-default.field-0-0-0-is c.next.ensures.read in
     told_seen c.args.source.now.tokens.now c.args.context (expr_at c.args.depth) (block_at c.args.depth) _ _ _ _ _ e c.for_statement.ensures.effect
 
-pub statement_within-returns-in_default-clause-effect : goal.statement_within-returns-in_default-clause-effect
+pub statement_after_depth_check-returns-in_default-clause-effect : goal.statement_after_depth_check-returns-in_default-clause-effect
 unfolding statement_with
-statement_within-returns-in_default-clause-effect t c =
+statement_after_depth_check-returns-in_default-clause-effect t c =
     let e : statement_with (expr_at c.args.depth) (block_at c.args.depth) (remaining c.args.source.now.tokens.now c.args.input) ≡ Ok (construct constructs.EmptyStatement [], (remaining c.args.source.now.tokens.now c.args.input)) = grind arith in
     empty_told c.args.source.now.tokens.now c.args.context _ c.args.input _ e
 
-pub statement_within-returns-in_default-2-clause-effect : goal.statement_within-returns-in_default-2-clause-effect
+pub statement_after_depth_check-returns-in_default-2-clause-effect : goal.statement_after_depth_check-returns-in_default-2-clause-effect
 unfolding statement_with
-statement_within-returns-in_default-2-clause-effect t c =
+statement_after_depth_check-returns-in_default-2-clause-effect t c =
     let e : statement_with (expr_at c.args.depth) (block_at c.args.depth) (remaining c.args.source.now.tokens.now c.args.input) ≡ Ok (construct constructs.EmptyStatement [], (remaining c.args.source.now.tokens.now c.args.input)) = grind arith in
     empty_told c.args.source.now.tokens.now c.args.context _ c.args.input _ e
 
-pub statement_within-returns-in_default-3-clause-effect : goal.statement_within-returns-in_default-3-clause-effect
+pub statement_after_depth_check-returns-in_default-3-clause-effect : goal.statement_after_depth_check-returns-in_default-3-clause-effect
 unfolding statement_with
-statement_within-returns-in_default-3-clause-effect t c =
+statement_after_depth_check-returns-in_default-3-clause-effect t c =
     let e : statement_with (expr_at c.args.depth) (block_at c.args.depth) (remaining c.args.source.now.tokens.now c.args.input) ≡ Ok (construct constructs.EmptyStatement [], (remaining c.args.source.now.tokens.now c.args.input)) = grind arith in
     empty_told c.args.source.now.tokens.now c.args.context _ c.args.input _ e
 
@@ -234,7 +234,7 @@ for_statement-returns-in-Ok-expression-clause-effect t c =
     for_told c.args.source.now.tokens.now c.args.context (expr_at c.args.depth) (block_at c.args.depth) _ _ _ _ (remaining c.args.source.now.tokens.now c.args.input) c.advance.ensures.stage
     (part_then c.args.source.now.tokens.now c.args.context variable_part (for_rest_part c.args.depth) _ _ _ c.in-Ok.here _ _ (variable_read c.args.source.now.tokens.now c.args.context c.in-Ok.field-0-0 _ _ c.args.input c.in-Ok.here c.in-Ok.ensures.read c.append_for_variable.ensures.stage)
     (word_then c.args.source.now.tokens.now c.args.context kinds.Assign (for_range_part c.args.depth) _ _ _ c.in-Ok-expect_word.here _ _ c.in-Ok-expect_word.ensures.effect
-    (part_then c.args.source.now.tokens.now c.args.context (expr_part c.args.depth) (for_limit_part c.args.depth) _ _ _ c.in-Ok-expression.here _ _ c.in-Ok-expression.ensures.effect c.for_limit.ensures.effect)))
+    (part_then c.args.source.now.tokens.now c.args.context (expr_part c.args.depth) (for_limit_part c.args.depth) _ _ _ c.in-Ok-expression.here _ _ c.in-Ok-expression.ensures.effect c.for_limit_and_body.ensures.effect)))
 
 pub for_statement-returns-in-Err-expression-clause-effect : goal.for_statement-returns-in-Err-expression-clause-effect
 for_statement-returns-in-Err-expression-clause-effect t c =
@@ -254,25 +254,25 @@ for_statement-returns-in-Err-clause-effect t c =
     for_told c.args.source.now.tokens.now c.args.context (expr_at c.args.depth) (block_at c.args.depth) _ _ c.args.builder.now (Err c.in-Err.stop) (remaining c.args.source.now.tokens.now c.args.input) c.advance.ensures.stage
     (part_failed c.args.source.now.tokens.now variable_part (for_rest_part c.args.depth) _ _ (no_variable c.args.source.now.tokens.now c.in-Err.stop _ c.in-Err.ensures.read))
 
-pub for_limit-returns-in-Ok-for_step-clause-effect : goal.for_limit-returns-in-Ok-for_step-clause-effect
-for_limit-returns-in-Ok-for_step-clause-effect t c =
+pub for_limit_and_body-returns-in-Ok-for_step-clause-effect : goal.for_limit_and_body-returns-in-Ok-for_step-clause-effect
+for_limit_and_body-returns-in-Ok-for_step-clause-effect t c =
     word_then c.args.source.now.tokens.now c.args.context kinds.To (for_end_part c.args.depth) _ _ _ c.in-Ok.here _ _ c.in-Ok.ensures.effect
     (part_then c.args.source.now.tokens.now c.args.context (expr_part c.args.depth) (for_step_part c.args.depth) _ _ _ c.in-Ok-expression.here _ _ c.in-Ok-expression.ensures.effect
     (part_then c.args.source.now.tokens.now c.args.context (value_part c.args.depth kinds.By) (for_body_part c.args.depth) _ _ _ c.in-Ok-for_step.here _ _ c.in-Ok-for_step.ensures.effect c.for_body.ensures.effect))
 
-pub for_limit-returns-in-Err-for_step-clause-effect : goal.for_limit-returns-in-Err-for_step-clause-effect
-for_limit-returns-in-Err-for_step-clause-effect t c =
+pub for_limit_and_body-returns-in-Err-for_step-clause-effect : goal.for_limit_and_body-returns-in-Err-for_step-clause-effect
+for_limit_and_body-returns-in-Err-for_step-clause-effect t c =
     word_then c.args.source.now.tokens.now c.args.context kinds.To (for_end_part c.args.depth) _ _ c.args.builder.now c.in-Ok.here (Err c.in-Err-for_step.stop) _ c.in-Ok.ensures.effect
     (part_then c.args.source.now.tokens.now c.args.context (expr_part c.args.depth) (for_step_part c.args.depth) _ _ c.args.builder.now c.in-Ok-expression.here (Err c.in-Err-for_step.stop) _ c.in-Ok-expression.ensures.effect
     (part_failed c.args.source.now.tokens.now (value_part c.args.depth kinds.By) (for_body_part c.args.depth) _ _ c.in-Err-for_step.ensures.effect))
 
-pub for_limit-returns-in-Err-expression-clause-effect : goal.for_limit-returns-in-Err-expression-clause-effect
-for_limit-returns-in-Err-expression-clause-effect t c =
+pub for_limit_and_body-returns-in-Err-expression-clause-effect : goal.for_limit_and_body-returns-in-Err-expression-clause-effect
+for_limit_and_body-returns-in-Err-expression-clause-effect t c =
     word_then c.args.source.now.tokens.now c.args.context kinds.To (for_end_part c.args.depth) _ _ c.args.builder.now c.in-Ok.here (Err c.in-Err-expression.stop) _ c.in-Ok.ensures.effect
     (part_failed c.args.source.now.tokens.now (expr_part c.args.depth) (for_step_part c.args.depth) _ _ c.in-Err-expression.ensures.effect)
 
-pub for_limit-returns-in-Err-clause-effect : goal.for_limit-returns-in-Err-clause-effect
-for_limit-returns-in-Err-clause-effect t c =
+pub for_limit_and_body-returns-in-Err-clause-effect : goal.for_limit_and_body-returns-in-Err-clause-effect
+for_limit_and_body-returns-in-Err-clause-effect t c =
     part_failed c.args.source.now.tokens.now (word_part kinds.To) (for_end_part c.args.depth) _ _ c.in-Err.ensures.effect
 
 pub for_body-returns-in-Ok-block-clause-effect : goal.for_body-returns-in-Ok-block-clause-effect

@@ -1,6 +1,6 @@
 use Rattle.std.proofs.Common.{◌≡◌, ◌+◌, ◌*◌, length}
 use Rattle.table_rules.specs.Statements.{branch_rows, case_rows, stmt_rows}
-use Rattle.ob_grammar.specs.AgreesWith.{remaining}
+use Rattle.ob_grammar.specs.ParsesAs.{remaining}
 use Rattle.ob_grammar.proofs.Repetitions.{branches, cases, statements}
 use Rattle.table_reader.proofs.Lists.{behind_token, RepeatListing}
 use Rattle.table_reader.proofs.statements.+statements.Given as goal
@@ -35,8 +35,8 @@ decreases-cases l = 16 * l.depth + 5
 abbrev pub decreases-for_body : goal.decreases-for_body
 decreases-for_body l = 16 * l.depth + 3
 
-abbrev pub decreases-for_limit : goal.decreases-for_limit
-decreases-for_limit l = 16 * l.depth + 4
+abbrev pub decreases-for_limit_and_body : goal.decreases-for_limit_and_body
+decreases-for_limit_and_body l = 16 * l.depth + 4
 
 abbrev pub decreases-if_statement : goal.decreases-if_statement
 decreases-if_statement l = 16 * l.depth + 6
@@ -53,8 +53,8 @@ decreases-repeat_statement l = 16 * l.depth + 6
 abbrev pub decreases-for_statement : goal.decreases-for_statement
 decreases-for_statement l = 16 * l.depth + 6
 
-abbrev pub decreases-statement_within : goal.decreases-statement_within
-decreases-statement_within l = 16 * l.depth + 7
+abbrev pub decreases-statement_after_depth_check : goal.decreases-statement_after_depth_check
+decreases-statement_after_depth_check l = 16 * l.depth + 7
 
 abbrev pub invariant-more_statements-more : goal.invariant-more_statements-more
 invariant-more_statements-more l = (RepeatListing l.fn.source.tokens.now (statements l.depth) (behind_token stmt_rows) l.context l.initial.builder l.builder l.fn.input l.here) × (l.builder.number ≡ l.here.at)

@@ -1,5 +1,5 @@
 use Rattle.std.proofs.Common.{refl}
-use Rattle.ob_grammar.specs.AgreesWith.{remaining}
+use Rattle.ob_grammar.specs.ParsesAs.{remaining}
 use Rattle.table_reader.proofs.StatementTrees.{assign_told, assign_failed}
 use Rattle.table_reader.proofs.statements.assignment.Goals as goal
 

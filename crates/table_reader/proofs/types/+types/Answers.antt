@@ -7,7 +7,7 @@ use Rattle.ob_tree.specs.Types.{type_events}
 use Rattle.module_table.specs.TableStages.{after}
 use Rattle.table_rules.specs.Types.{type_rows}
 use Rattle.ob_grammar.specs.Combinators.{accept_at, expect_at, limit_at, many, nothing, optional, seq, several, unless}
-use Rattle.ob_grammar.specs.AgreesWith.{remaining, skipped}
+use Rattle.ob_grammar.specs.ParsesAs.{remaining, skipped}
 use Rattle.ob_grammar.specs.ReadExpressions.{expr_at}
 use Rattle.ob_grammar.specs.ReadTypes.{field_start, fields_with, type_at, type_with, var_with}
 use Rattle.ob_grammar.proofs.Somes.{not_closed}
@@ -31,7 +31,7 @@ type_expression-returns-clause-effect t c = rw (type_deeper c.args.depth (remain
 pub type_after_depth_check-returns-in-Some-Name-default-clause-effect : goal.type_after_depth_check-returns-in-Some-Name-default-clause-effect
 type_after_depth_check-returns-in-Some-Name-default-clause-effect t c =
     let e = leaf_stands c.args.source.now.tokens.now _ c.args.input c.in-Some-Name-default.rest _ (leafs.Name c.in-Some-Name-default.head) c.in-Some-Name-default.is c.in-Some-Name-default.field-0-0-is c.next.ensures.read in
-    told_type c.args.source.now.tokens.now type_events (λ x. after (type_rows x) c.args.context) c.args.depth _ _ _ _ _ e c.named.ensures.effect
+    told_type c.args.source.now.tokens.now type_events (λ x. after (type_rows x) c.args.context) c.args.depth _ _ _ _ _ e c.named_type.ensures.effect
 
 pub type_after_depth_check-returns-in-Some-Word-Array-default-clause-effect : goal.type_after_depth_check-returns-in-Some-Word-Array-default-clause-effect
 type_after_depth_check-returns-in-Some-Word-Array-default-clause-effect t c =
@@ -95,13 +95,13 @@ record_after_base-returns-in-Ok-clause-effect t c =
 pub record_after_base-returns-in-Err-clause-effect : goal.record_after_base-returns-in-Err-clause-effect
 record_after_base-returns-in-Err-clause-effect t c = failed_then c.args.source.now.tokens.now (optional (unless kinds.End) (fields_with (type_at c.args.depth))) (expect_at kinds.End) _ _ c.in-Err.ensures.effect
 
-pub optional_fields-returns-then-is_at-clause-effect : goal.optional_fields-returns-then-is_at-clause-effect
-optional_fields-returns-then-is_at-clause-effect t c =
-    absent_told c.args.source.now.tokens.now c.args.context boxed_outline boxed_piece (unless kinds.End) (fields_with (type_at c.args.depth)) _ c.args.input (closed kinds.End _ (sym c.is_at.ensures ∙ c.if-is_at.true))
+pub optional_fields-returns-then-next_is-clause-effect : goal.optional_fields-returns-then-next_is-clause-effect
+optional_fields-returns-then-next_is-clause-effect t c =
+    absent_told c.args.source.now.tokens.now c.args.context boxed_outline boxed_piece (unless kinds.End) (fields_with (type_at c.args.depth)) _ c.args.input (closed kinds.End _ (sym c.next_is.ensures ∙ c.if-next_is.true))
 
 pub optional_fields-returns-clause-effect : goal.optional_fields-returns-clause-effect
 optional_fields-returns-clause-effect t c =
-    some_fields_told c.args.source.now.tokens.now c.args.context c.args.depth _ _ c.args.input _ (not_closed kinds.End _ (sym c.is_at.ensures ∙ c.if-is_at.false)) c.fields.ensures.effect
+    some_fields_told c.args.source.now.tokens.now c.args.context c.args.depth _ _ c.args.input _ (not_closed kinds.End _ (sym c.next_is.ensures ∙ c.if-next_is.false)) c.fields.ensures.effect
 
 pub fields-returns-in-Ok-clause-effect : goal.fields-returns-in-Ok-clause-effect
 fields-returns-in-Ok-clause-effect t c = fields_told c.args.source.now.tokens.now c.args.context c.args.depth _ _ _ c.args.input c.in-Ok.here _ c.in-Ok.ensures.effect c.fields_remainder.ensures.effect

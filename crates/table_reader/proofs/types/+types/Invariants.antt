@@ -1,5 +1,5 @@
 use Rattle.std.proofs.Common.{◌≡◌, ◌+◌, ◌*◌, length}
-use Rattle.ob_grammar.specs.AgreesWith.{remaining}
+use Rattle.ob_grammar.specs.ParsesAs.{remaining}
 use Rattle.ob_grammar.proofs.Repetitions.{field_lists}
 use Rattle.table_reader.specs.TypeShapes.{field_rows}
 use Rattle.table_reader.proofs.Lists.{behind_token, RepeatListing}

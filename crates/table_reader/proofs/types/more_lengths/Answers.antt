@@ -8,7 +8,7 @@ use Rattle.table_rules.specs.Expressions.{expr_rows}
 use Rattle.table_rules.specs.Types.{part_row}
 use Rattle.module_table.specs.declared.rows.Part.TheVariants as parts
 use Rattle.ob_grammar.specs.Combinators.{accept_at}
-use Rattle.ob_grammar.specs.AgreesWith.{remaining, skipped}
+use Rattle.ob_grammar.specs.ParsesAs.{remaining, skipped}
 use Rattle.ob_grammar.specs.ReadExpressions.{expr_at}
 use Rattle.table_reader.specs.TypeShapes.{length_rows}
 use Rattle.table_reader.proofs.Lists.{pieces_more, repeat_begun, repeat_shorter, repeat_failed, repeat_done}

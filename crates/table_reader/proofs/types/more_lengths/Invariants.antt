@@ -1,5 +1,5 @@
 use Rattle.std.proofs.Common.{◌≡◌, length}
-use Rattle.ob_grammar.specs.AgreesWith.{remaining}
+use Rattle.ob_grammar.specs.ParsesAs.{remaining}
 use Rattle.ob_grammar.proofs.Repetitions.{expressions}
 use Rattle.table_reader.specs.TypeShapes.{length_rows}
 use Rattle.table_reader.proofs.Lists.{RepeatListing}

@@ -1,7 +1,7 @@
 use Rattle.std.proofs.Common.{Ok, sym, ap, ◌∙◌}
 use Rattle.ob_scan.specs.declared.kind.Kind.TheVariants as kinds
 use Rattle.ob_grammar.specs.declared.cursor.Cursor.{Cursor}
-use Rattle.ob_grammar.specs.AgreesWith.{remaining, skipped}
+use Rattle.ob_grammar.specs.ParsesAs.{remaining, skipped}
 use Rattle.table_reader.proofs.LabelTrees.{lone_told, dotted_told, dotted_failed}
 use Rattle.table_reader.proofs.uses.qualident_after.Goals as goal
 

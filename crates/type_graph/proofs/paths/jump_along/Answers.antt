@@ -30,9 +30,9 @@ returns-in-Some-get_index g c shape base field built lacks =
     let at = stands_at g.R.PartialEq.eq c.requires.eq_is_identity paths c.args.«record» slot (sym c.get_index_of.ensures.index ∙ c.in-Some.is) in
     let end = ends_at ends.items slot c.index-end.result.now (omega (arith, c.len.ensures, ends.ok.0)) c.index-end.ensures in
     let next = subst (λ (es : List FieldEntry). IsSlotAfter es name slot c.next_slot_with_name-next.result) c.as_slice.ensures.value c.next_slot_with_name-next.ensures in
-    let onto = subst (λ (o : Option ℕ). IsSlotAfter c.args.paths.now.field_entries.items name slot o) c.in-Some-within.ensures.some.0 next in
-    hop_onto shape base field paths ends.items c.args.paths.now.field_entries.items name slot c.index-end.result.now c.in-Some-within.next
-    c.args.«record» c.in-Some-get_index.parent.now built at end lacks onto c.in-Some-within.ensures.some.1 (sym c.in-Some-get_index.ensures.key)
+    let onto = subst (λ (o : Option ℕ). IsSlotAfter c.args.paths.now.field_entries.items name slot o) c.in-Some-slot_up_to.ensures.some.0 next in
+    hop_onto shape base field paths ends.items c.args.paths.now.field_entries.items name slot c.index-end.result.now c.in-Some-slot_up_to.next
+    c.args.«record» c.in-Some-get_index.parent.now built at end lacks onto c.in-Some-slot_up_to.ensures.some.1 (sym c.in-Some-get_index.ensures.key)
 
 pub returns-in-Some-get_index-2 : goal.returns-in-Some-get_index-2
 returns-in-Some-get_index-2 g c shape base field built lacks =

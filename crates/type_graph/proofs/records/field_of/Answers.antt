@@ -24,7 +24,7 @@ returns-in-None-clause-fields g c =
     let shape = g.G.TypeGraph.shape c.args.graph.now in
     let base = g.G.TypeGraph.base_of c.args.graph.now in
     let field = λ (r : g.row.G-Record.Denot). g.G.TypeGraph.field_of c.args.graph.now r c.args.name.now in
-    ends_here shape base field g.G.Record.PartialEq.eq g.met.G.TypeGraph.eq_is_identity c.args.from c.records.«record» c.records.detector.checkpoints.items c.climb.new.detector.checkpoints.items c.in_ok-climb.field-0 c.in-None.is c.in_ok-climb.ensures.next
+    ends_here shape base field g.G.Record.PartialEq.eq g.met.G.TypeGraph.eq_is_identity c.args.from c.records.«record» c.records.detector.checkpoints.items c.climb_to_ancestor.new.detector.checkpoints.items c.in_ok-climb_to_ancestor.field-0 c.in-None.is c.in_ok-climb_to_ancestor.ensures.next
     c.records.invariant.climbs
 
 pub records-preserved : goal.records-preserved
@@ -33,12 +33,12 @@ records-preserved g c =
     let base = g.G.TypeGraph.base_of c.args.graph.now in
     let field = λ (r : g.row.G-Record.Denot). g.G.TypeGraph.field_of c.args.graph.now r c.args.name.now in
     record {
-      cache = c.in_ok-climb.ensures.cache;
-      climbs = progresses shape base field g.G.Record.PartialEq.eq g.met.G.TypeGraph.eq_is_identity c.args.from c.records.«record» c.in-Some-2.parent c.records.detector.checkpoints.items c.climb.new.detector.checkpoints.items
-          c.in_ok-climb.field-0 c.in-Some-2.is c.in_ok-climb.ensures.next c.records.invariant.climbs;
+      cache = c.in_ok-climb_to_ancestor.ensures.cache;
+      climbs = progresses shape base field g.G.Record.PartialEq.eq g.met.G.TypeGraph.eq_is_identity c.args.from c.records.«record» c.in-Some-2.parent c.records.detector.checkpoints.items c.climb_to_ancestor.new.detector.checkpoints.items
+          c.in_ok-climb_to_ancestor.field-0 c.in-Some-2.is c.in_ok-climb_to_ancestor.ensures.next c.records.invariant.climbs;
     }
 
 pub records-smaller : goal.records-smaller
 records-smaller g c =
-    let more = subst (λ (o : Option g.row.G-Record.Denot). IfSome o (λ _. (progress c.records.detector < progress c.climb.new.detector) × (progress c.climb.new.detector < 2 ^ 65))) c.in-Some-2.is c.in_ok-climb.ensures.visited in
+    let more = subst (λ (o : Option g.row.G-Record.Denot). IfSome o (λ _. (progress c.records.detector < progress c.climb_to_ancestor.new.detector) × (progress c.climb_to_ancestor.new.detector < 2 ^ 65))) c.in-Some-2.is c.in_ok-climb_to_ancestor.ensures.visited in
     omega (arith, more.0, more.1)

@@ -3,8 +3,8 @@ use Rattle.std.specs.Prelude.{slice_index}
 use Rattle.std.proofs.lemmas.Bool.{cases_eq}
 use Rattle.std.proofs.lemmas.List.{get_or-set_same, get_or-set_other}
 use Rattle.work_board.specs.declared.state.State.TheVariants.{Waiting, Free}
-use Rattle.work_board.specs.Graphs.{times_in}
-use Rattle.work_board.specs.Keeping.{freed, state_at}
+use Rattle.work_board.specs.Graphs.{occurrences_in}
+use Rattle.work_board.specs.Keeping.{state_after_delivery, state_at}
 use Rattle.work_board.proofs.Counting.{times_yes, times_take}
 use Rattle.work_board.proofs.Releasing.{freed_same, freed_waiting, released, still_waiting}
 use Rattle.work_board.proofs.board.decrement_waiting.Goals as goal
@@ -34,8 +34,8 @@ loop-module-preserved c =
     let now = c.loop-module.waiting in
     let states = c.args.states.now in
     let below : x < length old = c.requires.within i 0 c.loop-module-test.true in
-    let more : times_in x (take (i + 1) importers) ≡ times_in x (take i importers) + 1 = times_yes x importers i c.loop-module-test.true refl in
-    let before : slice_index now x + times_in x (take i importers) ≡ slice_index old x = c.loop-module.invariant.waiting x below in
+    let more : occurrences_in x (take (i + 1) importers) ≡ occurrences_in x (take i importers) + 1 = times_yes x importers i c.loop-module-test.true refl in
+    let before : slice_index now x + occurrences_in x (take i importers) ≡ slice_index old x = c.loop-module.invariant.waiting x below in
     let some : 0 < slice_index now x = omega (arith, more, times_take x importers (i + 1), c.requires.counted x below, before) in
     let long : length now ≡ length old = c.loop-module.auto.waiting in
     let long' : length c.loop-module.states ≡ length states = c.loop-module.auto.states in
@@ -59,8 +59,8 @@ loop-module-preserved c =
                 let is_not : (slice_index now x - 1 ≡ 0) → ⊥ = λ e. w.if-waiting-place-eq0.false (at_x ∙ e) in
                 elim (cases_eq m x) [
                   | inl same ↦
-                      let here : state_at c.loop-module.states x ≡ freed (state_at states x) (slice_index now x) = c.loop-module.invariant.states x below in
-                      let still : state_at c.loop-module.states x ≡ Waiting = here ∙ ap (λ s. freed s (slice_index now x)) was ∙ freed_waiting (slice_index now x) some in
+                      let here : state_at c.loop-module.states x ≡ state_after_delivery (state_at states x) (slice_index now x) = c.loop-module.invariant.states x below in
+                      let still : state_at c.loop-module.states x ≡ Waiting = here ∙ ap (λ s. state_after_delivery s (slice_index now x)) was ∙ freed_waiting (slice_index now x) some in
                       rw (w.states-is, same, at_x, was, still) (sym (freed_waiting (slice_index now x - 1) (omega arith)))
                   | inr other ↦ rw (w.states-is, away m other) (c.loop-module.invariant.states m lt)
                 ])

@@ -2,7 +2,7 @@ use Rattle.std.proofs.Common.{◌≡◌, ◌<◌, ◌+◌, length, take, take_al
 use Rattle.std.specs.Prelude.{slice_index}
 use Rattle.std.proofs.lemmas.Bool.{cases_eq}
 use Rattle.std.proofs.lemmas.List.{length-map}
-use Rattle.work_board.specs.Graphs.{lists, list_at, times_in}
+use Rattle.work_board.specs.Graphs.{lists, list_at, occurrences_in}
 use Rattle.work_board.proofs.Counting.{times_yes, times_no}
 use Rattle.work_board.proofs.Turning.{pushed_same, pushed_away, pushed_other, pushed_within}
 use Rattle.work_board.proofs.graph.add_importer.Goals as goal
@@ -33,12 +33,12 @@ loop-imported-preserved c =
       size = c.in_ok-append_at.ensures.size ∙ before.size;
       more = λ n. elim (cases_eq n at) [
         | inl here ↦
-            let t : times_in at (take (i + 1) row) ≡ times_in at (take i row) + 1 = times_yes at row i c.loop-imported-test.true refl in
+            let t : occurrences_in at (take (i + 1) row) ≡ occurrences_in at (take i row) + 1 = times_yes at row i c.loop-imported-test.true refl in
             let p = pushed_same rows new at m lt is in
             let b = before.more at in
             rw here (omega (arith, t, p, b))
         | inr away ↦
-            let t : times_in n (take (i + 1) row) ≡ times_in n (take i row) = times_no n row i c.loop-imported-test.true (λ e. away (sym e)) in
+            let t : occurrences_in n (take (i + 1) row) ≡ occurrences_in n (take i row) = times_no n row i c.loop-imported-test.true (λ e. away (sym e)) in
             let p = pushed_away rows new at m lt is n m away in
             let b = before.more n in
             omega (arith, t, p, b)
@@ -53,7 +53,7 @@ returns c =
     let all = take_all c.loop-imported.imported-index c.args.row.now c.loop-imported-test.false in
     record {
       size = after.size;
-      more = λ n. after.more n ∙ ap (λ row. times_in c.args.by (list_at (lists c.args.rows.now.items) n) + times_in n row) all;
+      more = λ n. after.more n ∙ ap (λ row. occurrences_in c.args.by (list_at (lists c.args.rows.now.items) n) + occurrences_in n row) all;
       others = after.others;
       within = after.within;
     }

@@ -10,13 +10,13 @@ use Rattle.cut_net.proofs.line_list.LineList.consume_line.Goals.{else-near-text-
 
 pub returns-in-Ok-clause-goes_on : goal.returns-in-Ok-clause-goes_on
 returns-in-Ok-clause-goes_on c before h =
-    let good = c.in-Some-parse_line_within.ensures.good in
-    line_goes_on c.args.text.now c.in-Some-parse_line_within.rest.now before (line_content c.in-Some-parse_line_within.line) c.add.new.self good c.in-Some-parse_line_within.ensures.text (c.in-Ok.ensures.listed before h good)
+    let good = c.in-Some-parse_first_line_within.ensures.good in
+    line_goes_on c.args.text.now c.in-Some-parse_first_line_within.rest.now before (line_content c.in-Some-parse_first_line_within.line) c.add.new.self good c.in-Some-parse_first_line_within.ensures.text (c.in-Ok.ensures.listed before h good)
 
 pub returns-in-Err-clause-twice : goal.returns-in-Err-clause-twice
 returns-in-Err-clause-twice c is before h =
-    let good = c.in-Some-parse_line_within.ensures.good in
-    line_repeats c.args.text.now c.in-Some-parse_line_within.rest.now before (line_content c.in-Some-parse_line_within.line) c.add.new.self good c.in-Some-parse_line_within.ensures.text (c.in-Err.ensures.twice is before h)
+    let good = c.in-Some-parse_first_line_within.ensures.good in
+    line_repeats c.args.text.now c.in-Some-parse_first_line_within.rest.now before (line_content c.in-Some-parse_first_line_within.line) c.add.new.self good c.in-Some-parse_first_line_within.ensures.text (c.in-Err.ensures.twice is before h)
 
 pub returns-clause-goes_on : goal.returns-clause-goes_on
 returns-clause-goes_on c = IfOk-weaker c.consume_first.result _ _ (λ rest goes before was. goes before (kept before was)) c.consume_first.ensures.goes_on

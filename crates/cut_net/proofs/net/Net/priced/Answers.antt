@@ -9,7 +9,7 @@ returns-then-not-are_weights_in_limit c =
     let net = c.args.self.now in
     let (lines, spelled, changes) = c.in_ok-changes.ensures.changes in
     let stand : c.deref-2.result.now ≡ map (pin_state_by net lines) net.imports =
-    c.deref-2.ensures.value ∙ c.in_ok-pin_states.ensures (change_of net lines) (c.deref.ensures.value ∙ changes.told_is) in
+    c.deref-2.ensures.value ∙ c.in_ok-pin_states.ensures (change_of net lines) (c.deref.ensures.value ∙ changes.changes_are) in
     record {
       priced = priced_by net lines;
       is_priced = record { lines = lines; text = record { spelled = spelled; good = changes.good }; is = refl };
@@ -20,7 +20,7 @@ pub returns : goal.returns
 returns c =
     let net = c.args.self.now in
     let (lines, spelled, changes) = c.in_ok-changes.ensures.changes in
-    let items = c.in_ok-pin_states.ensures (change_of net lines) (c.deref.ensures.value ∙ changes.told_is) in
+    let items = c.in_ok-pin_states.ensures (change_of net lines) (c.deref.ensures.value ∙ changes.changes_are) in
     let is = c.in_ok-with_pin_states.ensures (pin_state_by net lines) (c.deref-3.ensures.value ∙ items) in (
       record { lines = lines; text = record { spelled = spelled; good = changes.good }; is = is },
       light net (pin_state_by net lines) (subst IsNetwork c.self.view_is c.self.invariant.0) c.deref-2.result.now (c.deref-2.ensures.value ∙ items) c.are_weights_in_limit.result c.are_weights_in_limit.ensures c.if-not-are_weights_in_limit.false

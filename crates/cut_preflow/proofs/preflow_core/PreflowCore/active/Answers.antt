@@ -14,13 +14,13 @@ if_some_active net s (Some v) active are some = sym (are v) ∙ some
 
 pub returns-clause-some : goal.returns-clause-some
 returns-clause-some c =
-    reached_flags c.self.inside c.self.invariant.0 c.args.self.now c.self.view_is (λ net s. IfSome c.last.result (λ v. is_active net s v ≡ true))
-    (if_some_active (net_of c.self.inside) (fields_of c.self.inside) c.last.result c.self.inside.active c.self.invariant.1.active_are c.last.ensures.some)
+    reached_flags c.self.inside c.self.invariant.0 c.args.self.now c.self.view_is (λ net s. IfSome c.any_member.result (λ v. is_active net s v ≡ true))
+    (if_some_active (net_of c.self.inside) (fields_of c.self.inside) c.any_member.result c.self.inside.active c.self.invariant.1.active_are c.any_member.ensures.some)
 
 pub returns-clause-none : goal.returns-clause-none
 returns-clause-none c =
-    reached_flags c.self.inside c.self.invariant.0 c.args.self.now c.self.view_is (λ net s. IsNone c.last.result ↔ IsQuiet net s) (
-      λ none v. sym (c.self.invariant.1.active_are v) ∙ c.last.ensures.none none v,
-      none_if_quiet (net_of c.self.inside) (fields_of c.self.inside) c.last.result
-          (if_some_active (net_of c.self.inside) (fields_of c.self.inside) c.last.result c.self.inside.active c.self.invariant.1.active_are c.last.ensures.some),
+    reached_flags c.self.inside c.self.invariant.0 c.args.self.now c.self.view_is (λ net s. IsNone c.any_member.result ↔ IsQuiet net s) (
+      λ none v. sym (c.self.invariant.1.active_are v) ∙ c.any_member.ensures.none none v,
+      none_if_quiet (net_of c.self.inside) (fields_of c.self.inside) c.any_member.result
+          (if_some_active (net_of c.self.inside) (fields_of c.self.inside) c.any_member.result c.self.inside.active c.self.invariant.1.active_are c.any_member.ensures.some),
     )

@@ -1,6 +1,6 @@
 use Rattle.std.proofs.Common.{◌≡◌, ◌∙◌, ◌+◌, ◌-◌, ◌/◌, ◌%◌, ℕ, false, inl, inr, Some, None, if◌then◌else◌, sym, ap, subst, arith}
 use Rattle.cut_preflow.specs.declared.event.Outcome.TheVariants.{Moved, Stale}
-use Rattle.cut_preflow.specs.Indexed.{IsIndexed, carried}
+use Rattle.cut_preflow.specs.Indexed.{IsIndexed, with_moved_excess}
 use Rattle.cut_preflow.specs.FlowGraphs.{FlowGraphModel}
 use Rattle.cut_preflow.specs.Preflow.{can_push, flow_at, head, is_forward, push_amount, tail}
 use Rattle.cut_preflow.specs.Trace.{IsTrace, flow_network, state_of, state_with, step_outcome}
@@ -78,11 +78,11 @@ invariant_of-self-2 c =
     let ahead : arc % 2 ≡ 0 → next ≡ flow_at s (arc / 2) + amount = λ even. pick_true (is_forward arc) _ _ (eq_true (arc % 2) 0 even) in
     let back : (arc % 2 ≡ 0 → ⊥) → next ≡ flow_at s (arc / 2) - amount = λ odd. pick_false (is_forward arc) _ _ (odd_back_of arc odd) in
     let flow = pushed_flow net s arc amount next fits ahead back in
-    let same : c.move_excess.new.excesses.items ≡ carried q.ends.source q.excesses.items (tail net arc) (head net arc) (push_amount net s arc) =
+    let same : c.move_excess.new.excesses.items ≡ with_moved_excess q.ends.source q.excesses.items (tail net arc) (head net arc) (push_amount net s arc) =
     c.move_excess.ensures.excesses
-    ∙ ap (λ x. carried q.ends.source q.excesses.items x c.head-to.result amount) (from_is ok)
-    ∙ ap (λ x. carried q.ends.source q.excesses.items (tail net arc) x amount) (to_is ok)
-    ∙ ap (λ x. carried q.ends.source q.excesses.items (tail net arc) (head net arc) x) fits.is in
+    ∙ ap (λ x. with_moved_excess q.ends.source q.excesses.items x c.head-to.result amount) (from_is ok)
+    ∙ ap (λ x. with_moved_excess q.ends.source q.excesses.items (tail net arc) x amount) (to_is ok)
+    ∙ ap (λ x. with_moved_excess q.ends.source q.excesses.items (tail net arc) (head net arc) x) fits.is in
     let at = pushed_indexed q.ends q.graph.imports s q.graph.nodes q.excesses.items c.move_excess.new.excesses.items q.active c.move_excess.new.active arc (sound_fields q c.self.invariant.0) c.self.invariant.1 (pushable_from net s arc fits.on) same c.move_excess.ensures.active in
     subst (λ (g : FlowGraphModel). IsTrace (flow_network q.ends g.imports) g.flow q.labels.items c.push.new.self.items × IsIndexed (flow_network q.ends g.imports) (state_with g.flow q.labels.items) g.nodes c.move_excess.new.excesses.items c.move_excess.new.active) (sym c.send.ensures)
     (rw (c.in-Ok.ensures.items) (

@@ -14,10 +14,10 @@ returns-clause-elements c m low =
     let ok = c.in_ok-flags.flags.ok.0 in
     let long = c.in_ok-flags.ensures.len in
     let nodes = c.nodes.ensures in
-    let size = c.flag_denoted.ensures.size in
-    let whole = ap (λ (ms : List Bool). marked ms m) (with_items_is c.in_ok-flags.flags c.flag_denoted.new.flags (omega arith)) in
+    let size = c.flag_modules_of_name.ensures.size in
+    let whole = ap (λ (ms : List Bool). marked ms m) (with_items_is c.in_ok-flags.flags c.flag_modules_of_name.new.flags (omega arith)) in
     let none : marked c.as_mut_slice.result.now m ≡ false = ap (λ (ms : List Bool). marked ms m) (start ∙ c.in_ok-flags.ensures.items_if_clones_equal (λ y e. e)) ∙ no_marks c.nodes.result m in
-    let law = c.flag_denoted.ensures.flags m (omega arith) in (
+    let law = c.flag_modules_of_name.ensures.flags m (omega arith) in (
       λ e. elim (law.0 (sym whole ∙ e)) [ inl was ↦ absurd (let bad : true ≡ false = sym was ∙ none in cc) | inr named ↦ named ],
       λ named. whole ∙ law.1 (inr named),
     )

@@ -5,7 +5,7 @@ use Rattle.std.proofs.lemmas.List.{get_or-replicate, take_all}
 use Rattle.std.proofs.lemmas.List.Elements.{Contains-get_or}
 use Rattle.digraph.specs.Marks.{marked}
 use Rattle.cut_rules.specs.declared.rule.Rule.{Rule}
-use Rattle.cut_rules.specs.Judged.{IsFlagSet, IsOutsiderOf}
+use Rattle.cut_rules.specs.Judged.{IsFlagSet, IsForbiddenByMayRules}
 use Rattle.cut_rules.proofs.NodeMarks.{outside_first, outside_more, outside_same}
 use Rattle.cut_rules.proofs.reading.Rules.may_targets.Goals as goal
 use Rattle.cut_rules.proofs.reading.Rules.may_targets.Goals.{then-is_may_of+in_ok-members, else-is_may_of}
@@ -40,12 +40,12 @@ loop-rule-preserved c = elim c.if-is_may_of.branch [
     size = ap vec_len w.flags-is ∙ w.set_flags-then-is_may_of.ensures.size ∙ c.loop-rule.invariant.size;
     elements = λ n low.
         let set = subst (λ (l : List ℕ). IsFlagSet l false c.loop-rule.flags.items w.set_flags-then-is_may_of.new.flags.items n) w.as_slice-then-is_may_of.ensures.value (w.set_flags-then-is_may_of.ensures.flags n) in
-        subst (λ (v : Vec Bool). (marked v.items n ≡ true) ↔ IsOutsiderOf c.args.self.now (take (c.loop-rule.rule-index + 1) c.as_slice-rule-items.result.now) c.args.first n) (sym w.flags-is)
+        subst (λ (v : Vec Bool). (marked v.items n ≡ true) ↔ IsForbiddenByMayRules c.args.self.now (take (c.loop-rule.rule-index + 1) c.as_slice-rule-items.result.now) c.args.first n) (sym w.flags-is)
         (outside_more c.args.self.now c.args.first n c.as_slice-rule-items.result.now c.loop-rule.rule-index _ c.loop-rule-test.true c.loop-rule.flags.items (c.loop-rule.invariant.elements n low) w.in_ok-members.members.items w.set_flags-then-is_may_of.new.flags.items (w.if-is_may_of.ensures.0 refl) set (w.in_ok-members.ensures.elements n low));
   }
   | else-is_may_of w ↦ record {
     size = ap vec_len w.flags-is ∙ c.loop-rule.invariant.size;
-    elements = λ n low. subst (λ (v : Vec Bool). (marked v.items n ≡ true) ↔ IsOutsiderOf c.args.self.now (take (c.loop-rule.rule-index + 1) c.as_slice-rule-items.result.now) c.args.first n) (sym w.flags-is)
+    elements = λ n low. subst (λ (v : Vec Bool). (marked v.items n ≡ true) ↔ IsForbiddenByMayRules c.args.self.now (take (c.loop-rule.rule-index + 1) c.as_slice-rule-items.result.now) c.args.first n) (sym w.flags-is)
         (outside_same c.args.self.now c.args.first n c.as_slice-rule-items.result.now c.loop-rule.rule-index _ c.loop-rule-test.true c.loop-rule.flags.items (c.loop-rule.invariant.elements n low) (λ may. let bad : false ≡ true = w.if-is_may_of.ensures.1 may in cc));
   }
 ]
@@ -54,4 +54,4 @@ pub returns-clause-elements : goal.returns-clause-elements
 returns-clause-elements c = λ n low.
     let past = c.loop-rule-test.false in
     let all = take_all c.loop-rule.rule-index c.as_slice-rule-items.result.now (omega arith) ∙ c.as_slice-rule-items.ensures.value in
-    subst (λ (l : List Rule). (marked c.loop-rule.flags.items n ≡ true) ↔ IsOutsiderOf c.args.self.now l c.args.first n) all (c.loop-rule.invariant.elements n low)
+    subst (λ (l : List Rule). (marked c.loop-rule.flags.items n ≡ true) ↔ IsForbiddenByMayRules c.args.self.now l c.args.first n) all (c.loop-rule.invariant.elements n low)

@@ -3,7 +3,7 @@ use Rattle.std.proofs.lemmas.Bool.{false≢true}
 use Rattle.std.proofs.lemmas.List.{take_all}
 use Rattle.glob.specs.Exclusions.{names_of, ExcludesBy, IsExcludedBy}
 use Rattle.glob.proofs.Excluding.{no_more_globs}
-use Rattle.glob.proofs.Floating.{no}
+use Rattle.glob.proofs.PiecesAfterStar.{no}
 use Rattle.glob.proofs.exclusion.Exclusion.excludes.Goals as goal
 
 pub loop-glob-preserved : goal.loop-glob-preserved

@@ -24,8 +24,8 @@ loop-occurrence-init c =
       λ paths found k. rw (append-nil found) (path_entered paths found old name ps cs c.in_ok-path.path whole k entered),
     )
 
-pub add-requires-clause-within : goal.add-requires-clause-within
-add-requires-clause-within c = (number_there (texts_in c.loop-occurrence.self.by_path) (string_bytes c.args.document.now.relative_path) c.in_ok-path.path c.loop-occurrence.invariant.1).0
+pub add_occurrence-requires-clause-within : goal.add_occurrence-requires-clause-within
+add_occurrence-requires-clause-within c = (number_there (texts_in c.loop-occurrence.self.by_path) (string_bytes c.args.document.now.relative_path) c.in_ok-path.path c.loop-occurrence.invariant.1).0
 
 pub loop-occurrence-preserved : goal.loop-occurrence-preserved
 loop-occurrence-preserved c =
@@ -33,10 +33,10 @@ loop-occurrence-preserved c =
     let items = c.args.document.now.occurrences.items in
     let k = c.loop-occurrence.occurrence-index in
     let at = c.loop-occurrence.invariant.1 in (
-      c.in_ok-add.ensures.whole,
-      rw c.in_ok-add.ensures.paths at,
-      λ paths found retained. subst (λ (fs : List PlacedOccurrence). Keeps (paths ++ name ∷ []) fs (tables_of c.add.new.self)) (some_more found name items k c.occurrence-item.result (rw c.deref-occurrence-items.ensures.value at c.loop-occurrence-test.true) (rw c.deref-occurrence-items.ensures.value at c.occurrence-item.is))
-          (c.in_ok-add.ensures.retained (paths ++ name ∷ []) (found ++ map (occurrence_at name) (map occurrence_model (take k items))) name (c.loop-occurrence.invariant.2 paths found retained) at),
+      c.in_ok-add_occurrence.ensures.whole,
+      rw c.in_ok-add_occurrence.ensures.paths at,
+      λ paths found retained. subst (λ (fs : List PlacedOccurrence). Keeps (paths ++ name ∷ []) fs (tables_of c.add_occurrence.new.self)) (some_more found name items k c.occurrence-item.result (rw c.deref-occurrence-items.ensures.value at c.loop-occurrence-test.true) (rw c.deref-occurrence-items.ensures.value at c.occurrence-item.is))
+          (c.in_ok-add_occurrence.ensures.retained (paths ++ name ∷ []) (found ++ map (occurrence_at name) (map occurrence_model (take k items))) name (c.loop-occurrence.invariant.2 paths found retained) at),
     )
 
 pub returns-clause-whole : goal.returns-clause-whole

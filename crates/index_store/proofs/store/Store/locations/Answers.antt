@@ -13,11 +13,11 @@ returns-in-None c = record {
       text_lacking (texts_in c.self.inside.by_path) c.args.path.now (sym c.in-None.ensures) ((retained.named c.args.path.now).1 has);
 }
 
-pub returns-in_ok-locations_of-in-Some : goal.returns-in_ok-locations_of-in-Some
-returns-in_ok-locations_of-in-Some c = record {
+pub returns-in_ok-unchecked_locations-in-Some : goal.returns-in_ok-unchecked_locations-in-Some
+returns-in_ok-unchecked_locations-in-Some c = record {
   exact = λ index store.
       let retained = subst (IsStoreOf index) (sym c.self.view_is) store in (
         (retained.named c.args.path.now).0 (text_among (texts_in c.self.inside.by_path) c.args.path.now _ (sym c.in-Some.ensures)),
-        c.in_ok-locations_of-in-Some.ensures ∙ places_are c.args.defines index c.args.self.now c.args.path.now c.args.symbol.now store,
+        c.in_ok-unchecked_locations-in-Some.ensures ∙ places_are c.args.defines index c.args.self.now c.args.path.now c.args.symbol.now store,
       );
 }

@@ -26,19 +26,19 @@ text-requires c =
     let t = tables_in c.self.inside.by_path c.self.inside.by_symbol in
     let i = c.self.invariant in
     let rows = subst (All (λ (x : PathEntry). x.symbol < length t.symbols)) (under_number t.paths t.coverings c.args.path.now c.in-Some.number i.whole.of_paths (sym c.in-Some.ensures)) (i.invariants.symbols_valid c.args.path.now) in
-    record { within = nearest_is (λ (x : PathEntry). x.symbol < length t.symbols) c.args.at None (rows_at t.coverings c.in-Some.number) c.in-Some-nearest.covering (λ b e. absurd cc) rows (rw c.rows.ensures at (sym c.in-Some-nearest.ensures)) }
+    record { within = nearest_is (λ (x : PathEntry). x.symbol < length t.symbols) c.args.at None (rows_at t.coverings c.in-Some.number) c.in-Some-nearest_entry.covering (λ b e. absurd cc) rows (rw c.rows.ensures at (sym c.in-Some-nearest_entry.ensures)) }
 
-pub returns-in-None-nearest : goal.returns-in-None-nearest
-returns-in-None-nearest c = record {
+pub returns-in-None-nearest_entry : goal.returns-in-None-nearest_entry
+returns-in-None-nearest_entry c = record {
   exact = λ index store.
       let t = tables_in c.self.inside.by_path c.self.inside.by_symbol in
-      nearest_here index t c.args.path.now c.args.at c.in-Some.number None c.self.invariant.whole (subst (IsStoreOf index) (sym c.self.view_is) store) (sym c.in-Some.ensures) (rw c.rows.ensures at c.in-None-nearest.ensures);
+      nearest_here index t c.args.path.now c.args.at c.in-Some.number None c.self.invariant.whole (subst (IsStoreOf index) (sym c.self.view_is) store) (sym c.in-Some.ensures) (rw c.rows.ensures at c.in-None-nearest_entry.ensures);
 }
 
-pub returns-in-Some-nearest : goal.returns-in-Some-nearest
-returns-in-Some-nearest c = record {
+pub returns-in-Some-nearest_entry : goal.returns-in-Some-nearest_entry
+returns-in-Some-nearest_entry c = record {
   exact = λ index store.
       let t = tables_in c.self.inside.by_path c.self.inside.by_symbol in
-      let h = nearest_here index t c.args.path.now c.args.at c.in-Some.number (Some c.in-Some-nearest.covering) c.self.invariant.whole (subst (IsStoreOf index) (sym c.self.view_is) store) (sym c.in-Some.ensures) (rw c.rows.ensures at c.in-Some-nearest.ensures) in
+      let h = nearest_here index t c.args.path.now c.args.at c.in-Some.number (Some c.in-Some-nearest_entry.covering) c.self.invariant.whole (subst (IsStoreOf index) (sym c.self.view_is) store) (sym c.in-Some.ensures) (rw c.rows.ensures at c.in-Some-nearest_entry.ensures) in
       rw c.text.ensures h;
 }

@@ -25,17 +25,17 @@ loop-occurrence-preserved g c =
     let line = lines_of_occurrence (writer_style c.args.self.now.locations) c.args.with_local c.args.path.now (occurrence_of (records_of c.in-Some.occurrence)) in
     let behind = ap (λ (pss : List (List PayloadRecord)). lines_in (writer_style c.args.self.now.locations) c.args.with_local c.args.path.now (map occurrence_of pss)) c.in-Some.ensures.some in
     record {
-      gathered = (so_far.0 ++ line, lines_behind _ so_far.0 _ line _ so_far.1 behind, joined _ _ _ _ so_far.0 line _ _ (so_far.0 ++ line) refl so_far.2 (rw c.loop-occurrence.invariant.style at c.in_ok-write_listed.ensures.gathered));
+      gathered = (so_far.0 ++ line, lines_behind _ so_far.0 _ line _ so_far.1 behind, joined _ _ _ _ so_far.0 line _ _ (so_far.0 ++ line) refl so_far.2 (rw c.loop-occurrence.invariant.style at c.in_ok-write_if_definition.ensures.gathered));
       texts = (subst (λ (pss : List (List PayloadRecord)). HaveTextSymbols (map occurrence_of pss)) c.in-Some.ensures.some c.loop-occurrence.invariant.texts).1;
-      style = c.in_ok-write_listed.ensures.style ∙ c.loop-occurrence.invariant.style;
+      style = c.in_ok-write_if_definition.ensures.style ∙ c.loop-occurrence.invariant.style;
       failures = search rules;
       within = search rules;
     }
 
-pub returns-in_err-write_listed-clause-error_prefix : goal.returns-in_err-write_listed-clause-error_prefix
-returns-in_err-write_listed-clause-error_prefix g c =
+pub returns-in_err-write_if_definition-clause-error_prefix : goal.returns-in_err-write_if_definition-clause-error_prefix
+returns-in_err-write_if_definition-clause-error_prefix g c =
     let p = err_from_is_err_and c.from_residual.result c.from_residual.ensures.1 in
     let so_far = c.loop-occurrence.invariant.gathered in
     let line = lines_of_occurrence (writer_style c.args.self.now.locations) c.args.with_local c.args.path.now (occurrence_of (records_of c.in-Some.occurrence)) in
     let behind = ap (λ (pss : List (List PayloadRecord)). lines_in (writer_style c.args.self.now.locations) c.args.with_local c.args.path.now (map occurrence_of pss)) c.in-Some.ensures.some in
-    rw p.1 (front_joined _ _ _ _ so_far.0 line _ _ _ (lines_behind _ so_far.0 _ line _ so_far.1 behind) so_far.2 (rw c.loop-occurrence.invariant.style at c.in_err-write_listed.ensures.error_prefix))
+    rw p.1 (front_joined _ _ _ _ so_far.0 line _ _ _ (lines_behind _ so_far.0 _ line _ so_far.1 behind) so_far.2 (rw c.loop-occurrence.invariant.style at c.in_err-write_if_definition.ensures.error_prefix))

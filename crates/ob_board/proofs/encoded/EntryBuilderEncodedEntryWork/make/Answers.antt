@@ -7,7 +7,7 @@ use Rattle.ob_board.proofs.encoded.EntryBuilderEncodedEntryWork.make.Goals.{Afte
 here : (g : _) (c : After-self g) → IsGiven g.F.NamedIndex.files c.self.inside.sources.now c.self.inside.modules.now c.args.self.now c.args.number (map arc_value c.args.parts.now)
 here g c =
     let w = c.self.inside in
-    recorded_given c.reached_by_names.ensures g.F.NamedIndex.package_name g.F.NamedIndex.files w.sources.now w.modules.now w.graph.now c.args.self.now c.self.invariant.0 c.self.invariant.1 c.self.view_is c.args.number _ c.requires
+    recorded_given c.reach_by_names_agrees.ensures g.F.NamedIndex.package_name g.F.NamedIndex.files w.sources.now w.modules.now w.graph.now c.args.self.now c.self.invariant.0 c.self.invariant.1 c.self.view_is c.args.number _ c.requires
 
 pub bounds-self-inside-place : goal.bounds-self-inside-place
 bounds-self-inside-place g c = (here g (goal.at.bounds-self-inside-place g c).After-self).within.0

@@ -12,8 +12,8 @@ returns-clause-before c =
     let at = slice_get_read c.deref.result.now _ (n / 16) c.in_ok-low.field-0.now refl c.in_ok-low.ensures.lookup.3.0 c.in_ok-low.ensures.lookup.1 in
     low_before it.declared.now it.firsts.items n (n / 16) c.in_ok-low.field-0.now it.boundaries (omega arith) (ap (λ (xs : List ℕ). slice_get xs (n / 16)) (sym c.deref.ensures.value) ∙ at)
 
-pub returns-clause-behind : goal.returns-clause-behind
-returns-clause-behind c =
+pub returns-clause-after : goal.returns-clause-after
+returns-clause-after c =
     let it = c.args.self.now in
     let n = c.args.number in
     let m = n / 16 + 1 in

@@ -6,6 +6,6 @@ use Rattle.ob_emit.proofs.target_texts.Texts.intern.Goals as goal
 
 pub returns-in_default : goal.returns-in_default
 returns-in_default c = λ p made.
-    let foreign : AreForeignTexts c.args.types.now p c.deref_mut.result.now = subst (AreForeignTexts c.args.types.now p) (sym c.deref_mut.ensures.value) made.foreign in
-    on_ok_weaker c.intern-in_default.result (λ more. record { prefixes = made.prefixes; own = made.own; declared = made.declared; locations = made.locations; foreign = more })
-    (c.intern-in_default.ensures p made.prefixes foreign)
+    let foreign : AreForeignTexts c.args.view.now p c.deref_mut.result.now = subst (AreForeignTexts c.args.view.now p) (sym c.deref_mut.ensures.value) made.foreign in
+    on_ok_weaker c.intern.result (λ more. record { prefixes = made.prefixes; own = made.own; declared = made.declared; locations = made.locations; foreign = more })
+    (c.intern.ensures p made.prefixes foreign)

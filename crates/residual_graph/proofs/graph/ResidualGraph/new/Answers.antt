@@ -15,8 +15,8 @@ invariant_of-result c =
     let counted : AreCounted arcs nodes sizes indexes (length arcs) = subst (λ (v : List Arc). AreCounted v nodes sizes indexes (length v)) c.deref.ensures.value c.in_ok-counted.ensures in
     let are : AreBegins sizes nodes begins = subst (λ n. AreBegins sizes n begins) counted.each_sized
     (subst (λ v. AreBegins v (length v) begins) c.deref-2.ensures.value c.in_ok-begins.ensures) in
-    let placed : ArePlaced arcs begins indexes outs (length arcs) =
+    let out_arcs_by_tail : ArePlaced arcs begins indexes outs (length arcs) =
     subst (λ (v : List Arc). ArePlaced v begins indexes outs (length v)) c.deref-3.ensures.value
     (subst (λ v. ArePlaced c.deref-3.result.now v indexes outs (length c.deref-3.result.now)) c.deref-4.ensures.value c.in_ok-outs.ensures) in
     listed arcs nodes sizes indexes begins c.requires.between counted are outs
-    (record { within = c.requires.within; between = c.requires.between; few_nodes = c.ranges.nodes.fits }) placed
+    (record { within = c.requires.within; between = c.requires.between; few_nodes = c.ranges.nodes.fits }) out_arcs_by_tail

@@ -3,7 +3,7 @@ use Rattle.std.proofs.Math.Seq.{map-set_same}
 use Rattle.std.proofs.lemmas.List.{get_or_default}
 use Rattle.residual_graph.specs.declared.arc.Arc.{Arc}
 use Rattle.residual_graph.specs.declared.groups.OutArcIndexes.{OutArcIndexes}
-use Rattle.residual_graph.specs.Flows.{emptied, pushed, DifferInFlowOnly}
+use Rattle.residual_graph.specs.Flows.{without_flow, pushed, DifferInFlowOnly}
 use Rattle.residual_graph.specs.Graphs.{no_arc, residual, Graph}
 use Rattle.residual_graph.specs.OutArcs.{begin_of, no_indexes, out_arc_of}
 use Rattle.residual_graph.proofs.Augmenting.{pushed_within}
@@ -57,7 +57,7 @@ returns-clause-same c =
     let inside : c.args.self.now.arcs ≡ arcs = sym (ap (λ (g : Graph). g.arcs) c.self.view_is) in
     let known = subst (λ v. k < length v) inside c.requires.known in
     let is = sent_is arcs k c.index.result.now c.push-arc.result c.args.step.forward c.args.amount c.index.ensures known c.push-arc.ensures in
-    subst (λ v. DifferInFlowOnly v (set arcs k c.push-arc.result)) (sym inside) (subst (λ (r : Arc). DifferInFlowOnly arcs (set arcs k r)) (sym is) (map-set_same emptied arcs k (pushed (get_or arcs k no_arc) c.args.step.forward c.args.amount) no_arc refl))
+    subst (λ v. DifferInFlowOnly v (set arcs k c.push-arc.result)) (sym inside) (subst (λ (r : Arc). DifferInFlowOnly arcs (set arcs k r)) (sym is) (map-set_same without_flow arcs k (pushed (get_or arcs k no_arc) c.args.step.forward c.args.amount) no_arc refl))
 
 pub overflow_add-forth : goal.overflow_add-forth
 overflow_add-forth c =

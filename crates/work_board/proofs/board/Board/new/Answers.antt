@@ -2,7 +2,7 @@ use Rattle.std.proofs.Common.{ℕ, false, length, map, ap, ◌∙◌, subst}
 use Rattle.std.specs.Prelude.{None, replicate}
 use Rattle.work_board.specs.declared.state.State.TheVariants.{Waiting}
 use Rattle.work_board.specs.Graphs.{lists, Modules}
-use Rattle.work_board.specs.Keeping.{freed, taken, IsValidBoard}
+use Rattle.work_board.specs.Keeping.{state_after_delivery, taken, IsValidBoard}
 use Rattle.work_board.proofs.Opening.{core_same, first_claimed, opened}
 use Rattle.work_board.proofs.board.Board.new.Goals as goal
 
@@ -22,4 +22,4 @@ returns g c =
     let names = ap (λ (u : Modules). length u.names) c.requires in
     core_same c.in_ok-entries.entries.items (replicate (length g.T.NamedTree.graph.names) None) (map taken c.in_ok-states.states.items) (replicate (length g.T.NamedTree.graph.names) false) false
     (c.in_ok-entries.ensures ∙ ap (λ (n : ℕ). replicate n None) (c.modules-count.ensures ∙ names))
-    (ap (map taken) (c.in_ok-states.ensures ∙ ap (map (freed Waiting)) c.as_slice.ensures.value) ∙ first_claimed counts ∙ ap (λ (n : ℕ). replicate n false) (c.in_ok-waiting.ensures.size ∙ names))
+    (ap (map taken) (c.in_ok-states.ensures ∙ ap (map (state_after_delivery Waiting)) c.as_slice.ensures.value) ∙ first_claimed counts ∙ ap (λ (n : ℕ). replicate n false) (c.in_ok-waiting.ensures.size ∙ names))

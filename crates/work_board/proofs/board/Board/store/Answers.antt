@@ -2,9 +2,9 @@ use Rattle.std.proofs.Common.{◌≡◌, ◌<◌, ◌≤◌, ◌+◌, ℕ, Bool,
 use Rattle.std.specs.Prelude.{slice_index, Some}
 use Rattle.std.proofs.lemmas.List.{length-set}
 use Rattle.work_board.specs.declared.state.State.TheVariants.{Claimed, Delivered}
-use Rattle.work_board.specs.Graphs.{lists, list_at, times_in, Modules}
+use Rattle.work_board.specs.Graphs.{lists, list_at, occurrences_in, Modules}
 use Rattle.work_board.specs.Cores.{has_entry, is_claimed}
-use Rattle.work_board.specs.Keeping.{freed, state_at, taken, IsFit, IsValidBoard}
+use Rattle.work_board.specs.Keeping.{state_after_delivery, state_at, taken, IsFit, IsValidBoard}
 use Rattle.work_board.proofs.Claiming.{claimed_state}
 use Rattle.work_board.proofs.Delivering.{claimed_same, counted, delivered_kept, fits}
 use Rattle.work_board.proofs.Marking.{restored}
@@ -17,8 +17,8 @@ at_n g c =
     let none = subst (λ core. has_entry core.entries c.args.number ≡ false) (sym c.self.view_is) c.requires.none in
     claimed_state g.E.WorkEntry.is_of g.T.NamedTree.graph b.waiting.items b.states.items (lists b.reached.items) b.spare.items b.entries.items c.self.invariant.1 b.abandoned c.args.number claimed none
 
-transposed : (g : _) (c : goal.After-importers_of g) (m : ℕ) → times_in m c.importers_of.result.now ≡ times_in c.args.number (list_at g.T.NamedTree.graph.imports m)
-transposed g c m = c.importers_of.ensures.transposed m ∙ ap (λ (t : Modules). times_in c.args.number (list_at t.imports m)) c.self.invariant.0
+transposed : (g : _) (c : goal.After-importers_of g) (m : ℕ) → occurrences_in m c.importers_of.result.now ≡ occurrences_in c.args.number (list_at g.T.NamedTree.graph.imports m)
+transposed g c m = c.importers_of.ensures.transposed m ∙ ap (λ (t : Modules). occurrences_in c.args.number (list_at t.imports m)) c.self.invariant.0
 
 pub decrement_waiting-requires-clause-counted : goal.decrement_waiting-requires-clause-counted
 decrement_waiting-requires-clause-counted g c = λ m lt.
@@ -26,7 +26,7 @@ decrement_waiting-requires-clause-counted g c = λ m lt.
     let at = at_n g c in
     let l = ap length c.as_mut_slice.ensures.value in
     let h = counted g.E.WorkEntry.is_of g.T.NamedTree.graph b.waiting.items b.states.items (lists b.reached.items) b.spare.items b.entries.items c.self.invariant.1 c.args.number c.args.entry at.0 at.1 c.importers_of.result.now (transposed g c) m (omega arith) in
-    subst (λ ws. times_in m c.importers_of.result.now ≤ slice_index ws m) (sym c.as_mut_slice.ensures.value) h
+    subst (λ ws. occurrences_in m c.importers_of.result.now ≤ slice_index ws m) (sym c.as_mut_slice.ensures.value) h
 
 pub decrement_waiting-requires-clause-fits_state : goal.decrement_waiting-requires-clause-fits_state
 decrement_waiting-requires-clause-fits_state g c = λ m lt.
@@ -43,16 +43,16 @@ w_size g c = c.decrement_waiting.auto.waiting ∙ ap length c.as_mut_slice.ensur
 s_size : (g : _) (c : goal.After-self-4-1 g) → length c.decrement_waiting.new.states ≡ length c.self.inside.states.items
 s_size g c = c.decrement_waiting.auto.states ∙ ap length c.as_mut_slice-2.ensures.value ∙ length-set c.self.inside.states.items c.args.number Delivered
 
-counts : (g : _) (c : goal.After-self-4-1 g) (m : ℕ) → m < length c.self.inside.waiting.items → slice_index c.decrement_waiting.new.waiting m + times_in m c.importers_of.result.now ≡ slice_index c.self.inside.waiting.items m
+counts : (g : _) (c : goal.After-self-4-1 g) (m : ℕ) → m < length c.self.inside.waiting.items → slice_index c.decrement_waiting.new.waiting m + occurrences_in m c.importers_of.result.now ≡ slice_index c.self.inside.waiting.items m
 counts g c m lt =
     let l = ap length c.as_mut_slice.ensures.value in
     c.decrement_waiting.ensures.waiting m (omega arith) ∙ ap (λ ws. slice_index ws m) c.as_mut_slice.ensures.value
 
 tells : (g : _) (c : goal.After-self-4-1 g) (m : ℕ) → m < length c.self.inside.waiting.items
-    → state_at c.decrement_waiting.new.states m ≡ freed (state_at (set c.self.inside.states.items c.args.number Delivered) m) (slice_index c.decrement_waiting.new.waiting m)
+    → state_at c.decrement_waiting.new.states m ≡ state_after_delivery (state_at (set c.self.inside.states.items c.args.number Delivered) m) (slice_index c.decrement_waiting.new.waiting m)
 tells g c m lt =
     let l = ap length c.as_mut_slice.ensures.value in
-    c.decrement_waiting.ensures.states m (omega arith) ∙ ap (λ ss. freed (state_at ss m) (slice_index c.decrement_waiting.new.waiting m)) c.as_mut_slice-2.ensures.value
+    c.decrement_waiting.ensures.states m (omega arith) ∙ ap (λ ss. state_after_delivery (state_at ss m) (slice_index c.decrement_waiting.new.waiting m)) c.as_mut_slice-2.ensures.value
 
 at_end : (g : _) (c : goal.After-self-4-1 g) → (c.args.number < length c.self.inside.states.items) × (state_at c.self.inside.states.items c.args.number ≡ Claimed)
 at_end g c =
@@ -61,8 +61,8 @@ at_end g c =
     let none = subst (λ core. has_entry core.entries c.args.number ≡ false) (sym c.self.view_is) c.requires.none in
     claimed_state g.E.WorkEntry.is_of g.T.NamedTree.graph b.waiting.items b.states.items (lists b.reached.items) b.spare.items b.entries.items c.self.invariant.1 b.abandoned c.args.number claimed none
 
-turned_end : (g : _) (c : goal.After-self-4-1 g) (m : ℕ) → times_in m c.importers_of.result.now ≡ times_in c.args.number (list_at g.T.NamedTree.graph.imports m)
-turned_end g c m = c.importers_of.ensures.transposed m ∙ ap (λ (t : Modules). times_in c.args.number (list_at t.imports m)) c.self.invariant.0
+turned_end : (g : _) (c : goal.After-self-4-1 g) (m : ℕ) → occurrences_in m c.importers_of.result.now ≡ occurrences_in c.args.number (list_at g.T.NamedTree.graph.imports m)
+turned_end g c m = c.importers_of.ensures.transposed m ∙ ap (λ (t : Modules). occurrences_in c.args.number (list_at t.imports m)) c.self.invariant.0
 
 new_waiting : (g : _) (c : goal.After-self-4-1 g) → take c.self.inside.waiting.len (c.decrement_waiting.new.waiting ++ drop (length c.decrement_waiting.new.waiting) c.self.inside.waiting.items) ≡ c.decrement_waiting.new.waiting
 new_waiting g c = restored c.self.inside.waiting.len c.decrement_waiting.new.waiting c.self.inside.waiting.items (w_size g c) c.self.inside.waiting.ok.0

@@ -1,5 +1,0 @@
-use Rattle.cut_net.proofs.laws.source_side_by_flow.Goals as goal
-use Rattle.cut_net.proofs.NearSide.{is_near}
-
-pub returns : goal.returns
-returns c = λ net a b flow value modules between a_in is_flow reached ends. is_near net a b flow value between a_in is_flow modules reached ends

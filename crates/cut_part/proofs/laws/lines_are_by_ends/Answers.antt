@@ -1,5 +1,0 @@
-use Rattle.cut_part.proofs.CapacityReduction.{by_lines}
-use Rattle.cut_part.proofs.laws.lines_are_by_ends.Goals as goal
-
-pub returns : goal.returns
-returns c = by_lines

@@ -1,6 +1,0 @@
-use Rattle.std.proofs.Common.{Ok}
-use Rattle.cut_report.proofs.Readings.{reading_once}
-use Rattle.cut_report.proofs.laws.what_is_written_is_read.Goals as goal
-
-pub returns-clause-only : goal.returns-clause-only
-returns-clause-only c = λ net bytes entry o w is_text says. reading_once net bytes o (Ok entry) w says is_text

@@ -1,4 +1,0 @@
-use Rattle.cut_rules.proofs.laws.rules_or_refusal.Goals as goal
-
-pub returns : goal.returns
-returns c = λ net files pieces rules fault elements (line, kind, first, is). elements.sound line kind first.has

@@ -1,7 +1,0 @@
-use Rattle.std.proofs.Common.{◌≡◌, map, take}
-use Rattle.scip_index.specs.Plain.{symbol_model}
-use Rattle.ob_emit.specs.Externals.{externals_in}
-use Rattle.ob_emit.proofs.external_symbols.external_rows.Given as goal
-
-abbrev pub invariant-loop-reference : goal.invariant-loop-reference
-invariant-loop-reference l = map symbol_model l.found.items ≡ externals_in l.types (take l.reference-index l.refs)

@@ -1,0 +1,35 @@
+-- A token that denotes a name of an external module is an identifier. Each iteration adds the next reference.
+use Rattle.std.proofs.Common.{ap, map, ◌∙◌}
+use Rattle.ob_view.specs.declared.target.Reference.{Reference}
+use Rattle.scip_index.specs.Plain.{symbol_model}
+use Rattle.ob_emit.specs.Externals.{external_symbol_info}
+use Rattle.ob_emit.proofs.Rows.{external_named, no_row, row_more, rows_done}
+use Rattle.ob_emit.proofs.external_symbols.external_symbol_infos.Goals as goal
+use Rattle.ob_emit.proofs.external_symbols.external_symbol_infos.Goals.{in-Some+in_ok-push, in_default}
+
+pub external_symbol_info-requires-clause-external : goal.external_symbol_info-requires-clause-external
+external_symbol_info-requires-clause-external c = external_named c.args.view.now c.args.refs.now c.requires.of_names c.loop-reference.reference-index _ c.loop-reference-test.true
+
+pub loop-reference-preserved : goal.loop-reference-preserved
+loop-reference-preserved c =
+    let w = c.args.view.now in
+    let i = c.loop-reference.reference-index in
+    elim c.match-branch-3.branch [
+      | in-Some+in_ok-push w' ↦
+          rw (w'.found-is, w'.in_ok-push.ensures.items)
+          (row_more symbol_model (λ (r : Reference). external_symbol_info w r.target) c.args.refs.now i _ c.loop-reference.found.items c.loop-reference-test.true c.loop-reference.invariant w'.in-Some.row c.in_ok-row.field-0
+          c.in_ok-row.ensures w'.in-Some.is)
+      | in_default w' ↦
+          rw w'.found-is
+          (no_row symbol_model (λ (r : Reference). external_symbol_info w r.target) c.args.refs.now i _ c.loop-reference.found.items c.loop-reference-test.true c.loop-reference.invariant c.in_ok-row.field-0
+          c.in_ok-row.ensures w'.in_default.is)
+    ]
+
+pub loop-reference-init : goal.loop-reference-init
+loop-reference-init c = ap (map symbol_model) c.new-found.ensures.items
+
+pub returns : goal.returns
+returns c = rows_done symbol_model (λ (r : Reference). external_symbol_info c.args.view.now r.target) c.args.refs.now c.loop-reference.reference-index c.loop-reference.found.items c.loop-reference-test.false c.loop-reference.invariant
+
+pub external_symbol_info-requires-clause-prefix : goal.external_symbol_info-requires-clause-prefix
+external_symbol_info-requires-clause-prefix c = c.as_str.ensures.value ∙ c.in_ok-outside.ensures

@@ -1,6 +1,0 @@
-use Rattle.std.proofs.Common.{take}
-use Rattle.ob_emit.proofs.FirstUses.{AreFirst}
-use Rattle.ob_emit.proofs.external_symbols.first_uses.Given as goal
-
-abbrev pub invariant-loop-reference : goal.invariant-loop-reference
-invariant-loop-reference l = AreFirst l.types l.refs l.seen (take l.reference-index l.refs) l.found.items

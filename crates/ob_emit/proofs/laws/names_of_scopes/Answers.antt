@@ -1,5 +1,0 @@
-use Rattle.ob_emit.proofs.NamesGiven.{seen_named}
-use Rattle.ob_emit.proofs.laws.names_of_scopes.Goals as goal
-
-pub returns-clause-there : goal.returns-clause-there
-returns-clause-there c = λ bytes ts rows s scopes. seen_named bytes ts rows scopes.named

@@ -1,8 +1,0 @@
-use Rattle.ob_emit.proofs.SomeTargets.{seen_symbol, some_symbol}
-use Rattle.ob_emit.proofs.laws.some_symbol.Goals as goal
-
-pub returns : goal.returns
-returns c = record {
-  here = λ w m refs p r is order scopes are h e. some_symbol w m is order scopes p refs r are h e;
-  there = λ w v m n refs p r i d is order scopes tree ascending are h e at. seen_symbol w m is order scopes p v n refs r i d tree ascending are h e at;
-}

@@ -1,0 +1,7 @@
+use Rattle.std.proofs.Common.{◌≡◌, take}
+use Rattle.ob_interface.specs.Orders.{owner_entry}
+use Rattle.ob_interface.specs.IndexEntries.{entries_from}
+use Rattle.ob_interface.proofs.entries.record_owner_entries.Given as goal
+
+abbrev pub invariant-loop-i : goal.invariant-loop-i
+invariant-loop-i l = l.entries.items ≡ entries_from (owner_entry l.parts) 0 (take l.i l.rows)

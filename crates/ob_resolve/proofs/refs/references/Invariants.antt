@@ -1,5 +1,0 @@
-use Rattle.ob_resolve.proofs.Referring.{AreGone}
-use Rattle.ob_resolve.proofs.refs.references.Given as goal
-
-abbrev pub invariant-loop-position : goal.invariant-loop-position
-invariant-loop-position l = AreGone l.types l.position l.rows.items

@@ -1,5 +1,0 @@
-use Rattle.ob_scope.proofs.ImportUses.{crossings_once}
-use Rattle.ob_scope.proofs.laws.one_crossings.Goals as goal
-
-pub returns : goal.returns
-returns c = λ name rows imported cs ds. crossings_once name rows imported rows.uses cs ds

@@ -1,8 +1,0 @@
-use Rattle.scopes.proofs.Meanings.{no_first, first_once}
-use Rattle.ob_scope.proofs.laws.one_fault.Goals as goal
-
-pub returns-clause-no_pair : goal.returns-clause-no_pair
-returns-clause-no_pair c = no_first
-
-pub returns-clause-one_pair : goal.returns-clause-one_pair
-returns-clause-one_pair c = first_once

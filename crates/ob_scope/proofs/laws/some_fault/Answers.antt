@@ -1,5 +1,0 @@
-use Rattle.ob_scope.proofs.Twice.{none_or_first}
-use Rattle.ob_scope.proofs.laws.some_fault.Goals as goal
-
-pub returns : goal.returns
-returns c = none_or_first

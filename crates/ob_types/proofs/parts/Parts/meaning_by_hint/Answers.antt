@@ -1,7 +1,0 @@
-use Rattle.ob_types.specs.World.{meaning}
-use Rattle.ob_types.proofs.Firsts.{meant}
-use Rattle.ob_types.proofs.parts.Parts.meaning_by_hint.Goals as goal
-
-pub returns : goal.returns
-unfolding meaning
-returns c = meant _ c.args.used _ c.invariants.ensures.meanings_ascend c.resolve_by_hint.ensures.found c.resolve_by_hint.ensures.none

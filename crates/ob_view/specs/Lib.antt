@@ -1,0 +1,4 @@
+pub mod World
+pub mod ModuleNumbers
+pub mod WorldOfParts
+pub mod TargetKinds

@@ -1,4 +1,0 @@
-use Rattle.oscip_job.proofs.commands.cutting.Goals as goal
-
-pub returns : goal.returns
-returns c = c.with_cut_options.ensures _ (c.with_modules-command.ensures _ (c.with_required_argument-command.ensures _ c.named-command.ensures))

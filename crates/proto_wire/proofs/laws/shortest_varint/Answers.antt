@@ -1,6 +1,0 @@
-use Rattle.proto_wire.proofs.VarintLaws.{varint-shortest}
-use Rattle.proto_wire.proofs.WritingLaws.{varint_is}
-use Rattle.proto_wire.proofs.laws.shortest_varint.Goals as goal
-
-pub returns : goal.returns
-returns c = record { varint = varint_is; shortest = varint-shortest }

@@ -1,6 +1,0 @@
-use Rattle.proto_wire.specs.Packed.{packed}
-use Rattle.proto_wire.proofs.PackedReadings.{packed_read}
-use Rattle.proto_wire.proofs.laws.some_packed_outcome.Goals as goal
-
-pub returns : goal.returns
-returns c = λ at payload. (packed at payload, packed_read at payload)

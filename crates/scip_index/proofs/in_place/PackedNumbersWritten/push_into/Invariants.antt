@@ -1,6 +1,0 @@
-use Rattle.std.proofs.Common.{◌≡◌, ◌++◌, take}
-use Rattle.proto_wire.specs.Writing.{packing}
-use Rattle.scip_index.proofs.in_place.PackedNumbersWritten.push_into.Given as goal
-
-abbrev pub invariant-loop-number : goal.invariant-loop-number
-invariant-loop-number l = l.out.items ≡ l.initial.out.items ++ packing (take l.number-index l.self.numbers.now)

@@ -1,8 +1,0 @@
-use Rattle.std.proofs.Common.{refl}
-use Rattle.scip_index.proofs.MeaningLaws.{occurrence-more}
-use Rattle.proto_wire.specs.Messages.{payload_record}
-use Rattle.scip_index.proofs.message_decoding.OccurrenceMessage.take.Goals as goal
-
-pub returns-clause-means : goal.returns-clause-means
-returns-clause-means c = λ front h.
-    occurrence-more front (payload_record c.args.wire.now c.args.payload.now) _ _ h (rw (c.in_ok-take_numbers.ensures.numbers, c.in_ok-take_text.ensures.text, c.take_number.ensures, c.in_ok-take_numbers-2.ensures.numbers) refl)

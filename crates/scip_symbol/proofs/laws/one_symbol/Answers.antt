@@ -1,5 +1,0 @@
-use Rattle.scip_symbol.proofs.PlainTexts.{symbol_once}
-use Rattle.scip_symbol.proofs.laws.one_symbol.Goals as goal
-
-pub returns : goal.returns
-returns c = symbol_once

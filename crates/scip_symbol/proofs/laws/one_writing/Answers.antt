@@ -1,5 +1,0 @@
-use Rattle.scip_symbol.proofs.OneWriting.{written_once}
-use Rattle.scip_symbol.proofs.laws.one_writing.Goals as goal
-
-pub returns : goal.returns
-returns c = written_once

@@ -1,5 +1,0 @@
-use Rattle.source_tree.proofs.OneTreeNet.{one_net}
-use Rattle.source_tree.proofs.laws.one_network.Goals as goal
-
-pub returns : goal.returns
-returns c = one_net

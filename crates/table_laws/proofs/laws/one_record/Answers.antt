@@ -1,5 +1,0 @@
-use Rattle.table_laws.proofs.OwnedModules.{owns_one}
-use Rattle.table_laws.proofs.laws.one_record.Goals as goal
-
-pub returns : goal.returns
-returns c = owns_one

@@ -1,5 +1,0 @@
-use Rattle.table_rules.proofs.ReadingModules.{tables_same}
-use Rattle.table_rules.proofs.laws.one_table.Goals as goal
-
-pub returns : goal.returns
-returns c = tables_same
