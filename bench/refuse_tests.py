@@ -19,7 +19,7 @@ from concurrent.futures import ThreadPoolExecutor
 
 HERE = os.path.dirname(os.path.realpath(__file__))
 WANTS = re.compile(rb"\b(Memory|AllocError|AllocFailed|Refused|memory ran out)\b")
-MISSED = b"were_passed()"
+MISSED = b"were_all_waits_ended()"
 COMPARED = re.compile(rb'left: (".*")\n right: (".*")')
 LISTED = re.compile(rb"left: \[(\d[\d, ]*)\]\n")
 COUNTED = re.compile(rb"left: (\d+)\n right: (\d+)\n")
